@@ -1,0 +1,14 @@
+//! Random traces that aim: each profile brings the UART to a kind of edge and asks around it.
+mod dates;
+mod every_cycle;
+mod fills;
+mod generator;
+mod numbers;
+mod odd_lines;
+mod profiles;
+mod random;
+mod registers;
+mod steps;
+
+pub use generator::Generator;
+pub use profiles::{PROFILES, Profile, named};
