@@ -1,0 +1,2 @@
+-- Laws of the Deadline, case by case.
+pub mod Laws

@@ -1,0 +1,16 @@
+// Runs the leaves on document 01's figures and on the edges: 0, 1, the limit, one past it, all ones. A line for each.
+mod clocks;
+mod fields;
+mod show;
+mod times;
+mod words;
+
+fn main() {
+    times::marked();
+    times::edges();
+    fields::all_ones();
+    fields::single_bits();
+    clocks::periods();
+    clocks::deadlines();
+    words::places();
+}

@@ -1,0 +1,170 @@
+-- Every call keeps a state within the limits, refused or carried out, from every such state. Assumes nothing.
+use mathlib.Core.Path.{_≡_, refl, subst, _∙_}
+use Prim.Native.Nat.{ℕ, _%_, _≤_, _<_, zero-le}
+use native.Mathlib.Omega.{arith}
+use native.Mathlib.Nat.{zero-lt-suc, max-le, le-max-right, min-le-right, lt-of-le-of-lt}
+use mathlib.Core.Bool.{Bool, true, false, false≢true, _&&_, and-comm}
+use mathlib.Core.Option.{none}
+use mathlib.Core.List.{List, [], _∷_}
+use lib.Dec.{ltb, lit≤}
+use lib.ListN.{length}
+use borrow.Author.Tests.{leb-false, ltb-false, lt-ltb}
+use Rattle.model.specs.State.{Uart, withTx}
+use Rattle.model.specs.Registers.{placeOf}
+use Rattle.model.specs.Tests.{sentLimit, runsLimit, periodLimit, hostFull, runsFull, periodTooLong}
+use Rattle.model.specs.Calls
+use Rattle.model.specs.Calls.{unsettled, afterSettling, undated, lastDate, hostDate, clearedLine, dated, settledAt, quiet, handOver, added, clocked, reclocked, cleared, receiveWork, wakeWork, watchWork, powerDownWork, clockWork, resetWork, takeTxWork, takeWrittenWork}
+use Rattle.model.specs.Limits.{Chain, All, Fits, Within}
+use Rattle.model.specs.Laws.PlaceCases.{write-ind}
+use Rattle.model.specs.Keeps.Parts.{FlightWithin, Parts, putClock, putFlight, putRx, putHost, putLine, through}
+use Rattle.model.specs.Keeps.Kept.{Kept, settle-keeps, fewer-waiting, fewer-runs, last-run}
+use Rattle.model.specs.Keeps.Settling.{levels-parts, settle-parts}
+use Rattle.model.specs.Keeps.Wake.{called-within, arm-parts}
+use Rattle.model.specs.Keeps.Host.{joined-within}
+use Rattle.model.specs.Keeps.Dated.{not-refused, unless-parts, dated-parts, moved-parts, settledAt-parts}
+use Rattle.model.specs.Keeps.Access.{readPlaced-parts, writePlaced-parts, send-parts}
+use Rattle.model.specs.declared.Place.{Place}
+use Rattle.model.specs.declared.Done.{Done}
+
+-- ---- the host
+
+other-half : (a b : Bool) → (a && b) ≡ false → a ≡ true → b ≡ false
+other-half true b e t = e
+other-half false b e t = absurd (false≢true t)
+
+-- what test 6 leaves
+room-before : (new runs last date : ℕ) → runsFull new runs last date ≡ false → 1 ≤ new → last < date → runs < runsLimit
+unfolding runsFull
+room-before new runs last date e h late =
+    leb-false _ _ (other-half (ltb last date) _ (and-comm (ltb last date) _ ∙ other-half (ltb 0 new) _ e (lt-ltb 0 new h)) (lt-ltb last date late))
+
+-- no byte in flight
+empty-flight : {W : Type 0} (tx : List W) → length tx ≤ sentLimit → FlightWithin [] tx
+empty-flight tx le = record { flying = omega arith; order = Chain.empty; fit = All.nil; sent = omega arith }
+
+module _ {H W : Type 0} where
+  -- tests 5 and 6 read the state before settling, which takes only from the front
+  handOver-parts : (date : ℕ) (bs : List H) (u v : Uart H W) → Kept u v → Fits date → hostFull (length (u .host)) (length bs) ≡ false
+      → runsFull (length bs) (length (u .hostRuns)) (lastDate (u .hostRuns)) date ≡ false → Parts v → Parts (handOver date bs v)
+  unfolding handOver hostFull
+  handOver-parts date [] u v k f five six p = p
+  handOver-parts date (b ∷ bs) u v k f five six p =
+      arm-parts _
+      (putHost p (joined-within date (v .hostRuns) (v .host) (b ∷ bs) f (zero-lt-suc _) (omega (arith, fewer-waiting k, ltb-false))
+      (λ some-run late. lt-of-le-of-lt (fewer-runs k) (room-before _ _ _ date six (zero-lt-suc _) (subst (λ d. d < date) (last-run k some-run) late)))
+      (p .host)))
+
+  receive-parts : (now at : ℕ) (bs : List H) (u : Uart H W) → Parts u → Parts (Calls.receive now at bs u .state)
+  unfolding Calls.receive receiveWork afterSettling quiet settledAt dated hostDate
+  receive-parts now at bs u p =
+      dated-parts Done.Refused _ u p now _
+      (λ h e. let five = not-refused _ _ _ e in
+      handOver-parts (hostDate now at) bs (dated now u) _ (settle-keeps now (dated now u)) (min-le-right _ _) (five .0) (not-refused _ _ none (five .1) .0)
+      (settledAt-parts now u h p))
+
+  -- ---- wake, watch, clock, power-down, reset
+
+  wake-parts : (now : ℕ) (u : Uart H W) → Parts u → Parts (Calls.wake now u .state)
+  unfolding Calls.wake wakeWork afterSettling quiet
+  wake-parts now u p =
+      dated-parts Done.Refused _ u p now none
+      (λ h _. arm-parts _ (settledAt-parts now _ h (putClock p
+      (record { low = p .clock .low; high = p .clock .high; last = p .clock .last; wake = called-within now (u .control .wake) (p .clock .wake) }))))
+
+  watch-parts : (now : ℕ) (b : Bool) (u : Uart H W) → Parts u → Parts (Calls.watch now b u .state)
+  unfolding Calls.watch watchWork unsettled dated
+  watch-parts now b u p = dated-parts Done.Refused _ u p now none (λ h _. arm-parts _ (moved-parts now u h p))
+
+  powerDown-parts : (now : ℕ) (u : Uart H W) → Parts u → Parts (Calls.powerDown now u .state)
+  unfolding Calls.powerDown powerDownWork unsettled dated
+  powerDown-parts now u p = dated-parts Done.Refused _ u p now none (λ h _. moved-parts now u h p)
+
+  -- a period of 0 counts as 1, and test 7 keeps it at 1,000,000 or below
+  clocked-parts : (period : ℕ) (u : Uart H W) → period ≤ periodLimit → Parts u → Parts (clocked period u)
+  unfolding clocked
+  clocked-parts period u h p = putClock p (record { low = le-max-right _ _; high = max-le h (lit≤ tt); last = p .clock .last; wake = p .clock .wake })
+
+  clockChange-parts : (now period : ℕ) (u : Uart H W) → Parts u → Parts (Calls.clockChange now period u .state)
+  unfolding Calls.clockChange clockWork afterSettling reclocked added quiet periodTooLong
+  clockChange-parts now period u p =
+      dated-parts Done.Refused _ u p now _
+      (λ h e. arm-parts _ (settle-parts now _ (clocked-parts period _ (ltb-false _ _ (not-refused _ _ none e .0)) (settledAt-parts now u h p))))
+
+  cleared-parts : (u : Uart H W) → Parts u → Parts (cleared u)
+  unfolding cleared clearedLine
+  cleared-parts u p =
+      putLine (putRx (putFlight p (empty-flight (u .tx) (omega (arith, p .flight .sent)))) zero-le) (record { idle = λ _. refl; free = p .line .free; since = tt })
+
+  reset-parts : (now : ℕ) (u : Uart H W) → Parts u → Parts (Calls.reset now u .state)
+  unfolding Calls.reset resetWork afterSettling quiet
+  reset-parts now u p =
+      dated-parts Done.Refused _ u p now none (λ h _. arm-parts _ (levels-parts _ (cleared-parts _ (settledAt-parts now _ h p))))
+
+  -- ---- taking what was sent
+
+  taken-parts : (u : Uart H W) → Parts u → Parts (withTx [] u)
+  taken-parts u p =
+      putFlight p (record { flying = p .flight .flying; order = p .flight .order; fit = p .flight .fit; sent = omega (arith, p .flight .flying) })
+
+  module _ {L : Type 0} where
+    takeTx-parts : (now : ℕ) (lent : List L) (u : Uart H W) → Parts u → Parts (Calls.takeTx now lent u .state)
+    unfolding Calls.takeTx takeTxWork afterSettling quiet
+    takeTx-parts now lent u p = dated-parts _ _ u p now _ (λ h _. taken-parts (settledAt now u .state) (settledAt-parts now u h p))
+
+    takeWritten-parts : (lent : List L) (u : Uart H W) → Parts u → Parts (Calls.takeWritten lent u .state)
+    unfolding Calls.takeWritten takeWrittenWork undated
+    takeWritten-parts lent u p = unless-parts _ _ u p _ (λ _. putFlight p (empty-flight {W = W} [] zero-le))
+
+-- ---- each call, refused or carried out
+
+module _ {H W : Type 0} where
+  pub readPlaced-within : (now : ℕ) (at : Place) (u : Uart H W) → Within u → Within (Calls.readPlaced now at u .state)
+  readPlaced-within now at u = through u _ (readPlaced-parts now at u)
+
+  pub writePlaced-within : (now : ℕ) (at : Place) (v : ℕ) (u : Uart H W) → Within u → Within (Calls.writePlaced now at v u .state)
+  writePlaced-within now at v u = through u _ (writePlaced-parts now at v u)
+
+  pub send-within : (now : ℕ) (b : W) (u : Uart H W) → Within u → Within (Calls.send now b u .state)
+  send-within now b u = through u _ (send-parts now b u)
+
+  pub read-within : (now offset : ℕ) (u : Uart H W) → Within u → Within (Calls.read now offset u .state)
+  unfolding Calls.read
+  read-within now offset u = readPlaced-within now _ u
+
+  pub receive-within : (now at : ℕ) (bs : List H) (u : Uart H W) → Within u → Within (Calls.receive now at bs u .state)
+  receive-within now at bs u = through u _ (receive-parts now at bs u)
+
+  pub hostPending-within : (u : Uart H W) → Within u → Within (Calls.hostPending u .state)
+  unfolding Calls.hostPending undated
+  hostPending-within u w = w
+
+  pub wake-within : (now : ℕ) (u : Uart H W) → Within u → Within (Calls.wake now u .state)
+  wake-within now u = through u _ (wake-parts now u)
+
+  pub watch-within : (now : ℕ) (b : Bool) (u : Uart H W) → Within u → Within (Calls.watch now b u .state)
+  watch-within now b u = through u _ (watch-parts now b u)
+
+  pub powerDown-within : (now : ℕ) (u : Uart H W) → Within u → Within (Calls.powerDown now u .state)
+  powerDown-within now u = through u _ (powerDown-parts now u)
+
+  pub clockChange-within : (now period : ℕ) (u : Uart H W) → Within u → Within (Calls.clockChange now period u .state)
+  clockChange-within now period u = through u _ (clockChange-parts now period u)
+
+  pub reset-within : (now : ℕ) (u : Uart H W) → Within u → Within (Calls.reset now u .state)
+  reset-within now u = through u _ (reset-parts now u)
+
+  pub hasLeft-within : (u : Uart H W) → Within u → Within (Calls.hasLeft u .state)
+  unfolding Calls.hasLeft undated
+  hasLeft-within u w = w
+
+  module _ {L : Type 0} where
+    pub takeTx-within : (now : ℕ) (lent : List L) (u : Uart H W) → Within u → Within (Calls.takeTx now lent u .state)
+    takeTx-within now lent u = through u _ (takeTx-parts now lent u)
+
+    pub takeWritten-within : (lent : List L) (u : Uart H W) → Within u → Within (Calls.takeWritten lent u .state)
+    takeWritten-within lent u = through u _ (takeWritten-parts lent u)
+
+pub write-within : {H : Type 0} (now offset v : ℕ) (u : Uart H ℕ) → Within u → Within (Calls.write now offset v u .state)
+unfolding Calls.write
+write-within now offset v u w =
+    write-ind (λ _ o. Within (o .state)) now v u (send-within now (v % 256) u w) (λ p. writePlaced-within now p v u w) (placeOf (u .map .offsets) offset)

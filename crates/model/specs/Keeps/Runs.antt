@@ -1,0 +1,101 @@
+-- Set-up gives a state within the limits, one call keeps it so, and so does every list of calls. Assumes nothing.
+use mathlib.Core.Path.{_≡_, refl, ap, _∙_}
+use Prim.Native.Nat.{ℕ, zero, suc, _/_, _^_, _<_}
+use native.Mathlib.Omega.{arith}
+use native.Mathlib.Nat.{pow-suc}
+use mathlib.Core.Bool.{false}
+use mathlib.Core.List.{List, [], _∷_, _++_}
+use lib.ListN.{length, getD}
+use lib.Bits.{bitAnd, and-step, and-zero-r}
+use Rattle.model.specs.Numbers.{without}
+use Rattle.model.specs.State.{Uart}
+use Rattle.model.specs.Replies.{ReadOf}
+use Rattle.model.specs.Tests.{repeated}
+use Rattle.model.specs.Calls
+use Rattle.model.specs.Calls.{Outcome}
+use Rattle.model.specs.SetUp.{fifoCounts, mapOf, newControl, new}
+use Rattle.model.specs.Call.{Call, Request, Answer}
+use Rattle.model.specs.Run.{Step, answering, stepBy, writing, step, runBy}
+use Rattle.model.specs.Limits.{Chain, All, sum, Within}
+use Rattle.model.specs.Keeps.Parts.{together}
+use Rattle.model.specs.Keeps.EachCall.{read-within, write-within, receive-within, wake-within, reset-within, powerDown-within, watch-within, clockChange-within, takeTx-within, takeWritten-within, hasLeft-within, hostPending-within}
+use Rattle.model.specs.declared.Write.{Write}
+
+-- ---- set-up
+
+-- what shares no bit with b shares none with a part of b
+and-disjoint : (n a b c : ℕ) → c < 2 ^ n → bitAnd b c ≡ 0 → bitAnd (bitAnd a b) c ≡ 0
+and-disjoint zero a b c h e = ap (bitAnd (bitAnd a b)) (omega arith) ∙ and-zero-r (bitAnd a b)
+and-disjoint (suc n) a b c h e =
+    let half : bitAnd a b / 2 ≡ bitAnd (a / 2) (b / 2) = omega (arith, and-step a b) in
+    let rest : bitAnd (b / 2) (c / 2) ≡ 0 = omega (arith, and-step b c) in
+    let deeper : bitAnd (bitAnd a b / 2) (c / 2) ≡ 0 =
+    ap (λ (x : ℕ). bitAnd x (c / 2)) half ∙ and-disjoint n (a / 2) (b / 2) (c / 2) (omega (arith, pow-suc 2 n)) rest in
+    omega (arith, and-step (bitAnd a b) c, and-step a b, and-step b c)
+
+-- STATUS's masked bits are 0
+counts-cleared : (w : ℕ) → bitAnd (without fifoCounts w) fifoCounts ≡ 0
+counts-cleared w = and-disjoint 32 w _ fifoCounts (omega arith) refl
+
+-- set-up takes sixteen offsets, all different
+pub new-within : {H W : Type 0} (offsets ws : List ℕ) → length offsets ≡ 16 → repeated offsets ≡ false → Within {H = H} {W = W} (new offsets ws)
+unfolding new mapOf newControl sum
+new-within offsets ws sixteen different =
+    together _ (record {
+      map = record { sixteen = sixteen; offsets = different; status = counts-cleared (getD ws 6 0) };
+      clock = record { low = omega arith; high = omega arith; last = omega arith; wake = tt };
+      flight = record { flying = omega arith; order = Chain.empty; fit = All.nil; sent = omega arith };
+      rx = omega arith;
+      host = record { runs = omega arith; counts = All.nil; order = Chain.empty; fit = All.nil; total = refl; host = omega arith };
+      line = record { idle = λ _. refl; free = omega arith; since = tt };
+    })
+
+-- ---- one call
+
+module _ {R X H W : Type 0} (rd : ℕ → R → Uart H W → Outcome (ReadOf H) H W) (wr : ℕ → X → Uart H W → Outcome Write H W)
+    (rd-within : (now : ℕ) (r : R) (u : Uart H W) → Within u → Within (rd now r u .state))
+    (wr-within : (now : ℕ) (x : X) (u : Uart H W) → Within u → Within (wr now x u .state)) where
+  -- a call keeps a state within the limits where its reads and writes do
+  pub stepBy-within : {L : Type 0} (c : Call R X H L) (u : Uart H W) → Within u → Within (stepBy rd wr c u .state)
+  unfolding stepBy answering
+  stepBy-within (Call.read now r) u w = rd-within now r u w
+  stepBy-within (Call.write now x) u w = wr-within now x u w
+  stepBy-within (Call.receive now at bs) u w = receive-within now at bs u w
+  stepBy-within (Call.wake now) u w = wake-within now u w
+  stepBy-within (Call.reset now) u w = reset-within now u w
+  stepBy-within (Call.powerDown now) u w = powerDown-within now u w
+  stepBy-within (Call.watch now b) u w = watch-within now b u w
+  stepBy-within (Call.clockChange now period) u w = clockChange-within now period u w
+  stepBy-within (Call.takeTx now lent) u w = takeTx-within now lent u w
+  stepBy-within (Call.takeWritten lent) u w = takeWritten-within lent u w
+  stepBy-within Call.hasLeft u w = hasLeft-within u w
+  stepBy-within Call.hostPending u w = hostPending-within u w
+
+-- every call keeps a state within the limits
+pub step-within : (c : Request) (u : Uart ℕ ℕ) → Within u → Within (step c u .state)
+unfolding step writing
+step-within c u w = stepBy-within Calls.read writing (λ now offset v k. read-within now offset v k) (λ now x v k. write-within now (x .offset) (x .value) v k) c u w
+
+-- ---- a list of calls
+
+module _ {C H W L : Type 0} (one : C → Uart H W → Step H W L) where
+  -- the state that a list of calls leaves
+  unfoldable pub stateAfter : List C → Uart H W → Uart H W
+  stateAfter [] u = u
+  stateAfter (c ∷ cs) u = stateAfter cs (one c u .state)
+
+  -- it is the state in which the calls after them are answered
+  pub runBy-append : (cs ds : List C) (u : Uart H W) → runBy one (cs ++ ds) u ≡ runBy one cs u ++ runBy one ds (stateAfter cs u)
+  unfolding runBy stateAfter
+  runBy-append [] ds u = refl
+  runBy-append (c ∷ cs) ds u = ap {B = List (Answer H W L)} (λ as-before. one c u .answer ∷ as-before) (runBy-append cs ds (one c u .state))
+
+-- every state along a list of calls is within the limits
+pub calls-within : (cs : List Request) (u : Uart ℕ ℕ) → Within u → Within (stateAfter step cs u)
+unfolding stateAfter
+calls-within [] u w = w
+calls-within (c ∷ cs) u w = calls-within cs (step c u .state) (step-within c u w)
+
+-- from set-up on
+pub reached-within : (offsets ws : List ℕ) (cs : List Request) → length offsets ≡ 16 → repeated offsets ≡ false → Within (stateAfter step cs (new offsets ws))
+reached-within offsets ws cs sixteen different = calls-within cs (new offsets ws) (new-within offsets ws sixteen different)

@@ -1,0 +1,6 @@
+-- Laws that several proofs share.
+pub mod Choose
+pub mod Lists
+pub mod Bits
+pub mod Cases
+pub mod PlaceCases

@@ -1,0 +1,24 @@
+-- What a UART is, from the plain to the composed, and then what is proved of it.
+pub mod Numbers
+pub mod State
+pub mod Timing
+pub mod Line
+pub mod Settle
+pub mod Arm
+pub mod Replies
+pub mod Registers
+pub mod Tests
+pub mod Calls
+pub mod SetUp
+pub mod Call
+pub mod Run
+pub mod Limits
+pub mod Manual
+pub mod Marks
+pub mod Laws
+pub mod Keeps
+pub mod Ends
+pub mod Refuses
+pub mod TwoRuns
+pub mod MeetsManual
+pub mod ShutsOut

@@ -1,0 +1,6 @@
+-- The definition meets what the manual lays down, seen through `step`.
+pub mod Rises
+pub mod FiveBits
+pub mod Answers
+pub mod Timing
+pub mod Registers

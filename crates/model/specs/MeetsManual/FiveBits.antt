@@ -1,0 +1,182 @@
+-- When each of the five bits of INT_RAW rises in a settling, as Manual.antt has it, in both directions; and no other bit changes.
+-- Assumes nothing.
+use mathlib.Core.Path.{_≡_, refl, sym, ap, ap₂, _∙_}
+use Prim.Native.Nat.{ℕ, zero, suc, _+_, _-_, _*_}
+use native.Mathlib.Nat.{zero-add}
+use native.Mathlib.Omega.{arith}
+use mathlib.Core.Bool.{Bool, true, false, _&&_, _||_, not, or-false, or-assoc, and-true, and-false, and-or-distrib-left, true≢false}
+use mathlib.Core.List.{[], _∷_}
+use lib.Dec.{ltb, eqb}
+use lib.ListN.{length}
+use borrow.Author.Tests.{lt-ltb}
+use Rattle.model.specs.Manual
+use Rattle.model.specs.State.{Uart}
+use Rattle.model.specs.Timing.{settings}
+use Rattle.model.specs.Settle.{Settled, depart, pass, goesOn, lost, counted, passesFrom, passes, pending, begin, aboveFull, belowEmpty, inFifo, emptyThreshold, leveled, settingsOf, settleTo}
+use Rattle.model.specs.Tests.{among}
+use Rattle.model.specs.Keeps.Rest.{settleTo-words}
+use Rattle.model.specs.MeetsManual.Rises.{rawBit, raisedBy, somePass, doneIn, passedIn, fullIn, emptyIn, settleTo-raises}
+use Rattle.model.specs.declared.Words.{Words}
+use Rattle.model.specs.declared.Settings.{Settings}
+use Rattle.model.specs.declared.Fate.the-variants.{Stored, Overflowed, Cleared, ClockOff, Unheard}
+use Rattle.model.specs.declared.Found.{Found}
+use Rattle.model.specs.declared.Found.the-variants.{NothingDue, TimedOut, Landed}
+
+-- ---- some pass of a settling
+
+module _ {H W : Type 0} (q : ℕ → Found → Bool) (s : Settings) (date : ℕ) where
+  same-passes : (r : ℕ → Found → Bool) → ((held : ℕ) (f : Found) → q held f ≡ r held f) → (k : ℕ) (go : Bool) (u : Uart H W)
+      → somePass q s date k go u ≡ somePass r s date k go u
+  unfolding somePass
+  same-passes r h zero false u = refl
+  same-passes r h zero true u = refl
+  same-passes r h (suc k) false u = refl
+  same-passes r h (suc k) true u = ap₂ _||_ (h (length (u .rx)) (pass s date u .found)) (same-passes r h k _ _)
+
+  on-some-pass : (b : Bool) (k : ℕ) (go : Bool) (u : Uart H W) → somePass (λ held f. b && q held f) s date k go u ≡ (b && somePass q s date k go u)
+  unfolding somePass
+  on-some-pass b zero false u = sym (and-false b)
+  on-some-pass b zero true u = sym (and-false b)
+  on-some-pass b (suc k) false u = sym (and-false b)
+  on-some-pass b (suc k) true u =
+      let p = pass s date u in
+      ap (λ (t : Bool). (b && q (length (u .rx)) (p .found)) || t) (on-some-pass b k (goesOn (p .found)) (p .state))
+      ∙ sym (and-or-distrib-left b (q (length (u .rx)) (p .found)) (somePass q s date k (goesOn (p .found)) (p .state)))
+
+  pub no-pass : ((held : ℕ) (f : Found) → q held f ≡ false) → (k : ℕ) (go : Bool) (u : Uart H W) → somePass q s date k go u ≡ false
+  no-pass h k go u = same-passes (λ held f. false) h k go u ∙ on-some-pass false k go u
+
+not-raised : (s : Settings) (n held : ℕ) (f : Found) → eqb n 4 ≡ false → eqb n 8 ≡ false → raisedBy s n held f ≡ false
+unfolding raisedBy
+not-raised s n held NothingDue a b = refl
+not-raised s n held TimedOut a b = ap (λ (t : Bool). t && (s .«rx_tout_en» && s .«rx_sclk_en» && ltb 0 held)) b
+not-raised s n held (Landed Stored) a b = refl
+not-raised s n held (Landed Overflowed) a b = ap (λ (t : Bool). t && not (s .«dis_rx_dat_ovf»)) a
+not-raised s n held (Landed Cleared) a b = refl
+not-raised s n held (Landed ClockOff) a b = refl
+not-raised s n held (Landed Unheard) a b = refl
+
+-- ---- RXFIFO_OVF: by the count of overflows
+
+ltb-sum : (a b : ℕ) → ltb 0 (a + b) ≡ (ltb 0 a || ltb 0 b)
+ltb-sum zero b = ap (ltb 0) (zero-add b)
+ltb-sum (suc a) b = lt-ltb 0 (suc a + b) (omega arith) ∙ ap (λ (t : Bool). t || ltb 0 b) (sym (lt-ltb 0 (suc a) (omega arith)))
+
+-- a pass overflowed
+lossy : ℕ → Found → Bool
+lossy held f = ltb 0 (lost f)
+
+losses : {H W : Type 0} (s : Settings) (date k : ℕ) (go : Bool) (t : Settled H W)
+    → ltb 0 (passesFrom s date k go t .overflows) ≡ (ltb 0 (t .overflows) || somePass lossy s date k go (t .state))
+unfolding passesFrom counted somePass lossy
+losses s date zero false t = sym (or-false _)
+losses s date zero true t = sym (or-false _)
+losses s date (suc k) false t = sym (or-false _)
+losses s date (suc k) true t =
+    let p = pass s date (t .state) in
+    losses s date k (goesOn (p .found)) (counted t p)
+    ∙ ap (λ (b : Bool). b || somePass lossy s date k (goesOn (p .found)) (p .state)) (ltb-sum (t .overflows) (lost (p .found)))
+    ∙ or-assoc (ltb 0 (t .overflows)) (ltb 0 (lost (p .found))) (somePass lossy s date k (goesOn (p .found)) (p .state))
+
+overflow-raises : (s : Settings) (held : ℕ) (f : Found) → raisedBy s 4 held f ≡ (not (s .«dis_rx_dat_ovf») && lossy held f)
+unfolding raisedBy lossy lost
+overflow-raises s held NothingDue = sym (and-false (not (s .«dis_rx_dat_ovf»)))
+overflow-raises s held TimedOut = sym (and-false (not (s .«dis_rx_dat_ovf»)))
+overflow-raises s held (Landed Stored) = sym (and-false (not (s .«dis_rx_dat_ovf»)))
+overflow-raises s held (Landed Overflowed) = sym (and-true (not (s .«dis_rx_dat_ovf»)))
+overflow-raises s held (Landed Cleared) = sym (and-false (not (s .«dis_rx_dat_ovf»)))
+overflow-raises s held (Landed ClockOff) = sym (and-false (not (s .«dis_rx_dat_ovf»)))
+overflow-raises s held (Landed Unheard) = sym (and-false (not (s .«dis_rx_dat_ovf»)))
+
+-- ---- the five bits, and all others
+
+neither : (a b : Bool) → (a || b) ≡ false → (a ≡ false) × (b ≡ false)
+neither true b h = absurd (true≢false h)
+neither false b h = (refl, h)
+
+off : {a : Bool} (b : Bool) → a ≡ false → (a && b) ≡ false
+off b e = ap (λ (t : Bool). t && b) e
+
+unfoldable pub isTimeout : Found → Bool
+isTimeout NothingDue = false
+isTimeout TimedOut = true
+isTimeout (Landed f) = false
+
+timeout-raises : (w : Words) (period held : ℕ) (f : Found)
+    → raisedBy (settings w period) 8 held f ≡ Manual.RXFIFO-TOUT (w .conf1) (w .«clk_conf») (isTimeout f) held
+unfolding raisedBy isTimeout Manual.RXFIFO-TOUT settings
+timeout-raises w period held NothingDue = refl
+timeout-raises w period held TimedOut = refl
+timeout-raises w period held (Landed Stored) = refl
+timeout-raises w period held (Landed Overflowed) = refl
+timeout-raises w period held (Landed Cleared) = refl
+timeout-raises w period held (Landed ClockOff) = refl
+timeout-raises w period held (Landed Unheard) = refl
+
+module _ {H W : Type 0} (date : ℕ) (u : Uart H W) where
+  -- some pass of the settling was a timeout that came with its bit enabled, the clock on and a byte held
+  unfoldable pub timeoutCame : Bool
+  timeoutCame =
+      somePass (λ held f. Manual.RXFIFO-TOUT (u .control .words .conf1) (u .control .words .«clk_conf») (isTimeout f) held)
+      (settingsOf u) date (2 * pending (depart date u) + 2) true (depart date u)
+
+  -- u before the settling, v after it: a bit is set exactly when it was, or when what raises it came about
+  pub record FiveBits (v : Uart H W) (overflows : ℕ) : Type 0 where
+    pub full : rawBit 0 v ≡ (rawBit 0 u || Manual.RXFIFO-FULL (u .control .words .conf1) (length (v .rx)))
+    pub empty : rawBit 1 v ≡ (rawBit 1 u || Manual.TXFIFO-EMPTY (u .control .words .conf1) (length (v .inFlight) - 1))
+    pub ovf : rawBit 4 v ≡ (rawBit 4 u || Manual.RXFIFO-OVF (u .control .words .conf1) overflows)
+    pub tout : rawBit 8 v ≡ (rawBit 8 u || timeoutCame)
+    pub done : rawBit 14 v ≡ (rawBit 14 u || Manual.TX-DONE (length (u .inFlight)) (length (v .inFlight)))
+    pub others : (n : ℕ) → among n (0 ∷ 1 ∷ 4 ∷ 8 ∷ 14 ∷ []) ≡ false → rawBit n v ≡ rawBit n u
+
+  abbrev after : Uart H W
+  after = settleTo date u .state
+
+  no-pass-raises : (n : ℕ) → eqb n 4 ≡ false → eqb n 8 ≡ false → passedIn n date u ≡ false
+  no-pass-raises n a b = no-pass (raisedBy (settingsOf u) n) (settingsOf u) date (λ held f. not-raised (settingsOf u) n held f a b) _ true _
+
+  overflows-raise : passedIn 4 date u ≡ Manual.RXFIFO-OVF (u .control .words .conf1) (settleTo date u .overflows)
+  unfolding Manual.RXFIFO-OVF settleTo leveled passes settingsOf settings begin
+  overflows-raise =
+      let s : Settings = settingsOf u in
+      let k : ℕ = 2 * pending (depart date u) + 2 in
+      same-passes (raisedBy s 4) s date (λ held f. not (s .«dis_rx_dat_ovf») && lossy held f) (overflow-raises s) k true (depart date u)
+      ∙ on-some-pass lossy s date (not (s .«dis_rx_dat_ovf»)) k true (depart date u)
+      ∙ ap (λ (b : Bool). not (s .«dis_rx_dat_ovf») && b) (sym (losses s date k true (begin (depart date u))))
+
+  timeouts-raise : passedIn 8 date u ≡ timeoutCame
+  unfolding timeoutCame settingsOf
+  timeouts-raise = same-passes (raisedBy (settingsOf u) 8) (settingsOf u) date _ (timeout-raises (u .control .words) (u .control .period)) _ true _
+
+  -- the only part that bears on the bit
+  only : (n : ℕ) {d p f e : Bool} → doneIn n u after ≡ d → passedIn n date u ≡ p → fullIn n after ≡ f → emptyIn n after ≡ e
+      → rawBit n after ≡ (rawBit n u || d || p || f || e)
+  only n {d} {p} {f} {e} a b c g = settleTo-raises n date u ∙ (λ i. rawBit n u || a i || b i || c i || g i)
+
+  words-same : {A : Type 0} (g : Words → A) → g (after .control .words) ≡ g (u .control .words)
+  words-same g = ap g (settleTo-words date u)
+
+  other-bits : (n : ℕ) → among n (0 ∷ 1 ∷ 4 ∷ 8 ∷ 14 ∷ []) ≡ false → rawBit n after ≡ rawBit n u
+  unfolding among
+  other-bits n h =
+      let (a, h₁) = neither (eqb n 0) _ h in
+      let (b, h₂) = neither (eqb n 1) _ h₁ in
+      let (c, h₃) = neither (eqb n 4) _ h₂ in
+      let (d, h₄) = neither (eqb n 8) _ h₃ in
+      let (e, _) = neither (eqb n 14) _ h₄ in
+      let done : doneIn n u after ≡ false = off _ e in
+      let full : fullIn n after ≡ false = off _ a in
+      let empty : emptyIn n after ≡ false = off _ b in
+      only n done (no-pass-raises n c d) full empty ∙ simp or-false
+
+  -- a settling raises each of the five bits exactly when the manual says
+  pub settling-rises : FiveBits after (settleTo date u .overflows)
+  unfolding Manual.RXFIFO-FULL Manual.TXFIFO-EMPTY Manual.TX-DONE aboveFull belowEmpty inFifo emptyThreshold among
+  settling-rises = record {
+    full = only 0 refl (no-pass-raises 0 refl refl) (words-same (λ (w : Words). aboveFull (w .conf1) (length (after .rx)))) refl ∙ simp or-false;
+    empty = only 1 refl (no-pass-raises 1 refl refl) refl (words-same (λ (w : Words). belowEmpty (w .conf1) (length (after .inFlight)))) ∙ simp or-false;
+    ovf = only 4 refl overflows-raise refl refl ∙ simp or-false;
+    tout = only 8 refl timeouts-raise refl refl ∙ simp or-false;
+    done = only 14 refl (no-pass-raises 14 refl refl) refl refl ∙ simp or-false;
+    others = other-bits;
+  }

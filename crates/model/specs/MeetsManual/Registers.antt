@@ -1,0 +1,131 @@
+-- `step` gives STATUS, INT_ST, INT_CLR and the five bits of INT_RAW as Manual.antt lays them down. Where a limit of the settled
+-- state is needed it is a hypothesis. Assumes nothing.
+use mathlib.Core.Path.{_≡_, sym, ap, ap₂, _∙_}
+use Prim.Native.Nat.{ℕ, _-_, _*_, _/_, _%_, _^_, _<_, _≤_}
+use native.Mathlib.Nat.{div-one}
+use native.Mathlib.Omega.{arith}
+use mathlib.Core.Bool.{Bool, _&&_, _||_}
+use lib.Dec.{eqb}
+use lib.ListN.{length}
+use lib.Bits.{bitAnd, bitOr, and-mod, and-shr, and-mask, or-mod, or-shr, or-zero-r}
+use Rattle.model.specs.Numbers.{bit}
+use Rattle.model.specs.Manual
+use Rattle.model.specs.Manual.{RXFIFO-CNT, TXFIFO-CNT}
+use Rattle.model.specs.State.{Uart, lineOf}
+use Rattle.model.specs.Settle.{inFifo, aboveFull, belowEmpty, emptyThreshold, intStatus, settle, settlingDate}
+use Rattle.model.specs.Arm.{arm}
+use Rattle.model.specs.Replies.{word}
+use Rattle.model.specs.Registers.{placeOf, loaded, looks, statusWord, gives, readPlace, readLooking, readAt, clearing, writePlace, concluded}
+use Rattle.model.specs.SetUp.{fifoCounts}
+use Rattle.model.specs.Calls.{afterSettling, dated, settledAt, readWork, writeWork}
+use Rattle.model.specs.Call.{Call, Written, reads}
+use Rattle.model.specs.Run.{Step, answering, step}
+use Rattle.model.specs.Limits.{Within}
+use Rattle.model.specs.Laws.Bits.{bit-and, bit-without}
+use Rattle.model.specs.MeetsManual.Rises.{rawBit, fullIn, emptyIn, levels-raise}
+use Rattle.model.specs.MeetsManual.FiveBits.{FiveBits, settling-rises}
+use Rattle.model.specs.MeetsManual.Answers.{settled, InTime, read-answer, clear-answer}
+use Rattle.model.specs.declared.Place.the-variants.{IntRaw, IntSt, IntEna, IntClr, Status}
+
+-- ---- STATUS
+
+-- ten bits of a word with the counts' bits clear are 0
+low-clear : (idle : ℕ) → bitAnd idle fifoCounts ≡ 0 → idle % 2 ^ 10 ≡ 0
+low-clear idle h =
+    let mask : bitAnd (idle % 2 ^ 10) 1023 ≡ idle % 2 ^ 10 % 2 ^ 10 = and-mask (idle % 2 ^ 10) 10 in
+    let zero-mod : bitAnd (idle % 2 ^ 10) 1023 ≡ 0 = sym (and-mod idle fifoCounts 10) ∙ ap (λ (x : ℕ). x % 2 ^ 10) h in
+    omega arith
+
+high-clear : (idle : ℕ) → bitAnd idle fifoCounts ≡ 0 → idle / 2 ^ 16 % 2 ^ 10 ≡ 0
+high-clear idle h =
+    let mask : bitAnd (idle / 2 ^ 16 % 2 ^ 10) 1023 ≡ idle / 2 ^ 16 % 2 ^ 10 % 2 ^ 10 = and-mask (idle / 2 ^ 16 % 2 ^ 10) 10 in
+    let zero-mod : bitAnd (idle / 2 ^ 16 % 2 ^ 10) 1023 ≡ 0 =
+    sym (and-mod (idle / 2 ^ 16) (fifoCounts / 2 ^ 16) 10) ∙ ap (λ (x : ℕ). x % 2 ^ 10) (sym (and-shr idle fifoCounts 16)) ∙ ap (λ (x : ℕ). x / 2 ^ 16 % 2 ^ 10) h in
+    omega arith
+
+-- the low digits of an or of three, from theirs
+or-low : (a b c k : ℕ) {x y z : ℕ} → a % 2 ^ k ≡ x → b % 2 ^ k ≡ y → c % 2 ^ k ≡ z → bitOr (bitOr a b) c % 2 ^ k ≡ bitOr (bitOr x y) z
+or-low a b c k p q r = or-mod (bitOr a b) c k ∙ ap₂ bitOr (or-mod a b k ∙ ap₂ bitOr p q) r
+
+or-high : (a b c k : ℕ) → bitOr (bitOr a b) c / 2 ^ k ≡ bitOr (bitOr (a / 2 ^ k) (b / 2 ^ k)) (c / 2 ^ k)
+or-high a b c k = or-shr (bitOr a b) c k ∙ ap (λ (x : ℕ). bitOr x (c / 2 ^ k)) (or-shr a b k)
+
+low-count : (idle flying held : ℕ) → bitAnd idle fifoCounts ≡ 0 → held ≤ 128 → RXFIFO-CNT (statusWord idle flying held) ≡ held
+unfolding statusWord
+low-count idle flying held h l =
+    ap (λ (x : ℕ). x % 2 ^ 10) (div-one (statusWord idle flying held))
+    ∙ or-low idle (inFifo flying * 2 ^ 16) held 10 {x = 0} {y = 0} {z = held} (low-clear idle h) (omega arith) (omega arith)
+
+high-count : (idle flying held : ℕ) → bitAnd idle fifoCounts ≡ 0 → held ≤ 128 → flying ≤ 129 → TXFIFO-CNT (statusWord idle flying held) ≡ flying - 1
+unfolding statusWord inFifo
+high-count idle flying held h l m =
+    ap (λ (x : ℕ). x % 2 ^ 10) (or-high idle ((flying - 1) * 2 ^ 16) held 16)
+    ∙ or-low (idle / 2 ^ 16) ((flying - 1) * 2 ^ 16 / 2 ^ 16) (held / 2 ^ 16) 10 {x = 0} {y = flying - 1} {z = 0} (high-clear idle h) (omega arith) (omega arith)
+    ∙ or-zero-r (flying - 1)
+
+module _ (now : ℕ) (u : Uart ℕ ℕ) (t : InTime now u) where
+  -- STATUS bits 0-9 are the bytes held, and bits 16-25 those in the transmit FIFO: all in flight but the one that is being sent
+  pub status-read : (offset : ℕ) → placeOf (u .map .offsets) offset ≡ Status → Within (settled now u)
+      → (w : ℕ) × (step (Call.read now offset) u .answer .reply ≡ reads (word w))
+      × (RXFIFO-CNT w ≡ length (settled now u .rx)) × (TXFIFO-CNT w ≡ length (settled now u .inFlight) - 1)
+  unfolding answering readWork afterSettling readAt looks readLooking readPlace gives
+  status-read offset e limits =
+      let v : Uart ℕ ℕ = settled now u in (
+        statusWord (v .map .«idle_status») (length (v .inFlight)) (length (v .rx)),
+        ap (λ (s : Step ℕ ℕ ℕ). s .answer .reply) (read-answer t offset Status e),
+        low-count _ _ (length (v .rx)) (limits .status) (limits .received),
+        high-count _ (length (v .inFlight)) (length (v .rx)) (limits .status) (limits .received) (limits .flying),
+      )
+
+  -- ---- INT_RAW, INT_ENA, INT_ST
+
+  pub raw-read : (offset : ℕ) → placeOf (u .map .offsets) offset ≡ IntRaw → step (Call.read now offset) u .answer .reply ≡ reads (word (lineOf (settled now u) .«int_raw»))
+  unfolding answering readWork afterSettling readAt looks readLooking readPlace gives
+  raw-read offset e = ap (λ (s : Step ℕ ℕ ℕ). s .answer .reply) (read-answer t offset IntRaw e)
+
+  pub ena-read : (offset : ℕ) → placeOf (u .map .offsets) offset ≡ IntEna → step (Call.read now offset) u .answer .reply ≡ reads (word (settled now u .control .words .«int_ena»))
+  unfolding answering readWork afterSettling readAt looks readLooking readPlace gives loaded
+  ena-read offset e = ap (λ (s : Step ℕ ℕ ℕ). s .answer .reply) (read-answer t offset IntEna e)
+
+  -- INT_ST reads, bit by bit, as what INT_RAW and INT_ENA would have read
+  pub status-of-interrupts : (st raw ena : ℕ) → placeOf (u .map .offsets) st ≡ IntSt → placeOf (u .map .offsets) raw ≡ IntRaw → placeOf (u .map .offsets) ena ≡ IntEna
+      → (w r e : ℕ) × (step (Call.read now st) u .answer .reply ≡ reads (word w)) × (step (Call.read now raw) u .answer .reply ≡ reads (word r))
+      × (step (Call.read now ena) u .answer .reply ≡ reads (word e)) × ((n : ℕ) → bit n w ≡ Manual.masked (bit n r) (bit n e))
+  unfolding answering readWork afterSettling readAt looks readLooking readPlace gives intStatus
+  status-of-interrupts st raw ena a b c =
+      let v : Uart ℕ ℕ = settled now u in (
+        intStatus (v .control),
+        lineOf v .«int_raw»,
+        v .control .words .«int_ena»,
+        ap (λ (s : Step ℕ ℕ ℕ). s .answer .reply) (read-answer t st IntSt a),
+        raw-read raw b,
+        ena-read ena c,
+        λ n. bit-and n (lineOf v .«int_raw») (v .control .words .«int_ena»),
+      )
+
+  -- ---- INT_CLR
+
+  -- a write clears exactly its bits, apart from the two levels where they hold
+  pub clear-write : (x : Written) → placeOf (u .map .offsets) (x .offset) ≡ IntClr → x .value < 2 ^ 32 → (n : ℕ) → n < 32
+      → let v : Uart ℕ ℕ = settled now u in
+      rawBit n (step (Call.write now x) u .state)
+      ≡ (Manual.cleared (rawBit n v) (bit n (x .value))
+      || (eqb n 0 && Manual.RXFIFO-FULL (v .control .words .conf1) (length (v .rx)))
+      || (eqb n 1 && Manual.TXFIFO-EMPTY (v .control .words .conf1) (length (v .inFlight) - 1)))
+  unfolding answering writeWork afterSettling writePlace clearing concluded arm Manual.RXFIFO-FULL Manual.TXFIFO-EMPTY aboveFull belowEmpty inFifo emptyThreshold
+  clear-write x e small n h =
+      let v : Uart ℕ ℕ = settled now u in
+      let c : Uart ℕ ℕ = clearing (x .value) v .state in
+      ap (λ (s : Step ℕ ℕ ℕ). rawBit n (s .state)) (clear-answer t x e)
+      ∙ levels-raise n c
+      ∙ ap (λ (b : Bool). b || fullIn n c || emptyIn n c) (bit-without n (x .value) (lineOf v .«int_raw») h small)
+
+  -- ---- the five bits
+
+  -- INT_RAW reads as the settling leaves it, which raises each bit exactly when the manual says. `dated now u` is u with its
+  -- last date moved
+  pub raw-read-rises : (offset : ℕ) → placeOf (u .map .offsets) offset ≡ IntRaw
+      → (step (Call.read now offset) u .answer .reply ≡ reads (word (lineOf (settled now u) .«int_raw»)))
+      × FiveBits (settlingDate now (u .control)) (dated now u) (settled now u) (settledAt now u .overflows)
+  unfolding settledAt settle settlingDate dated
+  raw-read-rises offset e = (raw-read offset e, settling-rises _ (dated now u))

@@ -1,0 +1,208 @@
+-- A call that is carried out answers number 0 and at most 8 notices besides overflows. Assumes nothing.
+use mathlib.Core.Path.{_≡_, refl, _∙_}
+use Prim.Native.Nat.{ℕ, zero, suc, _%_, _≤_}
+use native.Mathlib.Nat.{le-trans}
+use native.Mathlib.Omega.{arith}
+use mathlib.Core.Bool.{Bool, true, false}
+use mathlib.Core.List.{List, [], _∷_}
+use lib.Dec.{lit≤}
+use lib.ListN.{length, length-append, length-map, length-replicate}
+use Rattle.model.specs.State.{Uart}
+use Rattle.model.specs.Settle.{Settled}
+use Rattle.model.specs.Replies.{notices, noReport, report, ReadOf, readNumber, writeNumber, doneNumber, takenNumber}
+use Rattle.model.specs.Registers.{loaded, noteIf, sourceNotes, Access, pop, gives, readPlace, readLooking, readAt, conf0Notes, storedNotes, sent, dropped, sendByte}
+use Rattle.model.specs.Registers.{storing, clearing, writePlace, concluded}
+use Rattle.model.specs.Calls.{Outcome, unsettled, afterSettling, undated, filled, quiet, readWork, writeWork, sendWork, receiveWork, wakeWork, watchWork, powerDownWork}
+use Rattle.model.specs.Calls.{clockWork, resetWork, takeTxWork, takeWrittenWork, hasLeft, hostPending}
+use Rattle.model.specs.Call.{Call, Request, Reply, reads, writes, does, takes, left, pends, Answer}
+use Rattle.model.specs.Run.{numberOf, answering}
+use Rattle.model.specs.Laws.Choose.{choose-ind}
+use Rattle.model.specs.Refuses.Conditions.{writtenAt, carriedOut}
+use Rattle.model.specs.declared.Source.{Source}
+use Rattle.model.specs.declared.Place.{Place}
+use Rattle.model.specs.declared.Place.the-variants.{Fifo, IntRaw, IntSt, IntEna, IntClr, Clkdiv, Status, FsmStatus, Conf0, Conf1, ClkConf, IdleConf, Rs485Conf, AtCmdChar, MemConf, MemRxStatus, Unknown}
+use Rattle.model.specs.declared.Unsupported.{Unsupported}
+use Rattle.model.specs.declared.Report.{Report}
+use Rattle.model.specs.declared.Write.{Write}
+
+-- ---- notices
+
+-- at most 8 notices, in 8 places
+pub record Few (r : Report) : Type 0 where
+  pub noted : r .noted ≤ 8
+  pub places : length (r .notices) ≡ 8
+
+pub no-report-few : Few noReport
+unfolding noReport
+no-report-few = record { noted = omega arith; places = refl }
+
+report-few : {H W : Type 0} (passes overflows : ℕ) (ns : List Unsupported) (u : Uart H W) → length ns ≤ 8 → Few (report passes overflows ns u)
+unfolding report notices
+report-few passes overflows ns u le = record { noted = le; places = simp (length-append, length-map, length-replicate) (omega arith) }
+
+note-le : {k : ℕ} (b : Bool) (n : Unsupported) (ns : List Unsupported) → length ns ≤ k → length (noteIf b n ns) ≤ suc k
+unfolding noteIf
+note-le true n ns le = omega arith
+note-le false n ns le = omega arith
+
+source-le : (notice : ℕ → Unsupported) (s : Source) → length (sourceNotes notice s) ≤ 1
+unfolding sourceNotes
+source-le notice Source.None = omega arith
+source-le notice Source.Sel0 = omega arith
+source-le notice Source.Sel2 = omega arith
+
+conf0-le : (v : ℕ) → length (conf0Notes v) ≤ 8
+unfolding conf0Notes
+conf0-le v = note-le _ _ _ (note-le _ _ _ (note-le _ _ _ (note-le _ _ _ (note-le _ _ _ (note-le _ _ _ (note-le _ _ _ (note-le _ _ _ (omega arith))))))))
+
+one-note : (b : Bool) (n : Unsupported) → length (noteIf b n []) ≤ 8
+one-note b n = omega (arith, note-le {k = 0} b n [] (omega arith))
+
+stored-le : (p : Place) (v : ℕ) → length (storedNotes p v) ≤ 8
+unfolding storedNotes
+stored-le Fifo v = omega arith
+stored-le IntRaw v = omega arith
+stored-le IntSt v = omega arith
+stored-le IntEna v = omega arith
+stored-le IntClr v = omega arith
+stored-le Clkdiv v = omega arith
+stored-le Status v = omega arith
+stored-le FsmStatus v = omega arith
+stored-le Conf0 v = conf0-le v
+stored-le Conf1 v = one-note _ _
+stored-le ClkConf v = omega arith
+stored-le IdleConf v = omega arith
+stored-le Rs485Conf v = one-note _ _
+stored-le AtCmdChar v = omega arith
+stored-le MemConf v = one-note _ _
+stored-le MemRxStatus v = omega arith
+stored-le Unknown v = omega arith
+
+-- ---- accesses
+
+-- an access that is not refused, with few notices
+record Proper {R H W : Type 0} (number : R → ℕ) (a : Access R H W) : Type 0 where
+  zero : number (a .reply) ≡ 0
+  few : length (a .notes) ≤ 8
+
+module _ {H W : Type 0} where
+  pop-proper : (ns : List Unsupported) (bs : List H) (u : Uart H W) → length ns ≤ 1 → Proper readNumber (pop ns bs u)
+  unfolding pop readNumber
+  pop-proper ns [] u le = record { zero = refl; few = simp length-append (omega arith) }
+  pop-proper ns (b ∷ bs) u le = record { zero = refl; few = omega arith }
+
+  gives-proper : (ns : List Unsupported) (u : Uart H W) (r : ReadOf H) → length ns ≤ 1 → readNumber r ≡ 0 → Proper readNumber (gives ns u r)
+  unfolding gives
+  gives-proper ns u r le e = record { zero = e; few = omega arith }
+
+  read-proper : (ns : List Unsupported) (p : Place) (u : Uart H W) → length ns ≤ 1 → Proper readNumber (readPlace ns p u)
+  unfolding readPlace readNumber loaded
+  read-proper ns Fifo u le = pop-proper ns (u .rx) u le
+  read-proper ns IntRaw u le = gives-proper ns u _ le refl
+  read-proper ns IntSt u le = gives-proper ns u _ le refl
+  read-proper ns IntEna u le = gives-proper ns u _ le refl
+  read-proper ns IntClr u le = gives-proper ns u _ le refl
+  read-proper ns Clkdiv u le = gives-proper ns u _ le refl
+  read-proper ns Status u le = gives-proper ns u _ le refl
+  read-proper ns FsmStatus u le = gives-proper ns u _ le refl
+  read-proper ns Conf0 u le = gives-proper ns u _ le refl
+  read-proper ns Conf1 u le = gives-proper ns u _ le refl
+  read-proper ns ClkConf u le = gives-proper ns u _ le refl
+  read-proper ns IdleConf u le = gives-proper ns u _ le refl
+  read-proper ns Rs485Conf u le = gives-proper ns u _ le refl
+  read-proper ns AtCmdChar u le = gives-proper ns u _ le refl
+  read-proper ns MemConf u le = gives-proper ns u _ le refl
+  read-proper ns MemRxStatus u le = gives-proper ns u _ le refl
+  read-proper ns Unknown u le = gives-proper ns u _ le refl
+
+  looking-proper : (b : Bool) (p : Place) (u : Uart H W) → Proper readNumber (readLooking b p u)
+  unfolding readLooking
+  looking-proper true p u = read-proper _ p _ (source-le _ _)
+  looking-proper false p u = read-proper [] p u (omega arith)
+
+  storing-proper : (p : Place) (v : ℕ) (u : Uart H W) → Proper writeNumber (storing p v u)
+  unfolding storing writeNumber
+  storing-proper p v u = record { zero = choose-ind (λ (r : Write). writeNumber r ≡ 0) _ (λ _. refl) (λ _. refl); few = stored-le p v }
+
+  write-proper : (p : Place) (v : ℕ) (u : Uart H W) → Proper writeNumber (writePlace p v u)
+  unfolding writePlace clearing writeNumber
+  write-proper Fifo v u = storing-proper Fifo v _
+  write-proper IntRaw v u = storing-proper IntRaw v _
+  write-proper IntSt v u = storing-proper IntSt v _
+  write-proper IntEna v u = storing-proper IntEna v _
+  write-proper IntClr v u = record { zero = refl; few = omega arith }
+  write-proper Clkdiv v u = storing-proper Clkdiv v _
+  write-proper Status v u = storing-proper Status v _
+  write-proper FsmStatus v u = storing-proper FsmStatus v _
+  write-proper Conf0 v u = storing-proper Conf0 v _
+  write-proper Conf1 v u = storing-proper Conf1 v _
+  write-proper ClkConf v u = storing-proper ClkConf v _
+  write-proper IdleConf v u = storing-proper IdleConf v _
+  write-proper Rs485Conf v u = storing-proper Rs485Conf v _
+  write-proper AtCmdChar v u = storing-proper AtCmdChar v _
+  write-proper MemConf v u = storing-proper MemConf v _
+  write-proper MemRxStatus v u = storing-proper MemRxStatus v _
+  write-proper Unknown v u = storing-proper Unknown v _
+
+  send-proper : (now : ℕ) (b : W) (u : Uart H W) → Proper writeNumber (sendByte now b u)
+  unfolding sendByte dropped sent writeNumber
+  send-proper now b u = choose-ind (Proper writeNumber) _ (λ _. record { zero = refl; few = omega arith })
+      (λ _. record { zero = refl; few = le-trans (source-le _ _) (lit≤ tt) })
+
+-- ---- calls
+
+-- number 0, and few notices
+record Good {R H W : Type 0} (number : R → ℕ) (o : Outcome R H W) : Type 0 where
+  zero : number (o .reply) ≡ 0
+  few : Few (o .report)
+
+module _ {R H W : Type 0} (number : R → ℕ) where
+  after-good : (t : Settled H W) (work : Uart H W → Access R H W) → Proper number (work (t .state)) → Good number (afterSettling t work)
+  unfolding afterSettling
+  after-good t work p = record { zero = p .zero; few = report-few _ _ _ _ (p .few) }
+
+  quiet-good : (t : Settled H W) (r : Uart H W → R) (v : Uart H W → Uart H W) → ((u : Uart H W) → number (r u) ≡ 0)
+      → Good number (afterSettling t (λ u. quiet (r u) (v u)))
+  unfolding quiet
+  quiet-good t r v e = after-good t _ (record { zero = e (t .state); few = omega arith })
+
+  unsettled-good : (r : R) (u : Uart H W) → number r ≡ 0 → Good number (unsettled r u)
+  unfolding unsettled
+  unsettled-good r u e = record { zero = e; few = report-few 0 0 [] u (omega arith) }
+
+  undated-good : (r : R) (u : Uart H W) → number r ≡ 0 → Good number (undated r u)
+  unfolding undated
+  undated-good r u e = record { zero = e; few = no-report-few }
+
+-- number 0, and few notices, in the answer
+pub record Fine (a : Answer ℕ ℕ ℕ) : Type 0 where
+  pub zero : numberOf (a .reply) ≡ 0
+  pub few : Few (a .report)
+
+module _ {R : Type 0} (number : R → ℕ) (as-reply : R → Reply ℕ ℕ ℕ) where
+  fine : ((r : R) → numberOf (as-reply r) ≡ number r) → (o : Outcome R ℕ ℕ) → Good number o → Fine (answering as-reply o .answer)
+  unfolding answering
+  fine e o g = record { zero = e (o .reply) ∙ g .zero; few = g .few }
+
+write-good : (now : ℕ) (p : Place) (v : ℕ) (u : Uart ℕ ℕ) → Good writeNumber (writtenAt now p v u)
+unfolding writtenAt sendWork writeWork concluded
+write-good now p v u = choose-ind (Good writeNumber) _
+    (λ _. after-good writeNumber _ _ (let p = send-proper now (v % 256) _ in record { zero = p .zero; few = p .few }))
+    (λ _. after-good writeNumber _ _ (let w = write-proper p v _ in record { zero = w .zero; few = w .few }))
+
+-- a call that is carried out answers number 0 and at most 8 notices
+pub carried-fine : (c : Request) (u : Uart ℕ ℕ) → Fine (carriedOut c u .answer)
+unfolding carriedOut numberOf doneNumber takenNumber filled readAt
+    readWork receiveWork wakeWork resetWork powerDownWork watchWork clockWork takeTxWork takeWrittenWork hasLeft hostPending
+carried-fine (Call.read now offset) u = fine readNumber reads (λ r. refl) _ (after-good readNumber _ _ (looking-proper _ _ _))
+carried-fine (Call.write now x) u = fine writeNumber writes (λ r. refl) _ (write-good now _ (x .value) u)
+carried-fine (Call.receive now at bs) u = fine doneNumber does (λ r. refl) _ (quiet-good doneNumber _ _ _ (λ s. refl))
+carried-fine (Call.wake now) u = fine doneNumber does (λ r. refl) _ (quiet-good doneNumber _ _ _ (λ s. refl))
+carried-fine (Call.reset now) u = fine doneNumber does (λ r. refl) _ (quiet-good doneNumber _ _ _ (λ s. refl))
+carried-fine (Call.powerDown now) u = fine doneNumber does (λ r. refl) _ (unsettled-good doneNumber _ _ refl)
+carried-fine (Call.watch now b) u = fine doneNumber does (λ r. refl) _ (unsettled-good doneNumber _ _ refl)
+carried-fine (Call.clockChange now period) u = fine doneNumber does (λ r. refl) _ (quiet-good doneNumber _ _ _ (λ s. refl))
+carried-fine (Call.takeTx now lent) u = fine (λ t. takenNumber (t .taken)) takes (λ r. refl) _ (quiet-good (λ t. takenNumber (t .taken)) _ _ _ (λ s. refl))
+carried-fine (Call.takeWritten lent) u = fine (λ t. takenNumber (t .taken)) takes (λ r. refl) _ (undated-good (λ t. takenNumber (t .taken)) _ _ refl)
+carried-fine Call.hasLeft u = fine (λ r. 0) left (λ r. refl) _ (undated-good (λ r. 0) _ _ refl)
+carried-fine Call.hostPending u = fine (λ r. 0) pends (λ r. refl) _ (undated-good (λ r. 0) _ _ refl)

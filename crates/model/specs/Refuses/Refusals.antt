@@ -1,0 +1,246 @@
+-- Every call ends in one of two ways: refused with the first number whose condition holds, or carried out. Assumes nothing.
+use mathlib.Core.Path.{_≡_, refl, sym, ap, subst, _∙_}
+use Prim.Native.Nat.{ℕ, _+_, _%_, _^_, _≤_, _<_}
+use native.Mathlib.Omega.{arith}
+use mathlib.Core.Bool.{Bool, true, false, _&&_}
+use mathlib.Core.Option.{Option, none, some}
+use mathlib.Core.List.{List, [], _∷_, _++_}
+use lib.Dec.{leb, ltb}
+use lib.ListN.{length}
+use borrow.Author.Tests.{ltb-true, ltb-false, leb-true, leb-false, lt-ltb, le-leb}
+use Rattle.model.specs.Numbers.{choose}
+use Rattle.model.specs.State.{Run, Uart}
+use Rattle.model.specs.Replies.{refused}
+use Rattle.model.specs.Registers.{placeOf}
+use Rattle.model.specs.Tests.{pastEnd, wentBack, transmitFull, hostFull, runsFull, periodTooLong, bufferTooShort, refuseIf, refuseDate}
+use Rattle.model.specs.Calls
+use Rattle.model.specs.Calls.{Outcome, refusing, unless, lastDate, hostDate, notTaken, readPlaced, writePlaced, send, writeAt, writeWork}
+use Rattle.model.specs.Call.{Call, Written, Request, Reply, reads, writes, does, takes}
+use Rattle.model.specs.Run.{answering, stepBy, writing, step}
+use Rattle.model.specs.Limits.{All, nil, cons}
+use Rattle.model.specs.Ends.Passes.{apart}
+use Rattle.model.specs.Refuses.Conditions.{dateOf, Condition, number2, number3, number4, number5, number6, number7, number8, number8′, order, First, here, next, Refuses, isFifo}
+use Rattle.model.specs.Refuses.Conditions.{writtenAt, carriedOut, Result, refusal, done}
+use Rattle.model.specs.Refuses.FifoPlace.{first-is-fifo, fifo-is-first}
+use Rattle.model.specs.declared.Place.{Place}
+use Rattle.model.specs.declared.Place.the-variants.{Fifo, IntRaw, IntSt, IntEna, IntClr, Clkdiv, Status, FsmStatus, Conf0, Conf1, ClkConf, IdleConf, Rs485Conf, AtCmdChar, MemConf, MemRxStatus, Unknown}
+use Rattle.model.specs.declared.Refusal.{Refusal}
+use Rattle.model.specs.declared.Refusal.the-variants.{DatePastEnd, DateWentBack, TransmitFull, HostFull, RunsFull, PeriodTooLong, BufferTooShort}
+use Rattle.model.specs.declared.Write.{Write}
+use Rattle.model.specs.declared.Done.{Done}
+
+-- ---- tests one after another
+
+-- what a row of tests gave: none holds, or one is the first that does
+data Verdict (P : Refusal → Type 0) (rs : List Refusal) : Option Refusal → Type 0 where
+  clear : All (λ r. ¬ P r) rs → Verdict P rs none
+  stopped : {r : Refusal} → First P rs r → Verdict P rs (some r)
+
+module _ {P : Refusal → Type 0} {rs : List Refusal} where
+  skip : {r : Refusal} {o : Option Refusal} → ¬ P r → Verdict P rs o → Verdict P (r ∷ rs) o
+  skip n (clear v) = clear (cons n v)
+  skip n (stopped v) = stopped (next n v)
+
+  tested : (b : Bool) (r : Refusal) {o : Option Refusal} → (b ≡ true → P r) → (b ≡ false → ¬ P r) → Verdict P rs o → Verdict P (r ∷ rs) (refuseIf b r o)
+  unfolding refuseIf
+  tested true r y n v = stopped (here (y refl))
+  tested false r y n v = skip (n refl) v
+
+  -- a test of two numbers, and the order of them that a condition states
+  tested-lt : (a b : ℕ) (r : Refusal) {o : Option Refusal} → (a < b → P r) → (P r → a < b) → Verdict P rs o → Verdict P (r ∷ rs) (refuseIf (ltb a b) r o)
+  tested-lt a b r to from v = tested (ltb a b) r (λ h. to (ltb-true a b h)) (λ h p. absurd (let lt : a < b = from p in omega (arith, ltb-false a b h))) v
+
+  tested-le : (a b : ℕ) (r : Refusal) {o : Option Refusal} → (a ≤ b → P r) → (P r → a ≤ b) → Verdict P rs o → Verdict P (r ∷ rs) (refuseIf (leb a b) r o)
+  tested-le a b r to from v = tested (leb a b) r (λ h. to (leb-true a b h)) (λ h p. absurd (let le : a ≤ b = from p in omega (arith, leb-false a b h))) v
+
+same-some : {A : Type 0} {a b : A} → some a ≡ some b → a ≡ b
+same-some e = cc
+
+module _ (c : Request) (u : Uart ℕ ℕ) where
+  -- 2 and 3, first in every dated call
+  dates : (now : ℕ) (o : Option Refusal) → dateOf c ≡ some now
+      → Verdict (λ q. Condition u q c) (PeriodTooLong ∷ BufferTooShort ∷ TransmitFull ∷ HostFull ∷ RunsFull ∷ []) o
+      → Verdict (λ q. Condition u q c) order (refuseDate now (u .control) o)
+  unfolding refuseDate pastEnd wentBack
+  dates now o e v = tested-le (2 ^ 59) now DatePastEnd (number2 e) from2 (tested-lt now _ DateWentBack (number3 e) from3 v)
+    where
+      from2 : Condition u DatePastEnd c → 2 ^ 59 ≤ now
+      from2 (number2 e′ le) = let s : now ≡ _ = same-some (sym e ∙ e′) in omega arith
+
+      from3 : Condition u DateWentBack c → now < u .control .last
+      from3 (number3 e′ lt) = let s : now ≡ _ = same-some (sym e ∙ e′) in omega arith
+
+  undated : (o : Option Refusal) → dateOf c ≡ none
+      → Verdict (λ q. Condition u q c) (PeriodTooLong ∷ BufferTooShort ∷ TransmitFull ∷ HostFull ∷ RunsFull ∷ []) o
+      → Verdict (λ q. Condition u q c) order o
+  undated o e v = skip not2 (skip not3 v)
+    where
+      not2 : ¬ Condition u DatePastEnd c
+      not2 (number2 e′ le) = apart (cc)
+
+      not3 : ¬ Condition u DateWentBack c
+      not3 (number3 e′ lt) = apart (cc)
+
+  never-refused : Verdict (λ q. Condition u q c) order none → Result c u (carriedOut c u)
+  never-refused (clear v) = done v
+
+  ends-as : {R : Type 0} (as-reply : R → Reply ℕ ℕ ℕ) (reply : Refusal → R) (work : Uart ℕ ℕ → Outcome R ℕ ℕ) (o : Option Refusal)
+      → ((r : Refusal) → Refuses r c (as-reply (reply r))) → carriedOut c u ≡ answering as-reply (work u)
+      → Verdict (λ q. Condition u q c) order o → Result c u (answering as-reply (unless o reply work u))
+  unfolding unless refusing answering
+  ends-as as-reply reply work none a e (clear v) = subst (Result c u) e (done v)
+  ends-as as-reply reply work (some r) a e (stopped v) = refusal v (a r)
+
+-- ---- the tests of one call alone, as document 01's conditions
+
+and-true : (a b : Bool) → a && b ≡ true → (a ≡ true) × (b ≡ true)
+and-true true b h = (refl, h)
+and-true false b h = apart (cc)
+
+runs-yes : (new runs last date : ℕ) → runsFull new runs last date ≡ true → (1 ≤ new) × (64 ≤ runs) × (last < date)
+unfolding runsFull
+runs-yes new runs last date h =
+    let p : (ltb 0 new ≡ true) × (leb 64 runs && ltb last date ≡ true) = and-true _ _ h in
+    let q : (leb 64 runs ≡ true) × (ltb last date ≡ true) = and-true _ _ (p .1) in
+    (ltb-true 0 new (p .0), leb-true 64 runs (q .0), ltb-true last date (q .1))
+
+runs-no : (new runs last date : ℕ) → runsFull new runs last date ≡ false → 1 ≤ new → 64 ≤ runs → last < date → ⊥
+unfolding runsFull
+runs-no new runs last date h some-byte full lt =
+    let e : runsFull new runs last date ≡ true = rw (lt-ltb 0 new some-byte, le-leb 64 runs full, lt-ltb last date lt) in apart (cc)
+
+-- the last of some runs, and its date
+record LastRun (l : List Run) : Type 0 where
+  runs : List Run
+  run : Run
+  is : l ≡ runs ++ (run ∷ [])
+
+last-run : (l : List Run) → 1 ≤ length l → LastRun l
+last-run [] h = absurd (omega arith)
+last-run (r ∷ []) h = record { runs = []; run = r; is = refl }
+last-run (r ∷ s ∷ rs) h = let l : LastRun (s ∷ rs) = last-run (s ∷ rs) (omega arith) in record { runs = r ∷ l .runs; run = l .run; is = ap (_∷_ r) (l .is) }
+
+last-date : (runs : List Run) (r : Run) → lastDate (runs ++ (r ∷ [])) ≡ r .date
+unfolding lastDate
+last-date [] r = refl
+last-date (s ∷ []) r = refl
+last-date (s ∷ t ∷ runs) r = last-date (t ∷ runs) r
+
+module _ (u : Uart ℕ ℕ) (now at : ℕ) (bs : List ℕ) where
+  tooMany : Bool
+  tooMany = runsFull (length bs) (length (u .hostRuns)) (lastDate (u .hostRuns)) (hostDate now at)
+
+  number6-yes : tooMany ≡ true → Condition u RunsFull (Call.receive now at bs)
+  unfolding tooMany hostDate
+  number6-yes h =
+      let t : (1 ≤ length bs) × (64 ≤ length (u .hostRuns)) × (lastDate (u .hostRuns) < hostDate now at) = runs-yes _ _ _ _ h in
+      let l : LastRun (u .hostRuns) = last-run (u .hostRuns) (omega arith) in
+      number6 {now = now} {at = at} (l .runs) (l .run) (t .0) (t .1) (l .is) (omega (arith, ap lastDate (l .is), last-date (l .runs) (l .run)))
+
+  number6-no : tooMany ≡ false → ¬ Condition u RunsFull (Call.receive now at bs)
+  unfolding tooMany hostDate
+  number6-no h (number6 runs r some-byte full is lt) =
+      runs-no _ _ _ _ h some-byte full (omega (arith, ap lastDate is, last-date runs r))
+
+  from5 : Condition u HostFull (Call.receive now at bs) → 1024 < length (u .host) + length bs
+  from5 (number5 lt) = lt
+
+module _ (u : Uart ℕ ℕ) where
+  from4 : {now : ℕ} {x : Written} → Condition u TransmitFull (Call.write now x) → 1152 ≤ length (u .tx) + length (u .inFlight)
+  from4 (number4 is le) = le
+
+  from7 : {now period : ℕ} → Condition u PeriodTooLong (Call.clockChange now period) → 1000000 < period
+  from7 (number7 lt) = lt
+
+  from8 : {now : ℕ} {lent : List ℕ} → Condition u BufferTooShort (Call.takeTx now lent) → length lent < 1152
+  from8 (number8 lt) = lt
+
+  from8′ : {lent : List ℕ} → Condition u BufferTooShort (Call.takeWritten lent) → length lent < 1152
+  from8′ (number8′ lt) = lt
+
+-- ---- each call
+
+-- a write is a FIFO write or an access to another place
+write-case : (P : Place → Outcome Write ℕ ℕ → Type 0) (now : ℕ) (p : Place) (v : ℕ) (u : Uart ℕ ℕ)
+    → P Fifo (send now (v % 256) u) → ((q : Place) → isFifo q ≡ false → P q (writePlaced now q v u)) → P p (writeAt now p v u)
+unfolding writeAt isFifo
+write-case P now Fifo v u f o = f
+write-case P now IntRaw v u f o = o IntRaw refl
+write-case P now IntSt v u f o = o IntSt refl
+write-case P now IntEna v u f o = o IntEna refl
+write-case P now IntClr v u f o = o IntClr refl
+write-case P now Clkdiv v u f o = o Clkdiv refl
+write-case P now Status v u f o = o Status refl
+write-case P now FsmStatus v u f o = o FsmStatus refl
+write-case P now Conf0 v u f o = o Conf0 refl
+write-case P now Conf1 v u f o = o Conf1 refl
+write-case P now ClkConf v u f o = o ClkConf refl
+write-case P now IdleConf v u f o = o IdleConf refl
+write-case P now Rs485Conf v u f o = o Rs485Conf refl
+write-case P now AtCmdChar v u f o = o AtCmdChar refl
+write-case P now MemConf v u f o = o MemConf refl
+write-case P now MemRxStatus v u f o = o MemRxStatus refl
+write-case P now Unknown v u f o = o Unknown refl
+
+no-other : {P : Refusal → Type 0} → ¬ P PeriodTooLong → ¬ P BufferTooShort → ¬ P TransmitFull → ¬ P HostFull → ¬ P RunsFull
+    → Verdict P (PeriodTooLong ∷ BufferTooShort ∷ TransmitFull ∷ HostFull ∷ RunsFull ∷ []) none
+no-other p b t h r = clear (cons p (cons b (cons t (cons h (cons r nil)))))
+
+module _ (now : ℕ) (x : Written) (u : Uart ℕ ℕ) where
+  abbrev place : Place
+  place = placeOf (u .map .offsets) (x .offset)
+
+  not-fifo : isFifo place ≡ false → ¬ Condition u TransmitFull (Call.write now x)
+  unfolding isFifo
+  not-fifo h (number4 {others = os} is le) =
+      let f : isFifo place ≡ true = ap isFifo (ap (λ l. placeOf l (x .offset)) is ∙ first-is-fifo (x .offset) os) in apart (cc)
+
+  written-other : (q : Place) → isFifo q ≡ false → writtenAt now q (x .value) u ≡ writeWork now q (x .value) u
+  unfolding writtenAt choose
+  written-other q h = rw h
+
+  write-result : Result (Call.write now x) u (answering writes (writeAt now place (x .value) u))
+  unfolding carriedOut send writePlaced writtenAt isFifo choose transmitFull dateOf
+  write-result = write-case (λ q o. place ≡ q → Result (Call.write now x) u (answering writes o)) now place (x .value) u
+      (λ e. ends-as _ u writes Write.Refused _ _ (λ r. Refuses.write) (ap (λ q. answering writes (writtenAt now q (x .value) u)) e)
+      (dates _ u now _ refl (skip (elim [ ]) (skip (elim [ ])
+      (tested-le 1152 _ TransmitFull (number4 (fifo-is-first (u .map .offsets) (x .offset) (ap isFifo e) .1)) (from4 u)
+      (clear (cons (elim [ ]) (cons (elim [ ]) nil))))))))
+      (λ q h e. ends-as _ u writes Write.Refused _ _ (λ r. Refuses.write)
+      (ap (λ q. answering writes (writtenAt now q (x .value) u)) e ∙ ap (answering writes) (written-other q h))
+      (dates _ u now none refl (no-other (elim [ ]) (elim [ ]) (not-fifo (ap isFifo e ∙ h)) (elim [ ]) (elim [ ]))))
+      refl
+
+-- every call is refused or carried out, as document 01's table and order say
+pub step-result : (c : Request) (u : Uart ℕ ℕ) → Result c u (step c u)
+unfolding step stepBy writing carriedOut dateOf hostFull periodTooLong bufferTooShort tooMany notTaken
+    Calls.read readPlaced Calls.write Calls.receive Calls.wake Calls.reset Calls.powerDown Calls.watch Calls.clockChange Calls.takeTx Calls.takeWritten
+step-result (Call.read now offset) u =
+    ends-as _ u reads refused _ _ (λ r. Refuses.read) refl (dates _ u now none refl (no-other (elim [ ]) (elim [ ]) (elim [ ]) (elim [ ]) (elim [ ])))
+step-result (Call.write now x) u = write-result now x u
+step-result (Call.receive now at bs) u =
+    ends-as _ u does Done.Refused _ _ (λ r. Refuses.receive) refl
+    (dates _ u now _ refl (skip (elim [ ]) (skip (elim [ ]) (skip (elim [ ])
+    (tested-lt 1024 _ HostFull number5 (from5 u now at bs) (tested _ RunsFull (number6-yes u now at bs) (number6-no u now at bs) (clear nil)))))))
+step-result (Call.wake now) u =
+    ends-as _ u does Done.Refused _ _ (λ r. Refuses.wake) refl (dates _ u now none refl (no-other (elim [ ]) (elim [ ]) (elim [ ]) (elim [ ]) (elim [ ])))
+step-result (Call.reset now) u =
+    ends-as _ u does Done.Refused _ _ (λ r. Refuses.reset) refl (dates _ u now none refl (no-other (elim [ ]) (elim [ ]) (elim [ ]) (elim [ ]) (elim [ ])))
+step-result (Call.powerDown now) u =
+    ends-as _ u does Done.Refused _ _ (λ r. Refuses.powerDown) refl (dates _ u now none refl (no-other (elim [ ]) (elim [ ]) (elim [ ]) (elim [ ]) (elim [ ])))
+step-result (Call.watch now b) u =
+    ends-as _ u does Done.Refused _ _ (λ r. Refuses.watch) refl (dates _ u now none refl (no-other (elim [ ]) (elim [ ]) (elim [ ]) (elim [ ]) (elim [ ])))
+step-result (Call.clockChange now period) u =
+    ends-as _ u does Done.Refused _ _ (λ r. Refuses.clockChange) refl
+    (dates _ u now _ refl (tested-lt 1000000 period PeriodTooLong number7 (from7 u)
+    (skip (elim [ ]) (skip (elim [ ]) (skip (elim [ ]) (skip (elim [ ]) (clear nil)))))))
+step-result (Call.takeTx now lent) u =
+    ends-as _ u takes (notTaken lent) _ _ (λ r. Refuses.takeTx) refl
+    (dates _ u now _ refl (skip (elim [ ]) (tested-lt (length lent) 1152 BufferTooShort number8 (from8 u)
+    (skip (elim [ ]) (skip (elim [ ]) (skip (elim [ ]) (clear nil)))))))
+step-result (Call.takeWritten lent) u =
+    ends-as _ u takes (notTaken lent) _ _ (λ r. Refuses.takeWritten) refl
+    (undated _ u _ refl (skip (elim [ ]) (tested-lt (length lent) 1152 BufferTooShort number8′ (from8′ u)
+    (skip (elim [ ]) (skip (elim [ ]) (skip (elim [ ]) (clear nil)))))))
+step-result Call.hasLeft u = never-refused _ u (undated _ u none refl (no-other (elim [ ]) (elim [ ]) (elim [ ]) (elim [ ]) (elim [ ])))
+step-result Call.hostPending u = never-refused _ u (undated _ u none refl (no-other (elim [ ]) (elim [ ]) (elim [ ]) (elim [ ]) (elim [ ])))

@@ -1,0 +1,6 @@
+-- Laws of `step` that shut out wrong definitions.
+pub mod EveryCall
+pub mod LineAndBits
+pub mod Moves
+pub mod Timeouts
+pub mod Landings

@@ -1,0 +1,12 @@
+-- Two runs that are alike but for bytes answer alike but for bytes.
+pub mod Alike
+pub mod Agree
+pub mod Natural
+pub mod Placed
+pub mod MapKept
+pub mod NaturalCalls
+pub mod Numbering
+pub mod StepCases
+pub mod Bounds
+pub mod Shapes
+pub mod Theorem

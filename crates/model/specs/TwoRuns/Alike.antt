@@ -1,0 +1,121 @@
+-- When two lists of calls are alike, how their bytes are numbered, and an answer with numbers in the place of bytes: what a
+-- reader of demand 3 must believe. Assumes nothing.
+use mathlib.Core.Path.{_≡_}
+use Prim.Native.Nat.{ℕ, _%_}
+use mathlib.Core.List.{List, [], _∷_, map, flatMap}
+use lib.Dec.{eqb}
+use lib.ListN.{length, getD}
+use Rattle.model.specs.Numbers.{choose}
+use Rattle.model.specs.Replies.{ReadOf, word, byte, noValue, refused, Take}
+use Rattle.model.specs.Call.{Call, Written, Request, Reply, reads, writes, does, takes, left, pends, Answer}
+
+-- ---- alike
+
+-- two lists of one length, element by element
+pub data Each {A B : Type 0} (R : A → B → Type 0) : List A → List B → Type 0 where
+  nil : Each R [] []
+  cons : {a : A} {b : B} {l : List A} {m : List B} → R a b → Each R l m → Each R (a ∷ l) (b ∷ m)
+
+-- the register map's FIFO offset is its first
+abbrev pub fifoOffset : List ℕ → ℕ
+fifoOffset offsets = getD offsets 0 0
+
+-- two calls that differ at most in the values of host bytes, in all 32 bits of a word written to FIFO, or in the contents
+-- of a lent buffer
+pub data Alike (fifo : ℕ) : Request → Request → Type 0 where
+  same : {c : Request} → Alike fifo c c
+  hostBytes : {now at : ℕ} {bs bs′ : List ℕ} → length bs ≡ length bs′ → Alike fifo (Call.receive now at bs) (Call.receive now at bs′)
+  fifoWord : {now v v′ : ℕ} → Alike fifo (Call.write now (record { offset = fifo; value = v })) (Call.write now (record { offset = fifo; value = v′ }))
+  lentToTakeTx : {now : ℕ} {lent lent′ : List ℕ} → length lent ≡ length lent′ → Alike fifo (Call.takeTx now lent) (Call.takeTx now lent′)
+  lentToTakeWritten : {lent lent′ : List ℕ} → length lent ≡ length lent′ → Alike fifo (Call.takeWritten lent) (Call.takeWritten lent′)
+
+-- ---- the numbering
+
+module _ {R X H L : Type 0} where
+  -- the host bytes that a call gives
+  unfoldable pub hostOf : Call R X H L → List H
+  hostOf (Call.read now r) = []
+  hostOf (Call.write now x) = []
+  hostOf (Call.receive now at bs) = bs
+  hostOf (Call.wake now) = []
+  hostOf (Call.reset now) = []
+  hostOf (Call.powerDown now) = []
+  hostOf (Call.watch now b) = []
+  hostOf (Call.clockChange now p) = []
+  hostOf (Call.takeTx now lent) = []
+  hostOf (Call.takeWritten lent) = []
+  hostOf Call.hasLeft = []
+  hostOf Call.hostPending = []
+
+  -- what a call writes
+  unfoldable pub writesOf : Call R X H L → List X
+  writesOf (Call.read now r) = []
+  writesOf (Call.write now x) = x ∷ []
+  writesOf (Call.receive now at bs) = []
+  writesOf (Call.wake now) = []
+  writesOf (Call.reset now) = []
+  writesOf (Call.powerDown now) = []
+  writesOf (Call.watch now b) = []
+  writesOf (Call.clockChange now p) = []
+  writesOf (Call.takeTx now lent) = []
+  writesOf (Call.takeWritten lent) = []
+  writesOf Call.hasLeft = []
+  writesOf Call.hostPending = []
+
+-- the byte of a write to FIFO: its word's low 8 bits
+unfoldable pub fifoByte : ℕ → Written → List ℕ
+fifoByte fifo x = choose (eqb (x .offset) fifo) (x .value % 256 ∷ []) []
+
+abbrev pub fifoBytesOf : ℕ → Request → List ℕ
+fifoBytesOf fifo c = flatMap (fifoByte fifo) (writesOf c)
+
+-- the host bytes that a list gives to `receive`, and the bytes that it writes to FIFO, in order: refused and dropped ones too
+abbrev pub hostGiven : List Request → List ℕ
+hostGiven cs = flatMap hostOf cs
+
+abbrev pub fifoWritten : ℕ → List Request → List ℕ
+fifoWritten fifo cs = flatMap (fifoBytesOf fifo) cs
+
+-- the n-th host byte of a list, and the byte of its n-th FIFO write, both from 0
+abbrev pub hostByte : List Request → ℕ → ℕ
+hostByte cs n = getD (hostGiven cs) n 0
+
+abbrev pub writeByte : ℕ → List Request → ℕ → ℕ
+writeByte fifo cs n = getD (fifoWritten fifo cs) n 0
+
+-- ---- an answer with other bytes in it
+
+unfoldable pub mapReadOf : {H H′ : Type 0} → (H → H′) → ReadOf H → ReadOf H′
+mapReadOf f (word n) = word n
+mapReadOf f (byte b) = byte (f b)
+mapReadOf f noValue = noValue
+mapReadOf f (refused r) = refused r
+
+unfoldable pub mapTake : {W W′ L L′ : Type 0} → (W → W′) → (L → L′) → Take W L → Take W′ L′
+mapTake g h t = record { taken = t .taken; front = map g (t .front); rest = map h (t .rest) }
+
+unfoldable pub mapReply : {H H′ W W′ L L′ : Type 0} → (H → H′) → (W → W′) → (L → L′) → Reply H W L → Reply H′ W′ L′
+mapReply f g h (reads r) = reads (mapReadOf f r)
+mapReply f g h (writes r) = writes r
+mapReply f g h (does r) = does r
+mapReply f g h (takes t) = takes (mapTake g h t)
+mapReply f g h (left b) = left b
+mapReply f g h (pends n) = pends n
+
+unfoldable pub mapAnswer : {H H′ W W′ L L′ : Type 0} → (H → H′) → (W → W′) → (L → L′) → Answer H W L → Answer H′ W′ L′
+mapAnswer f g h a = record { reply = mapReply f g h (a .reply); report = a .report }
+
+-- the same byte
+abbrev pub itself : {A : Type 0} → A → A
+itself a = a
+
+unfoldable pub forget : {A : Type 0} → A → Unit {0}
+forget a = tt
+
+-- of the part of a lent buffer that a call does not write only the length is kept
+unfoldable pub withoutRest : Answer ℕ ℕ ℕ → Answer ℕ ℕ (Unit {0})
+withoutRest a = mapAnswer itself itself forget a
+
+-- each number replaced by the byte that has it in a list of calls
+unfoldable pub withBytesOf : ℕ → List Request → Answer ℕ ℕ (Unit {0}) → Answer ℕ ℕ (Unit {0})
+withBytesOf fifo cs a = mapAnswer (hostByte cs) (writeByte fifo cs) itself a

@@ -1,0 +1,164 @@
+-- Each number in an answer is below the count of bytes given by then. By naturality: a renaming of numbers that keeps those
+-- given keeps the answer, so no other number is in it. Assumes nothing.
+use mathlib.Core.Path.{_≡_, refl, sym, ap, ap₂, subst₂, _∙_}
+use Prim.Native.Nat.{ℕ, zero, suc, _+_, _<_, _≤_}
+use native.Mathlib.Nat.{add-assoc, le-trans}
+use native.Mathlib.Omega.{arith}
+use mathlib.Core.Bool.{Bool, true, false}
+use mathlib.Core.List.{List, [], _∷_, _++_, map, flatMap, map-id}
+use lib.Dec.{ltb}
+use lib.ListN.{length, take, length-append}
+use borrow.Author.Tests.{ltb-true, lt-ltb}
+use Rattle.model.specs.Numbers.{choose}
+use Rattle.model.specs.State.{Uart, mapUart}
+use Rattle.model.specs.Limits.{All}
+use Rattle.model.specs.Replies.{ReadOf, word, byte, noValue, refused}
+use Rattle.model.specs.Call.{Request, Reply, reads, writes, does, takes, left, pends}
+use Rattle.model.specs.Run.{Step, runBy}
+use Rattle.model.specs.TwoRuns.Alike.{hostOf, writesOf, fifoBytesOf, hostGiven, fifoWritten, itself, mapReadOf, mapTake, mapReply, mapAnswer}
+use Rattle.model.specs.TwoRuns.Placed.{Put, Placed, placed, stepPlaced}
+use Rattle.model.specs.TwoRuns.NaturalCalls.{mapPut, mapPlaced, mapStep, stepPlaced-nat}
+use Rattle.model.specs.TwoRuns.Numbering.{changed-twice, putOf, writtenOf, upFrom, numbered, number, host-of-placed, written-of-placed}
+use Rattle.model.specs.TwoRuns.Agree.{byteRead, bytesRead, bytesSent, Bare, Below, EachBelow}
+
+-- ---- the bytes in an answer with other bytes
+
+module _ {H H′ W W′ L L′ : Type 0} (f : H → H′) (g : W → W′) (h : L → L′) where
+  byteRead-nat : (r : ReadOf H) → byteRead (mapReadOf f r) ≡ map f (byteRead r)
+  unfolding byteRead mapReadOf
+  byteRead-nat (word n) = refl
+  byteRead-nat (byte b) = refl
+  byteRead-nat noValue = refl
+  byteRead-nat (refused r) = refl
+
+  pub bytesRead-nat : (r : Reply H W L) → bytesRead (mapReply f g h r) ≡ map f (bytesRead r)
+  unfolding bytesRead mapReply
+  bytesRead-nat (reads r) = byteRead-nat r
+  bytesRead-nat (writes r) = refl
+  bytesRead-nat (does r) = refl
+  bytesRead-nat (takes t) = refl
+  bytesRead-nat (left b) = refl
+  bytesRead-nat (pends n) = refl
+
+  pub bytesSent-nat : (r : Reply H W L) → bytesSent (mapReply f g h r) ≡ map g (bytesSent r)
+  unfolding bytesSent mapReply mapTake
+  bytesSent-nat (reads r) = refl
+  bytesSent-nat (writes r) = refl
+  bytesSent-nat (does r) = refl
+  bytesSent-nat (takes t) = refl
+  bytesSent-nat (left b) = refl
+  bytesSent-nat (pends n) = refl
+
+-- ---- renamings that keep the numbers below a count
+
+abbrev pub Keeps : ℕ → (ℕ → ℕ) → Type 0
+Keeps n f = (k : ℕ) → k < n → f k ≡ k
+
+-- every other number goes one up
+shifted : ℕ → ℕ → ℕ
+shifted n k = choose (ltb k n) k (k + 1)
+
+shifted-keeps : (n : ℕ) → Keeps n (shifted n)
+unfolding shifted choose
+shifted-keeps n k below = ap (λ b. choose b k (k + 1)) (lt-ltb k n below)
+
+kept-below : (n k : ℕ) → shifted n k ≡ k → k < n
+unfolding shifted choose
+kept-below n k e = go (ltb k n) refl e
+  where
+    go : (b : Bool) → ltb k n ≡ b → choose b k (k + 1) ≡ k → k < n
+    go true p q = ltb-true k n p
+    go false p q = absurd (omega arith)
+
+all-below : (n : ℕ) (l : List ℕ) → map (shifted n) l ≡ l → All (λ k. k < n) l
+all-below n [] e = All.nil
+all-below n (k ∷ l) e =
+    let p : shifted n k ≡ k = cc in
+    let q : map (shifted n) l ≡ l = cc in
+    All.cons (kept-below n k p) (all-below n l q)
+
+-- ---- a numbered call has no number from its count on
+
+upFrom-fixed : (n : ℕ) (f : ℕ → ℕ) → Keeps n f → (h k : ℕ) → h + k ≤ n → map f (upFrom h k) ≡ upFrom h k
+unfolding upFrom
+upFrom-fixed n f p h zero le = refl
+upFrom-fixed n f p h (suc k) le = ap₂ (λ x t. x ∷ t) (p h (omega arith)) (upFrom-fixed n f p (h + 1) k (omega arith))
+
+put-fixed : {W : Type 0} (n : ℕ) (g : ℕ → ℕ) → Keeps n g → (w : ℕ) (x : Put W) → w + length (flatMap putOf (x ∷ [])) ≤ n
+    → mapPut g (mapPut (λ b. w) x) ≡ mapPut (λ b. w) x
+unfolding flatMap putOf mapPut
+put-fixed n g p w (Put.byte b) le = ap Put.byte (p w (omega arith))
+put-fixed n g p w (Put.word q v) le = refl
+
+module _ {H W L : Type 0} (h w : ℕ) (c : Placed H W L) where
+  call-fixed : (f g : ℕ → ℕ) → Keeps (h + length (hostOf c)) f → Keeps (w + length (writtenOf c)) g → mapPlaced f g itself (numbered h w c) ≡ numbered h w c
+  unfolding mapPlaced numbered writtenOf
+  call-fixed f g p q =
+      changed-twice _ _ _ _ _ _ _ _ _ c (λ x r. put-fixed _ g q w x (ap-le r)) (upFrom-fixed _ f p h (length (hostOf c)) (omega arith)) (λ l. map-id _)
+    where
+      ap-le : {x : Put W} → writesOf c ≡ x ∷ [] → w + length (flatMap putOf (x ∷ [])) ≤ w + length (flatMap putOf (writesOf c))
+      ap-le {x} r = rw r (omega arith)
+
+-- ---- a list of numbered calls
+
+-- a state that holds no number from the counts on
+abbrev pub Fixed : ℕ → ℕ → Uart ℕ ℕ → Type 0
+Fixed h w u = (f g : ℕ → ℕ) → Keeps h f → Keeps w g → mapUart f g u ≡ u
+
+module _ {H W L : Type 0} (h w : ℕ) (c : Placed H W L) (u : Uart ℕ ℕ) (k : Fixed h w u) where
+  step-fixed : (f g : ℕ → ℕ) → Keeps (h + length (hostOf c)) f → Keeps (w + length (writtenOf c)) g
+      → mapStep f g itself (stepPlaced (numbered h w c) u) ≡ stepPlaced (numbered h w c) u
+  step-fixed f g p q =
+      sym (stepPlaced-nat f g itself (numbered h w c) u) ∙ ap₂ stepPlaced (call-fixed h w c f g p q) (k f g (λ n l. p n (omega arith)) (λ n l. q n (omega arith)))
+
+  state-fixed : Fixed (h + length (hostOf c)) (w + length (writtenOf c)) (stepPlaced (numbered h w c) u .state)
+  unfolding mapStep
+  state-fixed f g p q = ap (λ s. s .state) (step-fixed f g p q)
+
+  answer-below : Below (h + length (hostOf c)) (w + length (writtenOf c)) (stepPlaced (numbered h w c) u .answer)
+  unfolding mapStep mapAnswer
+  answer-below =
+      record {
+        read = all-below _ _ (sym (bytesRead-nat _ _ itself _) ∙ ap (λ s. bytesRead (s .answer .reply)) fixed);
+        sent = all-below _ _ (sym (bytesSent-nat _ _ itself _) ∙ ap (λ s. bytesSent (s .answer .reply)) fixed);
+      }
+    where
+      fixed : mapStep (shifted (h + length (hostOf c))) (shifted (w + length (writtenOf c))) itself (stepPlaced (numbered h w c) u) ≡ stepPlaced (numbered h w c) u
+      fixed = step-fixed _ _ (shifted-keeps _) (shifted-keeps _)
+
+module _ (fifo : ℕ) (others : List ℕ) where
+  pub run-below : (h w : ℕ) (cs : List Request) (u : Uart ℕ ℕ) → Fixed h w u → EachBelow fifo h w cs (runBy stepPlaced (number h w (map (placed (fifo ∷ others)) cs)) u)
+  unfolding runBy number
+  run-below h w [] u k = EachBelow.nil
+  run-below h w (c ∷ cs) u k =
+      EachBelow.cons
+      (subst₂ (λ i j. Below (h + length i) (w + length j) (next .answer)) (host-of-placed (fifo ∷ others) c) (written-of-placed fifo others c) (answer-below h w pc u k))
+      (subst₂ (λ i j. EachBelow fifo (h + length i) (w + length j) cs further) (host-of-placed (fifo ∷ others) c) (written-of-placed fifo others c)
+      (run-below (h + length (hostOf pc)) (w + length (writtenOf pc)) cs (next .state) (state-fixed h w pc u k)))
+    where
+      pc : Placed ℕ ℕ ℕ
+      pc = placed (fifo ∷ others) c
+
+      next : Step ℕ ℕ (Unit {0})
+      next = stepPlaced (numbered h w pc) u
+
+      further : List Bare
+      further = runBy stepPlaced (number (h + length (hostOf pc)) (w + length (writtenOf pc)) (map (placed (fifo ∷ others)) cs)) (next .state)
+
+-- ---- on a first part of the list
+
+all-weaken : {n m : ℕ} → n ≤ m → (l : List ℕ) → All (λ k. k < n) l → All (λ k. k < m) l
+all-weaken le [] All.nil = All.nil
+all-weaken le (k ∷ l) (All.cons p ps) = All.cons (le-trans p le) (all-weaken le l ps)
+
+below-weaken : {h w h′ w′ : ℕ} {a : Bare} → h ≤ h′ → w ≤ w′ → Below h w a → Below h′ w′ a
+below-weaken p q b = record { read = all-weaken p _ (b .read); sent = all-weaken q _ (b .sent) }
+
+-- the answers to the first calls of a list hold only numbers of bytes that these calls give
+pub first-below : (fifo h w : ℕ) (front back : List Request) {t : List Bare} → EachBelow fifo h w (front ++ back) t
+    → All (Below (h + length (hostGiven front)) (w + length (fifoWritten fifo front))) (take (length front) t)
+unfolding flatMap
+first-below fifo h w [] back bs = All.nil
+first-below fifo h w (c ∷ front) back (EachBelow.cons {t = t} b bs) =
+    rw (length-append (hostOf c) (hostGiven front), length-append (fifoBytesOf fifo c) (fifoWritten fifo front), ← add-assoc h _ _, ← add-assoc w _ _)
+    (All.cons (below-weaken (omega arith) (omega arith) b) (first-below fifo _ _ front back bs))

@@ -1,0 +1,186 @@
+-- Settling and arming look into no byte: each commutes with a change of bytes. Assumes nothing.
+use mathlib.Core.Path.{_≡_, refl, sym, ap, ap₂, _∙_}
+use Prim.Native.Nat.{ℕ, zero, suc, _+_, _*_}
+use mathlib.Core.Bool.{Bool, true, false}
+use mathlib.Core.Option.{Option, none, some}
+use mathlib.Core.List.{List, [], _∷_, map, map-append}
+use lib.Dec.{leb}
+use lib.ListN.{take, drop, length-map}
+use Rattle.model.specs.Numbers.{choose}
+use Rattle.model.specs.State.{Sent, Run, OnTheLine, Uart, lineOf, withLineOf, mapSent, mapOnTheLine, mapReceiving, mapUart}
+use Rattle.model.specs.Line.{frame}
+use Rattle.model.specs.Settle.{gone, leave, depart, Pass, received, nothingDue, timedOut, landed, inFrame, begun, beforeStart, idle, lineFree, passOn, pass, Settled, goesOn, onTheLine, counted, passesFrom, pending, begin, passes, levels, leveled, settingsOf, settleTo, settle}
+use Rattle.model.specs.Arm.{nthGone, firstGone, lastGone, belowThresholdAt, nextStart, landingOf, nextLanding, instants, arm}
+use Rattle.model.specs.declared.Fate.{Fate}
+use Rattle.model.specs.declared.Fate.the-variants.{Stored, Overflowed, Cleared, ClockOff, Unheard}
+use Rattle.model.specs.declared.Settings.{Settings}
+use Rattle.model.specs.Laws.Choose.{choose-nat}
+use Rattle.model.specs.Laws.Lists.{map-take, map-drop}
+
+unfoldable pub mapPass : {H H′ W W′ : Type 0} → (H → H′) → (W → W′) → Pass H W → Pass H′ W′
+mapPass f g p = record { found = p .found; state = mapUart f g (p .state) }
+
+unfoldable pub mapSettled : {H H′ W W′ : Type 0} → (H → H′) → (W → W′) → Settled H W → Settled H′ W′
+mapSettled f g t = record { state = mapUart f g (t .state); passes = t .passes; overflows = t .overflows }
+
+module _ {W W′ : Type 0} (g : W → W′) where
+  gone-nat : (date : ℕ) (ss : List (Sent W)) → gone date (map (mapSent g) ss) ≡ gone date ss
+  unfolding gone
+  gone-nat date [] = refl
+  gone-nat date (s ∷ ss) = ap (λ n. elim (leb (s .goneAt) date) as (λ b. ℕ) [ true ↦ suc n | false ↦ zero ]) (gone-nat date ss)
+
+  pub bytes-nat : (ss : List (Sent W)) → map (λ s. s .byte) (map (mapSent g) ss) ≡ map g (map (λ s. s .byte) ss)
+  bytes-nat [] = refl
+  bytes-nat (s ∷ ss) = ap (λ r. g (s .byte) ∷ r) (bytes-nat ss)
+
+  nthGone-nat : (n : ℕ) (ss : List (Sent W)) → nthGone n (map (mapSent g) ss) ≡ nthGone n ss
+  unfolding nthGone
+  nthGone-nat n [] = refl
+  nthGone-nat zero (s ∷ ss) = refl
+  nthGone-nat (suc n) (s ∷ ss) = nthGone-nat n ss
+
+  pub lastGone-nat : (ss : List (Sent W)) → lastGone (map (mapSent g) ss) ≡ lastGone ss
+  unfolding lastGone
+  lastGone-nat ss = rw (length-map ss (mapSent g)) (nthGone-nat _ ss)
+
+module _ {H H′ : Type 0} (f : H → H′) where
+  received-nat : (k : Fate) (b : H) (held : List H) → received k (f b) (map f held) ≡ map f (received k b held)
+  unfolding received
+  received-nat Stored b held = sym (map-append f held (b ∷ []))
+  received-nat Overflowed b held = refl
+  received-nat Cleared b held = refl
+  received-nat ClockOff b held = refl
+  received-nat Unheard b held = refl
+
+  onTheLine-nat : (l : Option (OnTheLine H)) → onTheLine (mapReceiving f l) ≡ onTheLine l
+  unfolding onTheLine mapReceiving
+  onTheLine-nat none = refl
+  onTheLine-nat (some l) = refl
+
+  nextStart-nat : (free : ℕ) (rs : List Run) (bs : List H) → nextStart free rs (map f bs) ≡ nextStart free rs bs
+  unfolding nextStart
+  nextStart-nat free [] bs = refl
+  nextStart-nat free (r ∷ rs) [] = refl
+  nextStart-nat free (r ∷ rs) (b ∷ bs) = refl
+
+module _ {H H′ W W′ : Type 0} (f : H → H′) (g : W → W′) where
+  -- ---- departures
+
+  leave-nat : (n : ℕ) (u : Uart H W) → leave n (mapUart f g u) ≡ mapUart f g (leave n u)
+  unfolding leave
+  leave-nat n u = simp (map-append g, ← map-take (mapSent g), map-drop (mapSent g), bytes-nat g)
+
+  depart-nat : (date : ℕ) (u : Uart H W) → depart date (mapUart f g u) ≡ mapUart f g (depart date u)
+  unfolding depart
+  depart-nat date u = rw (gone-nat g date (u .inFlight), length-map (u .inFlight) (mapSent g)) (ap (withLineOf _) (leave-nat _ u))
+
+  -- ---- one pass
+
+  module _ (s : Settings) where
+    nothingDue-nat : (u : Uart H W) → nothingDue (mapUart f g u) ≡ mapPass f g (nothingDue u)
+    unfolding nothingDue mapPass
+    nothingDue-nat u = refl
+
+    timedOut-nat : (u : Uart H W) → timedOut s (mapUart f g u) ≡ mapPass f g (timedOut s u)
+    unfolding timedOut mapPass
+    timedOut-nat u = rw (length-map (u .rx) f)
+
+    landed-nat : (k : Fate) (l : OnTheLine H) (u : Uart H W) → landed s k (mapOnTheLine f l) (mapUart f g u) ≡ mapPass f g (landed s k l u)
+    unfolding landed mapPass mapReceiving
+    landed-nat k l u = rw (received-nat f k (l .byte) (u .rx))
+
+    inFrame-nat : (date : ℕ) (l : OnTheLine H) (u : Uart H W) → inFrame s date (mapOnTheLine f l) (mapUart f g u) ≡ mapPass f g (inFrame s date l u)
+    unfolding inFrame
+    inFrame-nat date l u =
+        rw (length-map (u .rx) f) (choose-nat (mapPass f g) _ (timedOut-nat u) (choose-nat (mapPass f g) _ (nothingDue-nat u) (landed-nat _ l u)))
+
+    begun-nat : (at : ℕ) (b : H) (bs : List H) (u : Uart H W) → begun s at (f b) (map f bs) (mapUart f g u) ≡ mapUart f g (begun s at b bs u)
+    unfolding begun mapReceiving
+    begun-nat at b bs u = refl
+
+    beforeStart-nat : (date at : ℕ) (b : H) (bs : List H) (u : Uart H W) → beforeStart s date at (f b) (map f bs) (mapUart f g u) ≡ mapPass f g (beforeStart s date at b bs u)
+    unfolding beforeStart
+    beforeStart-nat date at b bs u =
+        choose-nat (mapPass f g) _ (timedOut-nat u) (choose-nat (mapPass f g) _ (nothingDue-nat u)
+        (ap (inFrame s date _) (begun-nat at b bs u) ∙ inFrame-nat date (record { byte = b; frame = frame s }) (begun s at b bs u)))
+
+    idle-nat : (date : ℕ) (u : Uart H W) → idle s date (mapUart f g u) ≡ mapPass f g (idle s date u)
+    unfolding idle
+    idle-nat date u = choose-nat (mapPass f g) _ (timedOut-nat u) (nothingDue-nat u)
+
+    lineFree-nat : (date : ℕ) (rs : List Run) (bs : List H) (u : Uart H W) → lineFree s date rs (map f bs) (mapUart f g u) ≡ mapPass f g (lineFree s date rs bs u)
+    unfolding lineFree
+    lineFree-nat date [] bs u = idle-nat date u
+    lineFree-nat date (r ∷ rs) [] u = idle-nat date u
+    lineFree-nat date (r ∷ rs) (b ∷ bs) u = beforeStart-nat date _ b bs u
+
+    passOn-nat : (date : ℕ) (l : Option (OnTheLine H)) (u : Uart H W) → passOn s date (mapReceiving f l) (mapUart f g u) ≡ mapPass f g (passOn s date l u)
+    unfolding passOn mapReceiving
+    passOn-nat date none u = lineFree-nat date (u .hostRuns) (u .host) u
+    passOn-nat date (some l) u = inFrame-nat date l u
+
+    pass-nat : (date : ℕ) (u : Uart H W) → pass s date (mapUart f g u) ≡ mapPass f g (pass s date u)
+    unfolding pass
+    pass-nat date u = passOn-nat date (u .receiving) u
+
+    -- ---- pass by pass
+
+    counted-nat : (t : Settled H W) (p : Pass H W) → counted (mapSettled f g t) (mapPass f g p) ≡ mapSettled f g (counted t p)
+    unfolding counted mapSettled mapPass
+    counted-nat t p = refl
+
+    found-nat : (date : ℕ) (u : Uart H W) → pass s date (mapUart f g u) .found ≡ pass s date u .found
+    unfolding mapPass
+    found-nat date u = ap (λ p. p .found) (pass-nat date u)
+
+    passesFrom-nat : (date k : ℕ) (more : Bool) (t : Settled H W) → passesFrom s date k more (mapSettled f g t) ≡ mapSettled f g (passesFrom s date k more t)
+    unfolding passesFrom mapSettled
+    passesFrom-nat date zero false t = refl
+    passesFrom-nat date zero true t = refl
+    passesFrom-nat date (suc k) false t = refl
+    passesFrom-nat date (suc k) true t =
+        ap₂ (λ m r. passesFrom s date k m r) (ap goesOn (found-nat date (t .state))) (ap (counted (mapSettled f g t)) (pass-nat date (t .state)) ∙ counted-nat t _)
+        ∙ passesFrom-nat date k _ (counted t (pass s date (t .state)))
+
+  pub pending-nat : (u : Uart H W) → pending (mapUart f g u) ≡ pending u
+  unfolding pending
+  pending-nat u = ap₂ _+_ (length-map (u .host) f) (onTheLine-nat f (u .receiving))
+
+  passes-nat : (s : Settings) (date : ℕ) (u : Uart H W) → passes s date (mapUart f g u) ≡ mapSettled f g (passes s date u)
+  unfolding passes begin mapSettled
+  passes-nat s date u = ap (λ n. passesFrom s date (2 * n + 2) true (begin (mapUart f g u))) (pending-nat u) ∙ passesFrom-nat s date _ true (begin u)
+
+  -- ---- levels and the interrupt
+
+  pub levels-nat : (u : Uart H W) → levels (mapUart f g u) ≡ mapUart f g (levels u)
+  unfolding levels
+  levels-nat u = rw (length-map (u .rx) f, length-map (u .inFlight) (mapSent g))
+
+  leveled-nat : (t : Settled H W) → leveled (mapSettled f g t) ≡ mapSettled f g (leveled t)
+  unfolding leveled mapSettled
+  leveled-nat t = ap (λ v. record { state = v; passes = t .passes; overflows = t .overflows }) (levels-nat (t .state))
+
+  settleTo-nat : (date : ℕ) (u : Uart H W) → settleTo date (mapUart f g u) ≡ mapSettled f g (settleTo date u)
+  unfolding settleTo settingsOf
+  settleTo-nat date u = ap leveled (ap (passes _ date) (depart-nat date u) ∙ passes-nat _ date (depart date u)) ∙ leveled-nat _
+
+  pub settle-nat : (now : ℕ) (u : Uart H W) → settle now (mapUart f g u) ≡ mapSettled f g (settle now u)
+  unfolding settle
+  settle-nat now u = settleTo-nat _ u
+
+  -- ---- arming
+
+  landingOf-nat : (time : ℕ) (l : Option (OnTheLine H)) (u : Uart H W) → landingOf time (mapReceiving f l) (mapUart f g u) ≡ landingOf time l u
+  unfolding landingOf mapReceiving
+  landingOf-nat time none u = rw (nextStart-nat f (lineOf u .«line_free_at») (u .hostRuns) (u .host))
+  landingOf-nat time (some l) u = refl
+
+  instants-nat : (u : Uart H W) → instants (mapUart f g u) ≡ instants u
+  unfolding instants nextLanding settingsOf belowThresholdAt firstGone
+  instants-nat u =
+      rw (landingOf-nat (settingsOf u .«byte_time») (u .receiving) u, lastGone-nat g (u .inFlight), length-map (u .inFlight) (mapSent g))
+      (rw (nthGone-nat g 0 (u .inFlight), nthGone-nat g _ (u .inFlight)))
+
+  pub arm-nat : (u : Uart H W) → arm (mapUart f g u) ≡ mapUart f g (arm u)
+  unfolding arm
+  arm-nat u = rw (instants-nat u)

@@ -1,0 +1,239 @@
+-- A list of calls with the numbers of its bytes in their place: the bytes looked up give the list back, and alike lists
+-- have one numbering. Assumes nothing.
+use mathlib.Core.Path.{_≡_, refl, sym, ap, ap₂, subst, _∙_}
+use Prim.Native.Nat.{ℕ, zero, suc, _+_, _%_}
+use native.Mathlib.Nat.{add-zero, suc-ne-zero, suc-inj}
+use mathlib.Core.Bool.{Bool, true, false}
+use mathlib.Core.List.{List, [], _∷_, _++_, map, flatMap, map-id}
+use lib.Dec.{eqb}
+use lib.ListN.{length, getD, drop}
+use lib.Seq.{getD-drop, drop-drop, drop-append-seam}
+use borrow.Author.Tests.{eq-eqb}
+use Rattle.model.specs.Numbers.{choose}
+use Rattle.model.specs.Registers.{placeAmong, placeOf}
+use Rattle.model.specs.Limits.{All, nil, cons}
+use Rattle.model.specs.Call.{Call, Written, Request}
+use Rattle.model.specs.TwoRuns.Placed.{Put, Placed, changed, putAt, placed}
+use Rattle.model.specs.TwoRuns.Alike.{Each, Alike, same, hostBytes, fifoWord, lentToTakeTx, lentToTakeWritten, hostOf, writesOf, fifoByte, hostGiven, fifoWritten, itself, forget}
+use Rattle.model.specs.TwoRuns.NaturalCalls.{mapPut, mapPlaced}
+use Rattle.model.specs.declared.Place.{Place}
+use Rattle.model.specs.declared.Place.the-variants.{Fifo, IntRaw, IntSt, IntEna, IntClr, Clkdiv, Status, FsmStatus, Conf0, Conf1, ClkConf, IdleConf, Rs485Conf, AtCmdChar, MemConf, MemRxStatus, Unknown}
+
+-- ---- laws of a call with other parts
+
+module _ {R X X′ X″ H H′ H″ L L′ L″ : Type 0} (x : X → X′) (h : List H → List H′) (l : List L → List L′)
+    (x′ : X′ → X″) (h′ : List H′ → List H″) (l′ : List L′ → List L″) (x″ : X → X″) (h″ : List H → List H″) (l″ : List L → List L″) where
+  -- two changes are one where they are on what the call writes, gives and lends
+  pub changed-twice : (c : Call R X H L) → ((a : X) → writesOf c ≡ a ∷ [] → x′ (x a) ≡ x″ a) → h′ (h (hostOf c)) ≡ h″ (hostOf c) → ((bs : List L) → l′ (l bs) ≡ l″ bs)
+      → changed itself x′ h′ l′ (changed itself x h l c) ≡ changed itself x″ h″ l″ c
+  unfolding changed writesOf hostOf
+  changed-twice (Call.read now a) p q s = refl
+  changed-twice (Call.write now a) p q s = ap (Call.write now) (p a refl)
+  changed-twice (Call.receive now at bs) p q s = ap (Call.receive now at) q
+  changed-twice (Call.wake now) p q s = refl
+  changed-twice (Call.reset now) p q s = refl
+  changed-twice (Call.powerDown now) p q s = refl
+  changed-twice (Call.watch now b) p q s = refl
+  changed-twice (Call.clockChange now per) p q s = refl
+  changed-twice (Call.takeTx now lent) p q s = ap (Call.takeTx now) (s lent)
+  changed-twice (Call.takeWritten lent) p q s = ap Call.takeWritten (s lent)
+  changed-twice Call.hasLeft p q s = refl
+  changed-twice Call.hostPending p q s = refl
+
+module _ {R R′ X X′ H L : Type 0} (r : R → R′) (x : X → X′) where
+  host-kept : (c : Call R X H L) → hostOf (changed r x itself itself c) ≡ hostOf c
+  unfolding changed hostOf
+  host-kept (Call.read now a) = refl
+  host-kept (Call.write now a) = refl
+  host-kept (Call.receive now at bs) = refl
+  host-kept (Call.wake now) = refl
+  host-kept (Call.reset now) = refl
+  host-kept (Call.powerDown now) = refl
+  host-kept (Call.watch now b) = refl
+  host-kept (Call.clockChange now p) = refl
+  host-kept (Call.takeTx now lent) = refl
+  host-kept (Call.takeWritten lent) = refl
+  host-kept Call.hasLeft = refl
+  host-kept Call.hostPending = refl
+
+  writes-changed : (c : Call R X H L) → writesOf (changed r x itself itself c) ≡ map x (writesOf c)
+  unfolding changed writesOf
+  writes-changed (Call.read now a) = refl
+  writes-changed (Call.write now a) = refl
+  writes-changed (Call.receive now at bs) = refl
+  writes-changed (Call.wake now) = refl
+  writes-changed (Call.reset now) = refl
+  writes-changed (Call.powerDown now) = refl
+  writes-changed (Call.watch now b) = refl
+  writes-changed (Call.clockChange now p) = refl
+  writes-changed (Call.takeTx now lent) = refl
+  writes-changed (Call.takeWritten lent) = refl
+  writes-changed Call.hasLeft = refl
+  writes-changed Call.hostPending = refl
+
+-- ---- the places other than FIFO
+
+abbrev pub otherPlaces : List Place
+otherPlaces = IntRaw ∷ IntSt ∷ IntEna ∷ IntClr ∷ Clkdiv ∷ Status ∷ FsmStatus ∷ Conf0 ∷ Conf1 ∷ ClkConf ∷ IdleConf ∷ Rs485Conf ∷ AtCmdChar ∷ MemConf ∷ MemRxStatus ∷ []
+
+module _ (fifo : ℕ) (others : List ℕ) where
+  -- what holds of every other place holds where the offset is not FIFO's
+  pub other-place : (P : Place → Type 0) → P Unknown → All P otherPlaces → (o : ℕ) → eqb o fifo ≡ false → P (placeOf (fifo ∷ others) o)
+  unfolding placeOf placeAmong choose
+  other-place P u ps o e = subst (λ b. P (choose b Fifo (placeAmong o others otherPlaces))) (sym e) (among otherPlaces others ps)
+    where
+      pick : (b : Bool) {p q : Place} → P p → P q → P (choose b p q)
+      pick true hp hq = hp
+      pick false hp hq = hq
+
+      among : (qs : List Place) (os : List ℕ) → All P qs → P (placeAmong o os qs)
+      among [] [] hs = u
+      among [] (o′ ∷ os) hs = u
+      among (q ∷ qs) [] hs = u
+      among (q ∷ qs) (o′ ∷ os) (cons h hs) = pick (eqb o o′) h (among qs os hs)
+
+  pub fifo-place : (o : ℕ) → eqb o fifo ≡ true → placeOf (fifo ∷ others) o ≡ Fifo
+  unfolding placeOf placeAmong choose
+  fifo-place o e = ap (λ b. choose b Fifo (placeAmong o others otherPlaces)) e
+
+-- ---- the numbered list
+
+unfoldable pub putOf : {W : Type 0} → Put W → List W
+putOf (Put.byte b) = b ∷ []
+putOf (Put.word p v) = []
+
+unfoldable pub writtenOf : {H W L : Type 0} → Placed H W L → List W
+writtenOf c = flatMap putOf (writesOf c)
+
+-- so many numbers, from n on
+unfoldable pub upFrom : ℕ → ℕ → List ℕ
+upFrom n zero = []
+upFrom n (suc k) = n ∷ upFrom (n + 1) k
+
+-- a call whose first host byte has the number h and whose FIFO write has the number w
+unfoldable pub numbered : {H W L : Type 0} → ℕ → ℕ → Placed H W L → Placed ℕ ℕ (Unit {0})
+numbered h w c = changed itself (mapPut (λ b. w)) (λ bs. upFrom h (length bs)) (map forget) c
+
+unfoldable pub number : {H W L : Type 0} → ℕ → ℕ → List (Placed H W L) → List (Placed ℕ ℕ (Unit {0}))
+number h w [] = []
+number h w (c ∷ cs) = numbered h w c ∷ number (h + length (hostOf c)) (w + length (writtenOf c)) cs
+
+-- ---- the bytes of a caller's list are those of the placed one
+
+flatMap-map : {A B C : Type 0} (k : B → List C) (x : A → B) (k′ : A → List C) → ((a : A) → k (x a) ≡ k′ a) → (l : List A) → flatMap k (map x l) ≡ flatMap k′ l
+unfolding flatMap
+flatMap-map k x k′ p [] = refl
+flatMap-map k x k′ p (a ∷ l) = ap₂ _++_ (p a) (flatMap-map k x k′ p l)
+
+pub host-of-placed : (offsets : List ℕ) (c : Request) → hostOf (placed offsets c) ≡ hostOf c
+unfolding placed
+host-of-placed offsets c = host-kept _ _ c
+
+pub host-placed : (offsets : List ℕ) (cs : List Request) → flatMap hostOf (map (placed offsets) cs) ≡ hostGiven cs
+host-placed offsets cs = flatMap-map hostOf (placed offsets) hostOf (host-of-placed offsets) cs
+
+module _ (fifo : ℕ) (others : List ℕ) where
+  put-placed : (x : Written) → putOf (putAt (placeOf (fifo ∷ others) (x .offset)) (x .value)) ≡ fifoByte fifo x
+  unfolding fifoByte choose putOf putAt
+  put-placed x = go (eqb (x .offset) fifo) refl
+    where
+      go : (b : Bool) → eqb (x .offset) fifo ≡ b → putOf (putAt (placeOf (fifo ∷ others) (x .offset)) (x .value)) ≡ choose b (x .value % 256 ∷ []) []
+      go true e = ap (λ p. putOf (putAt p (x .value))) (fifo-place fifo others (x .offset) e)
+      go false e =
+          other-place fifo others (λ p. putOf (putAt p (x .value)) ≡ []) refl
+          (cons refl (cons refl (cons refl (cons refl (cons refl (cons refl (cons refl (cons refl (cons refl (cons refl (cons refl (cons refl (cons refl (cons refl (cons refl nil)))))))))))))))
+          (x .offset) e
+
+  pub written-of-placed : (c : Request) → writtenOf (placed (fifo ∷ others) c) ≡ flatMap (fifoByte fifo) (writesOf c)
+  unfolding writtenOf placed
+  written-of-placed c = ap (flatMap putOf) (writes-changed _ _ c) ∙ flatMap-map putOf _ (fifoByte fifo) put-placed (writesOf c)
+
+  pub written-placed : (cs : List Request) → flatMap writtenOf (map (placed (fifo ∷ others)) cs) ≡ fifoWritten fifo cs
+  written-placed cs = flatMap-map writtenOf (placed (fifo ∷ others)) _ written-of-placed cs
+
+-- ---- the bytes looked up by their numbers give the list back
+
+module _ {A : Type 0} (d : A) (all : List A) where
+  head-back : (n : ℕ) (b : A) (rest : List A) → drop n all ≡ b ∷ rest → getD all n d ≡ b
+  head-back n b rest e = ap (λ k. getD all k d) (sym (add-zero n)) ∙ sym (getD-drop n all 0 d) ∙ ap (λ l. getD l 0 d) e
+
+  upFrom-back : (n : ℕ) (bs rest : List A) → drop n all ≡ bs ++ rest → map (λ k. getD all k d) (upFrom n (length bs)) ≡ bs
+  unfolding upFrom
+  upFrom-back n [] rest e = refl
+  upFrom-back n (b ∷ bs) rest e = ap₂ (λ x t. x ∷ t) (head-back n b (bs ++ rest) e) (upFrom-back (n + 1) bs rest (sym (drop-drop 1 n all) ∙ ap (drop 1) e))
+
+  past : (n : ℕ) (bs rest : List A) → drop n all ≡ bs ++ rest → drop (n + length bs) all ≡ rest
+  past n bs rest e = sym (drop-drop (length bs) n all) ∙ ap (drop (length bs)) e ∙ drop-append-seam bs rest
+
+  put-back : (n : ℕ) (x : Put A) (rest : List A) → drop n all ≡ flatMap putOf (x ∷ []) ++ rest → mapPut (λ k. getD all k d) (mapPut (λ b. n) x) ≡ mapPut itself x
+  unfolding flatMap putOf mapPut
+  put-back n (Put.byte b) rest e = ap Put.byte (head-back n b rest e)
+  put-back n (Put.word p v) rest e = refl
+
+module _ {H W L : Type 0} (d : H) (e : W) (hs : List H) (ws : List W) where
+  -- of the lent bytes only their count stays
+  call-back : (n m : ℕ) (c : Placed H W L) (h : List H) (w : List W) → drop n hs ≡ hostOf c ++ h → drop m ws ≡ writtenOf c ++ w
+      → mapPlaced (λ k. getD hs k d) (λ k. getD ws k e) itself (numbered n m c) ≡ mapPlaced itself itself forget c
+  unfolding mapPlaced numbered writtenOf
+  call-back n m c h w p q =
+      changed-twice _ _ _ _ _ _ _ _ _ c
+      (λ x r. put-back e ws m x w (q ∙ ap (λ l. flatMap putOf l ++ w) r))
+      (upFrom-back d hs n (hostOf c) h p ∙ sym (map-id (hostOf c)))
+      (λ l. map-id (map forget l))
+
+  pub calls-back : (n m : ℕ) (cs : List (Placed H W L)) → drop n hs ≡ flatMap hostOf cs → drop m ws ≡ flatMap writtenOf cs
+      → map (mapPlaced (λ k. getD hs k d) (λ k. getD ws k e) itself) (number n m cs) ≡ map (mapPlaced itself itself forget) cs
+  unfolding number flatMap
+  calls-back n m [] p q = refl
+  calls-back n m (c ∷ cs) p q =
+      ap₂ (λ x t. x ∷ t) (call-back n m c (flatMap hostOf cs) (flatMap writtenOf cs) p q)
+      (calls-back (n + length (hostOf c)) (m + length (writtenOf c)) cs (past d hs n (hostOf c) (flatMap hostOf cs) p) (past e ws m (writtenOf c) (flatMap writtenOf cs) q))
+
+-- ---- alike lists have one numbering
+
+forget-alike : (s t : List ℕ) → length s ≡ length t → map forget s ≡ map forget t
+unfolding forget
+forget-alike [] [] e = refl
+forget-alike [] (b ∷ t) e = absurd (suc-ne-zero _ (sym e))
+forget-alike (a ∷ s) [] e = absurd (suc-ne-zero _ e)
+forget-alike (a ∷ s) (b ∷ t) e = ap (λ r. tt ∷ r) (forget-alike s t (suc-inj e))
+
+module _ (fifo : ℕ) (others : List ℕ) where
+  -- at FIFO's offset every word becomes a byte
+  put-fifo : (v : ℕ) → putAt (placeOf (fifo ∷ others) fifo) v ≡ Put.byte (v % 256)
+  unfolding putAt
+  put-fifo v = ap (λ p. putAt p v) (fifo-place fifo others fifo (eq-eqb fifo fifo refl))
+
+  module _ (h w : ℕ) where
+    call-alike : {c d : Request} → Alike fifo c d → numbered h w (placed (fifo ∷ others) c) ≡ numbered h w (placed (fifo ∷ others) d)
+    unfolding numbered placed changed mapPut
+    call-alike same = refl
+    call-alike (hostBytes {now = now} {at = at} e) = ap (λ k. Call.receive now at (upFrom h k)) e
+    call-alike (fifoWord {now = now} {v = v} {v′ = v′}) =
+        ap (λ x. Call.write now (mapPut (λ b. w) x)) (put-fifo v) ∙ ap (λ x. Call.write now (mapPut (λ b. w) x)) (sym (put-fifo v′))
+    call-alike (lentToTakeTx {now = now} {lent = l} {lent′ = l′} e) = ap (Call.takeTx now) (forget-alike l l′ e)
+    call-alike (lentToTakeWritten {lent = l} {lent′ = l′} e) = ap Call.takeWritten (forget-alike l l′ e)
+
+  host-alike : {c d : Request} → Alike fifo c d → length (hostOf (placed (fifo ∷ others) c)) ≡ length (hostOf (placed (fifo ∷ others) d))
+  unfolding placed changed hostOf
+  host-alike same = refl
+  host-alike (hostBytes e) = e
+  host-alike fifoWord = refl
+  host-alike (lentToTakeTx e) = refl
+  host-alike (lentToTakeWritten e) = refl
+
+  written-alike : {c d : Request} → Alike fifo c d → length (writtenOf (placed (fifo ∷ others) c)) ≡ length (writtenOf (placed (fifo ∷ others) d))
+  unfolding writtenOf placed changed writesOf flatMap putOf
+  written-alike same = refl
+  written-alike (hostBytes e) = refl
+  written-alike (fifoWord {v = v} {v′ = v′}) = ap (λ x. length (putOf x ++ [])) (put-fifo v) ∙ ap (λ x. length (putOf x ++ [])) (sym (put-fifo v′))
+  written-alike (lentToTakeTx e) = refl
+  written-alike (lentToTakeWritten e) = refl
+
+  -- lists of calls that are alike are one list of numbered calls
+  pub calls-alike : (h w : ℕ) {cs ds : List Request} → Each (Alike fifo) cs ds → number h w (map (placed (fifo ∷ others)) cs) ≡ number h w (map (placed (fifo ∷ others)) ds)
+  unfolding number
+  calls-alike h w Each.nil = refl
+  calls-alike h w (Each.cons {a = c} {b = d} {m = ds} e es) =
+      ap₂ (λ x t. x ∷ t) (call-alike h w e)
+      (calls-alike _ _ es ∙ ap₂ (λ k l. number (h + k) (w + l) (map (placed (fifo ∷ others)) ds)) (host-alike e) (written-alike e))

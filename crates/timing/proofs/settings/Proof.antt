@@ -1,0 +1,44 @@
+-- `settings` meets its contract, field by field. Assumes nothing.
+use borrow.Author.Needs.{needs}
+use Rattle.model.specs.Timing.{settings}
+use Rattle.timing.proofs.settings.Statement.{statement}
+use Rattle.timing.proofs.settings.Tie as tie
+
+byte-time-requires : tie.Need-byte-time-requires
+byte-time-requires c κs = search needs
+
+timeout-time-requires : tie.Need-timeout-time-requires
+timeout-time-requires c κs = search needs
+
+unmodelled-source-requires : tie.Need-unmodelled-source-requires
+unmodelled-source-requires c κs = search needs
+
+rx-sclk-en-requires : tie.Need-rx-sclk-en-requires
+rx-sclk-en-requires c κs = search needs
+
+rx-tout-en-requires : tie.Need-rx-tout-en-requires
+rx-tout-en-requires c κs = search needs
+
+rxfifo-rst-requires : tie.Need-rxfifo-rst-requires
+rxfifo-rst-requires c κs = search needs
+
+dis-rx-dat-ovf-requires : tie.Need-dis-rx-dat-ovf-requires
+dis-rx-dat-ovf-requires c κs = search needs
+
+returns : tie.Need-returns
+unfolding settings
+returns c =
+    cc
+
+pub settings-spec : {M : Type 1} → statement M
+settings-spec =
+    tie.close
+    (tie.spec
+    byte-time-requires
+    timeout-time-requires
+    unmodelled-source-requires
+    rx-sclk-en-requires
+    rx-tout-en-requires
+    rxfifo-rst-requires
+    dis-rx-dat-ovf-requires
+    returns)

@@ -1,0 +1,108 @@
+// Line timing: how long a bit, a byte and the receive timeout last, in subcycles.
+// Carried over from inkemu's uart.rs and changed.
+pub mod fields;
+pub mod source;
+
+use model::Settings;
+use model::Words;
+ghost use mathlib.Core.Path.{_≡_};
+ghost use Prim.Native.Nat.{_≤_};
+ghost use Rattle.model.specs.Timing.{stopHalfBits, frameHalfBits};
+ghost use Rattle.model.specs.Timing.{divider as Timing·divider, sourceDivider};
+ghost use Rattle.model.specs.Timing.{halfBitTime, bitTime, byteTime, timeoutTime};
+ghost use Rattle.model.specs.Timing.{settings as Timing·settings};
+ghost use Rattle.model.specs.Tests.{periodLimit};
+
+fn wide(x: u32) -> u64
+    ensures { λ r. ⌜ r ≡ x ⌝ }
+{
+    x as u64
+}
+
+// Codes 0 and 1 count 2 half bits, 2 counts 3, 3 counts 4.
+fn stop_half_bits(code: u32) -> u64
+    ensures { λ r. ⌜ r ≡ stopHalfBits code ⌝ }
+{
+    match code {
+        0..=1 => 2,
+        2 => 3,
+        _ => 4,
+    }
+}
+
+// A frame in half bit times: a start bit, the data bits, the parity bit, the stop bits.
+pub fn frame_half_bits(conf0: u32) -> u64
+    ensures { λ r. ⌜ r ≡ frameHalfBits conf0 ⌝ }
+{
+    let data = wide(fields::bit_num(conf0));
+    let parity = wide(fields::parity_en(conf0));
+    let stop = stop_half_bits(fields::stop_bit_num(conf0));
+    2 * (1 + (5 + data) + parity) + stop
+}
+
+// CLKDIV in sixteenths.
+fn divider(clkdiv: u32) -> u64
+    ensures { λ r. ⌜ r ≡ Timing·divider clkdiv ⌝ }
+{
+    let integer = wide(fields::clkdiv_integer(clkdiv));
+    let frag = wide(fields::clkdiv_frag(clkdiv));
+    16 * integer + frag
+}
+
+fn source_divider(clk_conf: u32) -> u64
+    ensures { λ r. ⌜ r ≡ sourceDivider «clk_conf» ⌝ }
+{
+    wide(fields::sclk_div_num(clk_conf)) + 1
+}
+
+// Half a bit, in subcycles.
+pub fn half_bit_time(w: Words, period: u64) -> u64
+    requires { ⌜ period ≤ periodLimit ⌝ }
+    ensures { λ r. ⌜ r ≡ halfBitTime w period ⌝ }
+{
+    let clk_conf = w.clk_conf;
+    let by = divider(w.clkdiv);
+    let source_by = source_divider(clk_conf);
+    let source = source::source_period(clk_conf, period);
+    by * source_by * source
+}
+
+// A bit, in subcycles.
+pub fn bit_time(w: Words, period: u64) -> u64
+    requires { ⌜ period ≤ periodLimit ⌝ }
+    ensures { λ r. ⌜ r ≡ bitTime w period ⌝ }
+{
+    2 * half_bit_time(w, period)
+}
+
+// A byte, in subcycles.
+pub fn byte_time(w: Words, period: u64) -> u64
+    requires { ⌜ period ≤ periodLimit ⌝ }
+    ensures { λ r. ⌜ r ≡ byteTime w period ⌝ }
+{
+    frame_half_bits(w.conf0) * half_bit_time(w, period)
+}
+
+// The receive timeout, in subcycles.
+pub fn timeout_time(w: Words, period: u64) -> u64
+    requires { ⌜ period ≤ periodLimit ⌝ }
+    ensures { λ r. ⌜ r ≡ timeoutTime w period ⌝ }
+{
+    wide(fields::rx_tout_thrhd(w.mem_conf)) * bit_time(w, period)
+}
+
+// What the receiver reads of the registers and the clock.
+pub fn settings(w: Words, period: u64) -> Settings
+    requires { ⌜ period ≤ periodLimit ⌝ }
+    ensures { λ r. ⌜ r ≡ Timing·settings w period ⌝ }
+{
+    Settings {
+        byte_time: byte_time(w, period),
+        timeout_time: timeout_time(w, period),
+        source: source::unmodelled_source(w.clk_conf),
+        rx_sclk_en: fields::rx_sclk_en(w.clk_conf),
+        rx_tout_en: fields::rx_tout_en(w.conf1),
+        rxfifo_rst: fields::rxfifo_rst(w.conf0),
+        dis_rx_dat_ovf: fields::dis_rx_dat_ovf(w.conf1),
+    }
+}
