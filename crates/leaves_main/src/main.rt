@@ -1,6 +1,7 @@
 // Runs the leaves on document 01's figures and on the edges: 0, 1, the limit, one past it, all ones. A line for each.
 mod clocks;
 mod fields;
+mod queues;
 mod show;
 mod times;
 mod words;
@@ -13,4 +14,6 @@ fn main() {
     clocks::periods();
     clocks::deadlines();
     words::places();
+    queues::cursors();
+    queues::copies();
 }

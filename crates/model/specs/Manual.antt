@@ -1,5 +1,5 @@
 -- The UART chapter of the ESP32-C3 Technical Reference Manual, in numbers, fields and bits alone. The manual itself is not at
--- hand: each line rests on document 01 and uart.rs's comments. ManualHolds and ManualRegisters prove it of `step`. Assumes nothing.
+-- hand: each line rests on document 01 and uart.rs's comments. MeetsManual proves it of `step`. Assumes nothing.
 use Prim.Native.Nat.{ℕ, _+_, _*_}
 use mathlib.Core.Bool.{Bool, _&&_, not}
 use lib.Dec.{ltb, eqb}
