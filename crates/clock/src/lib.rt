@@ -1,6 +1,7 @@
 // The APB clock by its period in cycles. Carried over from inkemu's clock.rs and changed: the CPU's clock is left out.
 ghost use mathlib.Core.Path.{_≡_};
 ghost use Rattle.model.specs.Calls.{periodOf};
+ghost use Rattle.model.specs.SetUp.{powerOnPeriod};
 
 pub struct Clock {
     // Cycles in one APB clock cycle; at least 1.
@@ -13,6 +14,13 @@ impl Clock {
 
     // The clock after set-up: the crystal divided by 2.
     pub const POWER_ON: Clock = Clock { apb_period: 8 };
+
+    // The period of POWER_ON, in cycles.
+    pub fn power_on_period() -> u64
+        ensures { λ r. ⌜ r ≡ powerOnPeriod ⌝ }
+    {
+        Clock::POWER_ON.apb_period
+    }
 
     // A period of 0 counts as 1, the shortest there is.
     pub fn new(apb_period: u64) -> Clock

@@ -162,7 +162,7 @@ p4 = turns (filledUp ++ reading 100 STATUS (value 0x00800000) ∷ putting 100 FI
 
 -- the wake after P4
 unfoldable pub p5 : List Row
-p5 = turns (filledUp ++ putting 100 INT-CLR 2 (wakes 520) ∷ reading 100 INT-RAW (value 0) ∷ waking 520 (wakes 13960) ∷ reading 13960 INT-RAW (value 2) ∷ []) ∷ []
+p5 = turns (filledUp ++ putting 100 FIFO 0x42 overflow ∷ putting 100 INT-CLR 2 (wakes 520) ∷ reading 100 INT-RAW (value 0) ∷ waking 520 (wakes 13960) ∷ reading 13960 INT-RAW (value 2) ∷ []) ∷ []
 
 -- one byte received
 unfoldable pub p6 : List Row

@@ -1,7 +1,7 @@
 -- Set-up: a new UART from sixteen offsets and sixteen reset words. Assumes nothing.
 use Prim.Native.Nat.{ℕ, _^_}
 use mathlib.Core.Bool.{false}
-use mathlib.Core.Option.{none}
+use mathlib.Core.Option.{Option, none, some}
 use mathlib.Core.List.{List, []}
 use lib.ListN.{getD}
 use Rattle.model.specs.Numbers.{choose, without}
@@ -59,3 +59,7 @@ new offsets ws = record { map = mapOf offsets ws; control = newControl (wordsAmo
 
 unfoldable pub setUpReply : List ℕ → SetUp
 setUpReply offsets = choose (repeated offsets) (SetUp.Refused RepeatedOffset) SetUp.Ready
+
+-- the state of a new UART; a refused set-up returns none
+unfoldable pub setUp : {H W : Type 0} → List ℕ → List ℕ → Option (Uart H W)
+setUp offsets ws = choose (repeated offsets) none (some (new offsets ws))

@@ -1,10 +1,11 @@
--- `step` gives STATUS, INT_ST, INT_CLR and the five bits of INT_RAW as Manual.antt lays them down. Where a limit of the settled
--- state is needed it is a hypothesis. Assumes nothing.
-use mathlib.Core.Path.{_≡_, sym, ap, ap₂, _∙_}
+-- `step` gives STATUS, INT_ST, INT_CLR, the interrupt's level and the five bits of INT_RAW as Manual.antt lays them down.
+-- Assumes nothing.
+use mathlib.Core.Path.{_≡_, refl, sym, ap, ap₂, _∙_}
 use Prim.Native.Nat.{ℕ, _-_, _*_, _/_, _%_, _^_, _<_, _≤_}
 use native.Mathlib.Nat.{div-one}
 use native.Mathlib.Omega.{arith}
-use mathlib.Core.Bool.{Bool, _&&_, _||_}
+use mathlib.Core.Bool.{Bool, true, false, _&&_, _||_, not}
+use mathlib.Core.List.{List, [], _∷_}
 use lib.Dec.{eqb}
 use lib.ListN.{length}
 use lib.Bits.{bitAnd, bitOr, and-mod, and-shr, and-mask, or-mod, or-shr, or-zero-r}
@@ -12,19 +13,24 @@ use Rattle.model.specs.Numbers.{bit}
 use Rattle.model.specs.Manual
 use Rattle.model.specs.Manual.{RXFIFO-CNT, TXFIFO-CNT}
 use Rattle.model.specs.State.{Uart, lineOf}
-use Rattle.model.specs.Settle.{inFifo, aboveFull, belowEmpty, emptyThreshold, intStatus, settle, settlingDate}
+use Rattle.model.specs.Settle.{inFifo, aboveFull, belowEmpty, emptyThreshold, intStatus, drive, levels, leveled, settleTo, settle, settlingDate}
 use Rattle.model.specs.Arm.{arm}
-use Rattle.model.specs.Replies.{word}
-use Rattle.model.specs.Registers.{placeOf, loaded, looks, statusWord, gives, readPlace, readLooking, readAt, clearing, writePlace, concluded}
+use Rattle.model.specs.Replies.{word, report}
+use Rattle.model.specs.Registers.{placeOf, loaded, looks, statusWord, pop, gives, readPlace, readLooking, readAt, clearing, writePlace, concluded}
 use Rattle.model.specs.SetUp.{fifoCounts}
 use Rattle.model.specs.Calls.{afterSettling, dated, settledAt, readWork, writeWork}
 use Rattle.model.specs.Call.{Call, Written, reads}
 use Rattle.model.specs.Run.{Step, answering, step}
 use Rattle.model.specs.Limits.{Within}
+use Rattle.model.specs.Laws.PlaceCases.{readPlace-ind}
 use Rattle.model.specs.Laws.Bits.{bit-and, bit-without}
+use Rattle.model.specs.Keeps.Parts.{apart, together}
+use Rattle.model.specs.Keeps.Dated.{settledAt-parts}
 use Rattle.model.specs.MeetsManual.Rises.{rawBit, fullIn, emptyIn, levels-raise}
 use Rattle.model.specs.MeetsManual.FiveBits.{FiveBits, settling-rises}
 use Rattle.model.specs.MeetsManual.Answers.{settled, InTime, read-answer, clear-answer}
+use Rattle.model.specs.declared.Place.{Place}
+use Rattle.model.specs.declared.Unsupported.{Unsupported}
 use Rattle.model.specs.declared.Place.the-variants.{IntRaw, IntSt, IntEna, IntClr, Status}
 
 -- ---- STATUS
@@ -63,19 +69,38 @@ high-count idle flying held h l m =
     ∙ or-low (idle / 2 ^ 16) ((flying - 1) * 2 ^ 16 / 2 ^ 16) (held / 2 ^ 16) 10 {x = 0} {y = flying - 1} {z = 0} (high-clear idle h) (omega arith) (omega arith)
     ∙ or-zero-r (flying - 1)
 
+-- ---- the level
+
+pop-level : {H W : Type 0} (ns : List Unsupported) (bs : List H) (u : Uart H W) → pop ns bs u .state .control .level ≡ u .control .level
+unfolding pop
+pop-level ns [] u = refl
+pop-level ns (b ∷ bs) u = refl
+
+level-kept : {H W : Type 0} (look : Bool) (p : Place) (u : Uart H W) → readLooking look p u .state .control .level ≡ u .control .level
+unfolding readLooking gives
+level-kept true p u = readPlace-ind (λ a. a .state .control .level ≡ u .control .level) _ _ (pop-level _ (u .rx) _) (λ r. refl) p
+level-kept false p u = readPlace-ind (λ a. a .state .control .level ≡ u .control .level) [] u (pop-level [] (u .rx) u) (λ r. refl) p
+
 module _ (now : ℕ) (u : Uart ℕ ℕ) (t : InTime now u) where
   -- STATUS bits 0-9 are the bytes held, and bits 16-25 those in the transmit FIFO: all in flight but the one that is being sent
-  pub status-read : (offset : ℕ) → placeOf (u .map .offsets) offset ≡ Status → Within (settled now u)
+  pub status-read : (offset : ℕ) → placeOf (u .map .offsets) offset ≡ Status → Within u
       → (w : ℕ) × (step (Call.read now offset) u .answer .reply ≡ reads (word w))
       × (RXFIFO-CNT w ≡ length (settled now u .rx)) × (TXFIFO-CNT w ≡ length (settled now u .inFlight) - 1)
   unfolding answering readWork afterSettling readAt looks readLooking readPlace gives
-  status-read offset e limits =
-      let v : Uart ℕ ℕ = settled now u in (
+  status-read offset e within =
+      let v : Uart ℕ ℕ = settled now u in
+      let limits : Within v = together v (settledAt-parts now u (t .beforeEnd) (apart u within)) in (
         statusWord (v .map .«idle_status») (length (v .inFlight)) (length (v .rx)),
         ap (λ (s : Step ℕ ℕ ℕ). s .answer .reply) (read-answer t offset Status e),
         low-count _ _ (length (v .rx)) (limits .status) (limits .received),
         high-count _ (length (v .inFlight)) (length (v .rx)) (limits .status) (limits .received) (limits .flying),
       )
+
+  -- the level that a read reports is whether INT_ST is other than 0: it is driven as the settling ends, and no read changes it
+  pub level-read : (offset : ℕ) (p : Place) → placeOf (u .map .offsets) offset ≡ p
+      → step (Call.read now offset) u .answer .report .level ≡ not (eqb (intStatus (settled now u .control)) 0)
+  unfolding answering readWork afterSettling readAt report settledAt settle settleTo leveled levels drive intStatus
+  level-read offset p e = ap (λ (s : Step ℕ ℕ ℕ). s .answer .report .level) (read-answer t offset p e) ∙ level-kept (looks p) p (settled now u)
 
   -- ---- INT_RAW, INT_ENA, INT_ST
 

@@ -11,8 +11,10 @@ use borrow.Author.Tests.{eqb-true, eq-eqb}
 use Rattle.model.specs.Numbers.{choose}
 use Rattle.model.specs.Replies.{number, setUpNumber}
 use Rattle.model.specs.Tests.{among, repeated}
-use Rattle.model.specs.SetUp.{setUpReply}
+use Rattle.model.specs.SetUp.{setUpReply, new, setUp}
 use Rattle.model.specs.Ends.Passes.{apart}
+use Rattle.model.specs.Laws.Choose.{choose-true, choose-false}
+use mathlib.Core.Option.{none, some}
 
 -- two of the offsets are equal: those of two places, one before the other
 pub record Repeat (offsets : List ℕ) : Type 0 where
@@ -93,3 +95,12 @@ set-up-done os = (λ e r. absurd (omega (arith, answers os true (repeated-exactl
     go : ¬ Repeat os → (b : Bool) → repeated os ≡ b → setUpNumber (setUpReply os) ≡ 0
     go n true h = absurd (n (repeated-yes os h))
     go n false h = answers os false h
+
+-- a refused set-up returns no state, and every other the new one
+pub set-up-none : {H W : Type 0} (offsets ws : List ℕ) → Repeat offsets → setUp {H = H} {W = W} offsets ws ≡ none
+unfolding setUp
+set-up-none os ws r = choose-true _ _ (repeated-exactly os .1 r)
+
+pub set-up-some : {H W : Type 0} (offsets ws : List ℕ) → repeated offsets ≡ false → setUp {H = H} {W = W} offsets ws ≡ some (new offsets ws)
+unfolding setUp
+set-up-some os ws e = choose-false _ _ e
