@@ -1,0 +1,169 @@
+//! A trace as cases for the checker: each call beside the answer of the published Rust, as a claim that computes.
+use programs::usage;
+use std::io::{self, BufRead, Write};
+use uart_box::answers;
+use uart_box::calls::{self, Call};
+use uart_box::session::Session;
+
+const USAGE: &str = "\
+usage: cases < TRACE > CASES
+For each UART that the trace (docs/REPLAY.md) sets up: its calls with the answers of the published Rust, and the claim
+that the definition answers so. Lines that are no calls, and refused set-ups, are left out. compare/definition runs it.
+";
+
+const HEAD: &str = include_str!("../../../definition/cases.txt");
+const UNFOLDED: &str = include_str!("../../../definition/unfolded.txt");
+/// The names of diag.rs's UartFeature in the order of the definition's numbers, from 30 on.
+const FEATURES: [&str; 11] = [
+    "Loopback",
+    "InvertedRx",
+    "Autobaud",
+    "NoStopBit",
+    "FifoSize",
+    "Rs485",
+    "TxFlowControl",
+    "RxFlowControl",
+    "InvertedTx",
+    "Irda",
+    "TxBreak",
+];
+
+/// The calls on one UART, each with its answer's numbers.
+struct Part {
+    set_up: String,
+    cases: Vec<String>,
+}
+
+fn list<T: ToString>(items: impl Iterator<Item = T>) -> String {
+    let mut text = String::from("(");
+    for item in items {
+        text.push_str(&item.to_string());
+        text.push_str(" ∷ ");
+    }
+    text.push_str("[])");
+    text
+}
+
+/// A call as the definition writes it. A lent buffer holds the byte 165.
+fn request(call: &Call) -> Option<String> {
+    Some(match call {
+        Call::Setup(_) => return None,
+        Call::Read { now, offset } => format!("Call.read {now} {offset}"),
+        Call::Write { now, offset, value } => {
+            format!("Call.write {now} (record {{ offset = {offset}; value = {value} }})")
+        }
+        Call::Receive { now, at, bytes } => format!("Call.receive {now} {at} {}", list(bytes.iter())),
+        Call::Wake { now } => format!("Call.wake {now}"),
+        Call::Watch { now, watched } => format!("Call.watch {now} {watched}"),
+        Call::Reset { now } => format!("Call.reset {now}"),
+        Call::PowerDown { now } => format!("Call.powerDown {now}"),
+        Call::Clock { now, period } => format!("Call.clockChange {now} {period}"),
+        Call::TakeTx { now, length } => format!("Call.takeTx {now} (replicate {length} 165)"),
+        Call::TakeWritten { length } => format!("Call.takeWritten (replicate {length} 165)"),
+        Call::HasLeft => "Call.hasLeft".to_owned(),
+        Call::HostPending => "Call.hostPending".to_owned(),
+    })
+}
+
+fn notice(name: &str) -> u64 {
+    let (kind, rest) = name.split_once('(').unwrap_or((name, ""));
+    let inside = rest.trim_end_matches(')');
+    match kind {
+        "UartOverflow" => 1,
+        "UartEmptyRead" => 2,
+        "UartClock" => 10 + inside.parse::<u64>().unwrap_or(9),
+        "UartReceiveClock" => 20 + inside.parse::<u64>().unwrap_or(9),
+        _ => FEATURES.iter().position(|&feature| feature == inside).map_or(99, |at| 30 + at as u64),
+    }
+}
+
+fn bytes_of(hex: &str) -> Vec<u64> {
+    (0..hex.len() / 2).filter_map(|at| u64::from_str_radix(&hex[2 * at..2 * at + 2], 16).ok()).collect()
+}
+
+/// The numbers of an answer's line, in the order of compare/definition/numbers.txt.
+fn numbers(call: &Call, line: &str) -> Vec<u64> {
+    let field = |name: &str| line.split(' ').find_map(|word| word.strip_prefix(name)).unwrap_or("");
+    let number = |text: &str| text.parse::<u64>().unwrap_or(u64::MAX);
+    let first = line.split(' ').next().unwrap_or("");
+    if first != "0" {
+        return vec![number(first)];
+    }
+    let mut all = vec![0];
+    match call {
+        Call::Read { .. } => match field("value=").strip_prefix("0x") {
+            Some(hex) => all.extend([1, u64::from_str_radix(hex, 16).unwrap_or(u64::MAX)]),
+            None => all.push(2),
+        },
+        Call::Write { .. } => all.extend([3, number(field("accepted="))]),
+        Call::TakeTx { length, .. } | Call::TakeWritten { length } => {
+            let bytes = bytes_of(field("bytes="));
+            let count = bytes.len() as u64;
+            all.extend([5, count]);
+            all.extend(bytes);
+            all.push(if field("rest=") == "kept" { *length as u64 - count } else { u64::MAX });
+        }
+        Call::HasLeft => all.extend([6, number(field("has_left="))]),
+        Call::HostPending => all.extend([7, number(field("host_pending="))]),
+        _ => all.push(4),
+    }
+    if call.now().is_some() {
+        let wake = if field("wake=") == "-" { 0 } else { number(field("wake=")) + 1 };
+        let notices: Vec<u64> = field("notices=").split(',').filter(|&name| name != "-").map(notice).collect();
+        all.extend([number(field("level=")), wake, number(field("overflows=")), number(field("passes="))]);
+        all.push(notices.len() as u64);
+        all.extend(notices);
+    } else if matches!(call, Call::TakeWritten { .. }) {
+        all.extend([0; 5]); // the fixed report of an undated call
+    }
+    all
+}
+
+fn parts(input: impl BufRead) -> io::Result<Vec<Part>> {
+    let mut session = Session::default();
+    let mut parts: Vec<Part> = Vec::new();
+    for line in input.split(b'\n') {
+        let Ok(Some(call)) = calls::parse(&line?) else { continue };
+        let Some(answer) = session.call(&call) else { continue };
+        let mut text = Vec::new();
+        answers::put(&mut text, &answer);
+        let text = String::from_utf8_lossy(&text).trim_end().to_owned();
+        if let Call::Setup(setup) = &call {
+            if text == "0" {
+                let set_up = format!("(new {} {})", list(setup.offsets.iter()), list(setup.reset_words.iter()));
+                parts.push(Part { set_up, cases: Vec::new() });
+            }
+            continue;
+        }
+        if let (Some(part), Some(request)) = (parts.last_mut(), request(&call)) {
+            part.cases.push(format!("asCase ({request}) {}", list(numbers(&call, &text).iter())));
+        }
+    }
+    parts.retain(|part| !part.cases.is_empty());
+    Ok(parts)
+}
+
+fn run() -> io::Result<()> {
+    let parts = parts(io::stdin().lock())?;
+    let mut out = io::stdout().lock();
+    write!(out, "{HEAD}")?;
+    for (at, part) in parts.iter().enumerate() {
+        let (cases, count) = (part.cases.join("\n    ∷ "), part.cases.len());
+        writeln!(out, "\ncalls{at} : List Case\ncalls{at} =\n    {cases}\n    ∷ []")?;
+        writeln!(out, "\nequal{at} : answered calls{at} {} ≡ {count}", part.set_up)?;
+        writeln!(out, "unfolding calls{at} {}", UNFOLDED.trim_end())?;
+        writeln!(out, "equal{at} = refl")?;
+    }
+    out.flush()?;
+    eprintln!("{}", parts.iter().map(|part| part.cases.len()).sum::<usize>());
+    Ok(())
+}
+
+fn main() {
+    if let Some(word) = usage::words(USAGE).first() {
+        usage::bad("cases", &format!("no word is taken: {word}"), USAGE);
+    }
+    if let Err(error) = run() {
+        usage::fail("cases", &error.to_string());
+    }
+}

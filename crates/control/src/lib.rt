@@ -1,0 +1,34 @@
+// The decisions of the UART on numbers and marks: no byte is here. Carried over from inkemu's uart.rs and changed.
+pub mod arming;
+pub mod finds;
+mod frames;
+pub mod idle;
+mod marks;
+pub mod passes;
+pub mod settling;
+
+use model::Found;
+use model::Frame;
+use model::Line;
+
+// What is on the line beside its byte.
+pub enum Receiving {
+    None,
+    OnTheLine(Frame),
+}
+
+// What a pass does: the line's part after it, what it found, and whether a host byte started in it.
+pub struct Move {
+    pub line: Line,
+    pub receiving: Receiving,
+    pub found: Found,
+    pub started: bool,
+}
+
+// Which byte in flight leaves fewer in the transmit FIFO than its threshold.
+pub enum Below {
+    // They are fewer already, or the threshold is 0.
+    Never,
+    // Once this byte has gone, counted from 0 at the shift register.
+    After(usize),
+}

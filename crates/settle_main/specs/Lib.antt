@@ -1,0 +1,2 @@
+-- The state that the program settles.
+pub mod Bench
