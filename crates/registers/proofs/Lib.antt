@@ -1,0 +1,2 @@
+-- Laws that the proofs of decisions over places share.
+pub mod Tags

@@ -1,0 +1,67 @@
+-- `places::place_of` meets its contract: the offset is looked up among the places not yet passed. Assumes nothing.
+use mathlib.Core.Path.{_≡_, refl, sym, _∙_}
+use Prim.Native.Nat.{_≤_, _-_}
+use native.Mathlib.Omega.{arith}
+use lib.ListN.{length}
+use borrow.Author.Needs.{needs}
+use Rattle.model.specs.Registers.{places, placeOf}
+use Rattle.registers.specs.Places.{placeFrom, place-found, place-passed, place-end}
+use Rattle.registers.proofs.places.place_of.Statement.{statement}
+use Rattle.registers.proofs.places.place_of.Tie as tie
+
+abbrev Inv-loop : tie.InvT-loop
+Inv-loop offset offsets at₀ at = (at ≤ 16) × (length offsets ≡ 16) × (placeFrom at offset offsets places ≡ placeOf offsets offset)
+
+abbrev μ-loop : tie.MeasureT-loop
+μ-loop offset offsets at₀ at = 16 - at
+
+loop-holds : tie.Need-loop-holds Inv-loop μ-loop
+unfolding placeOf
+loop-holds c = (omega arith, omega arith, refl)
+
+mul-if1 : tie.Need-mul-if1 Inv-loop μ-loop
+mul-if1 c = search needs
+
+array-read-if1 : tie.Need-array-read-if1 Inv-loop μ-loop
+array-read-if1 c = search needs
+
+place-at-requires : tie.Need-place-at-requires Inv-loop μ-loop
+place-at-requires c κs = search needs
+
+returns : tie.Need-returns Inv-loop μ-loop
+returns c =
+    c .place-at .ensures
+    ∙ place-found (c .before .before .before .loop .at) (c .before .before .before .before .args .offset) _ places (omega arith) (omega arith) (c .before .if1 .taken)
+    ∙ c .before .before .before .loop .inv .2
+
+add-at : tie.Need-add-at Inv-loop μ-loop
+add-at c = search needs
+
+loop-less : tie.Need-loop-less Inv-loop μ-loop
+loop-less c = search needs
+
+loop-again : tie.Need-loop-again Inv-loop μ-loop
+loop-again c = (
+  omega arith,
+  c .before .before .loop .inv .1,
+  sym (place-passed (c .before .before .loop .at) (c .before .before .before .args .offset) _ places (omega arith) (omega arith) (c .if1 .left)) ∙ c .before .before .loop .inv .2,
+)
+
+returns-2 : tie.Need-returns-2 Inv-loop μ-loop
+returns-2 c = place-end (c .before .loop .at) _ _ places (omega arith) ∙ c .before .loop .inv .2
+
+pub place-of-spec : {M : Type 1} → statement M
+place-of-spec =
+    tie.close
+    (tie.spec
+    Inv-loop
+    μ-loop
+    loop-holds
+    mul-if1
+    array-read-if1
+    place-at-requires
+    returns
+    add-at
+    loop-less
+    loop-again
+    returns-2)
