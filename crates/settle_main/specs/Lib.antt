@@ -1,2 +1,3 @@
--- The state that the program settles.
+-- The states that the program settles.
 pub mod Bench
+pub mod Between

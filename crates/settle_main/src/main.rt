@@ -1,6 +1,8 @@
 // Settles a UART at document 01's bench settings in which 1,000 host bytes wait, and prints what came of it: all of them
-// land in one settling, and the receive FIFO holds 128. A second settling at the same cycle finds nothing due.
+// land in one settling, and the receive FIFO holds 128. A second settling at the same cycle finds nothing due. Then the corners.
 mod bench;
+mod between;
+mod corners;
 mod show;
 
 use uart::Uart;
@@ -29,4 +31,5 @@ fn main() {
     show::number(b"overflows ", done.overflows);
     state(uart);
     show::number(b"passes again ", again.passes);
+    corners::play();
 }
