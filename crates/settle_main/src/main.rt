@@ -1,11 +1,24 @@
-// Settles a UART at document 01's bench settings in which 1,000 host bytes wait, and prints what came of it: all of them
-// land in one settling, and the receive FIFO holds 128. A second settling at the same cycle finds nothing due. Then the corners.
-mod bench;
-mod between;
-mod corners;
+// 1,000 host bytes that land in one settling at document 01's bench settings, and a settling with nothing due.
 mod show;
 
+use model::SetUp;
 use uart::Uart;
+ghost use mathlib.Core.Path.{_≡_};
+ghost use lib.ListN.{length};
+ghost use Rattle.uart.specs.Whole.{Good};
+
+// 0 to 255, again and again.
+pub fn counted() -> [u8; 1000]
+    ensures { λ r. ⌜ length r ≡ 1000 ⌝ }
+{
+    let mut bytes = [0u8; 1000];
+    let mut i: usize = 0;
+    while i < 1000 {
+        bytes[i] = (i % 256) as u8;
+        i = i + 1;
+    }
+    bytes
+}
 
 // The numbers of a UART, and the first and the last byte of its receive FIFO's slots.
 fn state(uart: Uart) {
@@ -22,14 +35,26 @@ fn state(uart: Uart) {
     show::number(b"line free at subcycle ", line.line_free_at);
 }
 
-fn main() {
-    let bulk = bench::waiting(bench::counted());
-    let done = bulk.settle(500000);
+fn land(new: Uart)
+    requires { ⌜ Good new ⌝ }
+{
+    let bytes = counted();
+    let given = new.receive(0, 100, &bytes);
+    let waiting = given.uart;
+    let done = waiting.settle(500000);
     let uart = done.uart;
     let again = uart.settle(500000);
     show::number(b"passes ", done.passes);
     show::number(b"overflows ", done.overflows);
     state(uart);
     show::number(b"passes again ", again.passes);
-    corners::play();
+}
+
+fn main() {
+    let made = Uart::new(bench::OFFSETS, bench::RESETS);
+    let reply = made.reply;
+    match reply {
+        SetUp::Refused(_) => show::number(b"set-up refused ", 1),
+        SetUp::Ready => land(made.uart),
+    }
 }

@@ -1,32 +1,35 @@
-// The UART as it is held: its numbers and marks with a cursor for each queue, and the slots of the queues in arrays beside
-// them. Carried over from inkemu's uart.rs and changed: the queues are rings in fixed slots.
-pub mod arming;
-pub mod departures;
-pub mod passes;
-pub mod settling;
-
+// The UART as one value: its core and the slots of its queues. Its methods take it and hand it back; the work is done over the
+// parts, by the crates below. Carried over from inkemu's uart.rs and changed.
+use access::read;
+use access::write;
+use calls::clock_change;
+use calls::power_down;
+use calls::reset;
+use calls::undated;
+use calls::wake;
+use calls::watch;
 use control::Receiving;
-use model::Control;
-use model::RegisterMap;
+use device::Core;
+use device::settling;
+use handover::receive;
+use handover::take_tx;
+use handover::take_written;
+use model::Done;
+use model::Read;
+use model::Report;
+use model::SetUp;
+use model::Taken;
+use model::Write;
 use queue::Cursor;
-ghost use Rattle.uart.specs.Holds.{Ok};
-ghost use Rattle.uart.specs.Wholes.{arraysOf};
-ghost use Rattle.uart.specs.Settles.{Settles};
-
-// All but the arrays.
-#[repr(C)]
-pub struct Core {
-    pub map: RegisterMap,
-    pub control: Control,
-    pub receiving: Receiving,
-    // The byte on the line; free while nothing is on it.
-    pub byte: u8,
-    pub flight: Cursor,
-    pub tx: Cursor,
-    pub host: Cursor,
-    pub runs: Cursor,
-    pub rx: Cursor,
-}
+use registers::refusals;
+use registers::setup;
+ghost use mathlib.Core.Path.{_≡_};
+ghost use Rattle.model.specs.Settle.{settle};
+ghost use Rattle.model.specs.Replies.{asRead, readNumber, writeNumber, doneNumber};
+ghost use Rattle.model.specs.Calls.{read as Calls·read, write as Calls·write, wake as Calls·wake, reset as Calls·reset};
+ghost use Rattle.model.specs.Calls.{watch as Calls·watch, receive as Calls·receive, clockChange, powerDown, takeTx, takeWritten, hasLeft, hostPending};
+ghost use Rattle.device.specs.Settles.{Settles};
+ghost use Rattle.uart.specs.Whole.{arraysOf, meaning, Good, Answered, Took, newCore, SetsUp};
 
 #[repr(C)]
 pub struct Uart {
@@ -52,12 +55,92 @@ pub struct Settled {
     pub overflows: u64,
 }
 
+// A new UART. Where set-up is refused it is not one to call: its offsets are not all different.
+#[repr(C)]
+pub struct NewUart {
+    pub uart: Uart,
+    pub reply: SetUp,
+}
+
+#[repr(C)]
+pub struct AfterRead {
+    pub uart: Uart,
+    pub reply: Read,
+    pub report: Report,
+}
+
+#[repr(C)]
+pub struct AfterWrite {
+    pub uart: Uart,
+    pub reply: Write,
+    pub report: Report,
+}
+
+#[repr(C)]
+pub struct AfterDone {
+    pub uart: Uart,
+    pub reply: Done,
+    pub report: Report,
+}
+
+#[repr(C)]
+pub struct AfterTake {
+    pub uart: Uart,
+    pub reply: Taken,
+    pub report: Report,
+}
+
+// What set-up fixes, and nothing in the queues.
+fn empty(offsets: [u32; 16], resets: [u32; 16]) -> Core
+    ensures { λ r. ⌜ r ≡ newCore offsets resets ⌝ }
+{
+    let map = setup::register_map(offsets, resets);
+    let control = setup::new_control(map.reset);
+    let none = Cursor::new();
+    Core {
+        map,
+        control,
+        receiving: Receiving::None,
+        byte: 0,
+        flight: none,
+        tx: none,
+        host: none,
+        runs: none,
+        rx: none,
+    }
+}
+
 impl Uart {
+    // Set-up, from sixteen offsets and sixteen reset words. The queues are empty: slots of zeros, a start and a count.
+    pub fn new(offsets: [u32; 16], resets: [u32; 16]) -> NewUart
+        ensures { λ r. ⌜ SetsUp offsets resets (r .uart) (r .reply) ⌝ }
+    {
+        let core = empty(offsets, resets);
+        let gone_at = [0u64; 129];
+        let flight = [0u8; 129];
+        let tx = [0u8; 1152];
+        let host = [0u8; 1024];
+        let run_dates = [0u64; 64];
+        let run_counts = [0u64; 64];
+        let rx = [0u8; 128];
+        let uart = Uart {
+            core,
+            gone_at,
+            flight,
+            tx,
+            host,
+            run_dates,
+            run_counts,
+            rx,
+        };
+        let reply = refusals::set_up_reply(offsets);
+        NewUart { uart, reply }
+    }
+
     // All that is due at a cycle is done. The work is `settled`'s, over the arrays lent to it.
     pub fn settle(self, cycle: u64) -> Settled
-        requires { ⌜ Ok (self .core) (arraysOf self) ⌝ }
-        ensures { λ r. ⌜ Settles cycle (self .core) (arraysOf self)
-            (r .uart .core) (arraysOf (r .uart)) (r .passes) (r .overflows) ⌝ }
+        requires { ⌜ Good self ⌝ }
+        ensures { λ r. ⌜ Settles (settle cycle (meaning self)) (r .uart .core) (arraysOf (r .uart)) (r .passes) (r .overflows) ⌝ }
     {
         let gone_at = self.gone_at;
         let flight = self.flight;
@@ -93,5 +176,384 @@ impl Uart {
             passes: done.passes,
             overflows: done.overflows,
         }
+    }
+
+    // The value at an offset.
+    pub fn read(self, cycle: u64, offset: u32) -> AfterRead
+        requires { ⌜ Good self ⌝ }
+        ensures { λ r. ⌜ Answered asRead readNumber (Calls·read cycle offset) self (r .uart) (r .reply) (r .report) ⌝ }
+    {
+        let gone_at = self.gone_at;
+        let flight = self.flight;
+        let mut tx = self.tx;
+        let host = self.host;
+        let run_dates = self.run_dates;
+        let mut run_counts = self.run_counts;
+        let mut rx = self.rx;
+        let done = read::read(
+            self.core,
+            &gone_at,
+            &flight,
+            &mut tx,
+            &host,
+            &run_dates,
+            &mut run_counts,
+            &mut rx,
+            cycle,
+            offset,
+        );
+        let core = done.core;
+        let uart = Uart {
+            core,
+            gone_at,
+            flight,
+            tx,
+            host,
+            run_dates,
+            run_counts,
+            rx,
+        };
+        let reply = done.reply;
+        let report = done.report;
+        AfterRead {
+            uart,
+            reply,
+            report,
+        }
+    }
+
+    // A write at an offset.
+    pub fn write(self, cycle: u64, offset: u32, value: u32) -> AfterWrite
+        requires { ⌜ Good self ⌝ }
+        ensures { λ r. ⌜ Answered (λ x. x) writeNumber (Calls·write cycle offset value) self (r .uart) (r .reply) (r .report) ⌝ }
+    {
+        let mut gone_at = self.gone_at;
+        let mut flight = self.flight;
+        let mut tx = self.tx;
+        let host = self.host;
+        let run_dates = self.run_dates;
+        let mut run_counts = self.run_counts;
+        let mut rx = self.rx;
+        let done = write::write(
+            self.core,
+            &mut gone_at,
+            &mut flight,
+            &mut tx,
+            &host,
+            &run_dates,
+            &mut run_counts,
+            &mut rx,
+            cycle,
+            offset,
+            value,
+        );
+        let core = done.core;
+        let uart = Uart {
+            core,
+            gone_at,
+            flight,
+            tx,
+            host,
+            run_dates,
+            run_counts,
+            rx,
+        };
+        let reply = done.reply;
+        let report = done.report;
+        AfterWrite {
+            uart,
+            reply,
+            report,
+        }
+    }
+
+    // The armed cycle has come.
+    pub fn wake(self, cycle: u64) -> AfterDone
+        requires { ⌜ Good self ⌝ }
+        ensures { λ r. ⌜ Answered (λ x. x) doneNumber (Calls·wake cycle) self (r .uart) (r .reply) (r .report) ⌝ }
+    {
+        let gone_at = self.gone_at;
+        let flight = self.flight;
+        let mut tx = self.tx;
+        let host = self.host;
+        let run_dates = self.run_dates;
+        let mut run_counts = self.run_counts;
+        let mut rx = self.rx;
+        let done = wake::wake(
+            self.core,
+            &gone_at,
+            &flight,
+            &mut tx,
+            &host,
+            &run_dates,
+            &mut run_counts,
+            &mut rx,
+            cycle,
+        );
+        let core = done.core;
+        let uart = Uart {
+            core,
+            gone_at,
+            flight,
+            tx,
+            host,
+            run_dates,
+            run_counts,
+            rx,
+        };
+        let reply = done.reply;
+        let report = done.report;
+        AfterDone {
+            uart,
+            reply,
+            report,
+        }
+    }
+
+    // A reset of the UART.
+    pub fn reset(self, cycle: u64) -> AfterDone
+        requires { ⌜ Good self ⌝ }
+        ensures { λ r. ⌜ Answered (λ x. x) doneNumber (Calls·reset cycle) self (r .uart) (r .reply) (r .report) ⌝ }
+    {
+        let gone_at = self.gone_at;
+        let flight = self.flight;
+        let mut tx = self.tx;
+        let host = self.host;
+        let run_dates = self.run_dates;
+        let mut run_counts = self.run_counts;
+        let mut rx = self.rx;
+        let done = reset::reset(
+            self.core,
+            &gone_at,
+            &flight,
+            &mut tx,
+            &host,
+            &run_dates,
+            &mut run_counts,
+            &mut rx,
+            cycle,
+        );
+        let core = done.core;
+        let uart = Uart {
+            core,
+            gone_at,
+            flight,
+            tx,
+            host,
+            run_dates,
+            run_counts,
+            rx,
+        };
+        let reply = done.reply;
+        let report = done.report;
+        AfterDone {
+            uart,
+            reply,
+            report,
+        }
+    }
+
+    // Another period of the APB clock, in cycles.
+    pub fn clock_change(self, cycle: u64, period: u64) -> AfterDone
+        requires { ⌜ Good self ⌝ }
+        ensures { λ r. ⌜ Answered (λ x. x) doneNumber (clockChange cycle period) self (r .uart) (r .reply) (r .report) ⌝ }
+    {
+        let gone_at = self.gone_at;
+        let flight = self.flight;
+        let mut tx = self.tx;
+        let host = self.host;
+        let run_dates = self.run_dates;
+        let mut run_counts = self.run_counts;
+        let mut rx = self.rx;
+        let done = clock_change::clock_change(
+            self.core,
+            &gone_at,
+            &flight,
+            &mut tx,
+            &host,
+            &run_dates,
+            &mut run_counts,
+            &mut rx,
+            cycle,
+            period,
+        );
+        let core = done.core;
+        let uart = Uart {
+            core,
+            gone_at,
+            flight,
+            tx,
+            host,
+            run_dates,
+            run_counts,
+            rx,
+        };
+        let reply = done.reply;
+        let report = done.report;
+        AfterDone {
+            uart,
+            reply,
+            report,
+        }
+    }
+
+    // The host hands over bytes that may start at a cycle.
+    pub fn receive(self, cycle: u64, at: u64, bytes: &[u8]) -> AfterDone
+        requires { ⌜ Good self ⌝ }
+        ensures { λ r. ⌜ Answered (λ x. x) doneNumber (Calls·receive cycle at (now (bytes .entry))) self (r .uart) (r .reply) (r .report) ⌝ }
+    {
+        let gone_at = self.gone_at;
+        let flight = self.flight;
+        let mut tx = self.tx;
+        let mut host = self.host;
+        let mut run_dates = self.run_dates;
+        let mut run_counts = self.run_counts;
+        let mut rx = self.rx;
+        let done = receive::receive(
+            self.core,
+            &gone_at,
+            &flight,
+            &mut tx,
+            &mut host,
+            &mut run_dates,
+            &mut run_counts,
+            &mut rx,
+            cycle,
+            at,
+            bytes,
+        );
+        let core = done.core;
+        let uart = Uart {
+            core,
+            gone_at,
+            flight,
+            tx,
+            host,
+            run_dates,
+            run_counts,
+            rx,
+        };
+        let reply = done.reply;
+        let report = done.report;
+        AfterDone {
+            uart,
+            reply,
+            report,
+        }
+    }
+
+    // The bytes that have left, to the front of a lent buffer.
+    pub fn take_tx(self, cycle: u64, out: &mut [u8]) -> AfterTake
+        requires { ⌜ Good self ⌝ }
+        ensures { λ r. ⌜ Took (takeTx cycle (now (out .entry))) self (r .uart) (r .reply) (r .report) (now (out .exit)) ⌝ }
+    {
+        let gone_at = self.gone_at;
+        let flight = self.flight;
+        let mut tx = self.tx;
+        let host = self.host;
+        let run_dates = self.run_dates;
+        let mut run_counts = self.run_counts;
+        let mut rx = self.rx;
+        let done = take_tx::take_tx(
+            self.core,
+            &gone_at,
+            &flight,
+            &mut tx,
+            &host,
+            &run_dates,
+            &mut run_counts,
+            &mut rx,
+            cycle,
+            out,
+        );
+        let core = done.core;
+        let uart = Uart {
+            core,
+            gone_at,
+            flight,
+            tx,
+            host,
+            run_dates,
+            run_counts,
+            rx,
+        };
+        let reply = done.reply;
+        let report = done.report;
+        AfterTake {
+            uart,
+            reply,
+            report,
+        }
+    }
+
+    // Whether the first departure asks for a wake.
+    pub fn watch(mut self, cycle: u64, on: bool) -> AfterDone
+        requires { ⌜ Good self ⌝ }
+        ensures { λ r. ⌜ Answered (λ x. x) doneNumber (Calls·watch cycle on) self (r .uart) (r .reply) (r .report) ⌝ }
+    {
+        let gone_at = self.gone_at;
+        let run_dates = self.run_dates;
+        let done = watch::watch(self.core, &gone_at, &run_dates, cycle, on);
+        let core = done.core;
+        self.core = core;
+        let reply = done.reply;
+        let report = done.report;
+        AfterDone {
+            uart: self,
+            reply,
+            report,
+        }
+    }
+
+    // Nothing moves after this cycle until a reset.
+    pub fn power_down(mut self, cycle: u64) -> AfterDone
+        requires { ⌜ Good self ⌝ }
+        ensures { λ r. ⌜ Answered (λ x. x) doneNumber (powerDown cycle) self (r .uart) (r .reply) (r .report) ⌝ }
+    {
+        let done = power_down::power_down(self.core, cycle);
+        let core = done.core;
+        self.core = core;
+        let reply = done.reply;
+        let report = done.report;
+        AfterDone {
+            uart: self,
+            reply,
+            report,
+        }
+    }
+
+    // All that was written, to the front of a lent buffer.
+    pub fn take_written(mut self, out: &mut [u8]) -> AfterTake
+        requires { ⌜ Good self ⌝ }
+        ensures { λ r. ⌜ Took (takeWritten (now (out .entry))) self (r .uart) (r .reply) (r .report) (now (out .exit)) ⌝ }
+    {
+        let flight = self.flight;
+        let tx = self.tx;
+        let done = take_written::take_written(self.core, &flight, &tx, out);
+        let core = done.core;
+        self.core = core;
+        let reply = done.reply;
+        let report = done.report;
+        AfterTake {
+            uart: self,
+            reply,
+            report,
+        }
+    }
+
+    // Whether a byte has left that no call has taken.
+    pub fn has_left(self) -> bool
+        requires { ⌜ Good self ⌝ }
+        ensures { λ r. ⌜ r ≡ hasLeft (meaning self) .reply ⌝ }
+    {
+        undated::has_left(self.core)
+    }
+
+    // The host bytes that have not landed.
+    pub fn host_pending(self) -> usize
+        requires { ⌜ Good self ⌝ }
+        ensures { λ r. ⌜ r ≡ hostPending (meaning self) .reply ⌝ }
+    {
+        undated::host_pending(self.core)
     }
 }

@@ -33,7 +33,7 @@ other-half true b e t = e
 other-half false b e t = absurd (false≢true t)
 
 -- what test 6 leaves
-room-before : (new runs last date : ℕ) → runsFull new runs last date ≡ false → 1 ≤ new → last < date → runs < runsLimit
+pub room-before : (new runs last date : ℕ) → runsFull new runs last date ≡ false → 1 ≤ new → last < date → runs < runsLimit
 unfolding runsFull
 room-before new runs last date e h late =
     leb-false _ _ (other-half (ltb last date) _ (and-comm (ltb last date) _ ∙ other-half (ltb 0 new) _ e (lt-ltb 0 new h)) (lt-ltb last date late))
@@ -80,7 +80,7 @@ module _ {H W : Type 0} where
   powerDown-parts now u p = dated-parts Done.Refused _ u p now none (λ h _. moved-parts now u h p)
 
   -- a period of 0 counts as 1, and test 7 keeps it at 1,000,000 or below
-  clocked-parts : (period : ℕ) (u : Uart H W) → period ≤ periodLimit → Parts u → Parts (clocked period u)
+  pub clocked-parts : (period : ℕ) (u : Uart H W) → period ≤ periodLimit → Parts u → Parts (clocked period u)
   unfolding clocked
   clocked-parts period u h p = putClock p (record { low = le-max-right _ _; high = max-le h (lit≤ tt); last = p .clock .last; wake = p .clock .wake })
 

@@ -81,9 +81,9 @@ stored-le Unknown v = omega arith
 -- ---- accesses
 
 -- an access that is not refused, with few notices
-record Proper {R H W : Type 0} (number : R → ℕ) (a : Access R H W) : Type 0 where
-  zero : number (a .reply) ≡ 0
-  few : length (a .notes) ≤ 8
+pub record Proper {R H W : Type 0} (number : R → ℕ) (a : Access R H W) : Type 0 where
+  pub zero : number (a .reply) ≡ 0
+  pub few : length (a .notes) ≤ 8
 
 module _ {H W : Type 0} where
   pop-proper : (ns : List Unsupported) (bs : List H) (u : Uart H W) → length ns ≤ 1 → Proper readNumber (pop ns bs u)
@@ -115,7 +115,7 @@ module _ {H W : Type 0} where
   read-proper ns MemRxStatus u le = gives-proper ns u _ le refl
   read-proper ns Unknown u le = gives-proper ns u _ le refl
 
-  looking-proper : (b : Bool) (p : Place) (u : Uart H W) → Proper readNumber (readLooking b p u)
+  pub looking-proper : (b : Bool) (p : Place) (u : Uart H W) → Proper readNumber (readLooking b p u)
   unfolding readLooking
   looking-proper true p u = read-proper _ p _ (source-le _ _)
   looking-proper false p u = read-proper [] p u (omega arith)
@@ -124,7 +124,7 @@ module _ {H W : Type 0} where
   unfolding storing writeNumber
   storing-proper p v u = record { zero = choose-ind (λ (r : Write). writeNumber r ≡ 0) _ (λ _. refl) (λ _. refl); few = stored-le p v }
 
-  write-proper : (p : Place) (v : ℕ) (u : Uart H W) → Proper writeNumber (writePlace p v u)
+  pub write-proper : (p : Place) (v : ℕ) (u : Uart H W) → Proper writeNumber (writePlace p v u)
   unfolding writePlace clearing writeNumber
   write-proper Fifo v u = storing-proper Fifo v _
   write-proper IntRaw v u = storing-proper IntRaw v _
@@ -144,7 +144,7 @@ module _ {H W : Type 0} where
   write-proper MemRxStatus v u = storing-proper MemRxStatus v _
   write-proper Unknown v u = storing-proper Unknown v _
 
-  send-proper : (now : ℕ) (b : W) (u : Uart H W) → Proper writeNumber (sendByte now b u)
+  pub send-proper : (now : ℕ) (b : W) (u : Uart H W) → Proper writeNumber (sendByte now b u)
   unfolding sendByte dropped sent writeNumber
   send-proper now b u = choose-ind (Proper writeNumber) _ (λ _. record { zero = refl; few = omega arith })
       (λ _. record { zero = refl; few = le-trans (source-le _ _) (lit≤ tt) })

@@ -1,0 +1,16 @@
+-- `writing::cleared` meets its contract. Assumes nothing.
+use borrow.Author.Needs.{needs}
+use Rattle.access.proofs.writing.cleared.Statement.{statement}
+use Rattle.access.proofs.writing.cleared.Tie as tie
+
+int-clr-requires : tie.Need-int-clr-requires
+int-clr-requires c κs = search needs
+
+none-requires : tie.Need-none-requires
+none-requires c κs = search needs
+
+returns : tie.Need-returns
+returns c = rw (c .none .ensures, c .before .int-clr .ensures)
+
+pub cleared-spec : {M : Type 1} → statement M
+cleared-spec = tie.close (tie.spec int-clr-requires none-requires returns)

@@ -1,0 +1,68 @@
+-- `power_down::power_down` meets its contract: refused as the tests say, or its date is set. Assumes nothing.
+use mathlib.Core.Path.{refl}
+use mathlib.Core.Option.{none}
+use Rattle.model.specs.Replies.{doneNumber}
+use Rattle.model.specs.declared.Done.{Done}
+use Rattle.calls.specs.Answers.{carried, turned-away, passes, refuses, unsettled-works}
+use Rattle.model.specs.Calls.{powerDownWork, unsettled}
+use Rattle.model.specs.Keeps.EachCall.{powerDown-within}
+use Rattle.registers.specs.Calls.{power-down-tests}
+use Rattle.calls.specs.Changes.{shape-of}
+use borrow.Author.Needs.{needs}
+use Rattle.calls.proofs.power_down.power_down.Statement.{statement}
+use Rattle.calls.proofs.power_down.power_down.Tie as tie
+
+date-refusal-requires : tie.Need-date-refusal-requires
+date-refusal-requires c κs = search needs
+
+enum-known-tests : tie.Need-enum-known-tests
+enum-known-tests c = search needs
+
+refused-requires : tie.Need-refused-requires
+refused-requires c κs = search needs
+
+enum-told : tie.Need-enum-told
+enum-told c = search needs
+
+dated-requires : tie.Need-dated-requires
+dated-requires c κs = search needs
+
+subcycles-requires : tie.Need-subcycles-requires
+subcycles-requires c κs = search needs
+
+with-powered-down-at-requires : tie.Need-with-powered-down-at-requires
+with-powered-down-at-requires c κs = search needs
+
+done-requires : tie.Need-done-requires
+done-requires c κs = search needs
+
+returns : tie.Need-returns
+returns c = λ a ok.
+    let o = c .before .before .before .before .before .before .args in
+    rw (c .refused .ensures)
+    (turned-away (λ x. x) doneNumber Done.Refused (powerDownWork (o .cycle)) _ a (power-down-tests (o .cycle) _)
+    (refuses (c .before .before .before .before .date-refusal .ensures) (c .before .before .tests .given .1)) ok)
+
+returns-2 : tie.Need-returns-2
+unfolding powerDownWork unsettled doneNumber
+returns-2 c = λ a ok.
+    let o = c .before .before .before .before .before .before .before .before .args in
+    rw (c .done .ensures, c .before .with-powered-down-at .ensures, c .before .before .before .dated .ensures, c .before .before .subcycles .ensures)
+    (carried (λ x. x) doneNumber Done.Refused (powerDownWork (o .cycle)) _ a (power-down-tests (o .cycle) _)
+    (passes (c .before .before .before .before .before .before .date-refusal .ensures) (c .before .before .before .before .enum-told .given .1)) (powerDown-within (o .cycle) _ (ok .within)) refl
+    (unsettled-works (λ x. x) (shape-of _ a _ (ok .shape)) refl))
+
+pub power-down-spec : {M : Type 1} → statement M
+power-down-spec =
+    tie.close
+    (tie.spec
+    date-refusal-requires
+    enum-known-tests
+    refused-requires
+    enum-told
+    dated-requires
+    subcycles-requires
+    with-powered-down-at-requires
+    done-requires
+    returns
+    returns-2)

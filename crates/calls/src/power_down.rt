@@ -1,0 +1,58 @@
+// power_down: it sets its date to now, and neither settles nor arms.
+use crate::answers;
+use crate::answers::DoneCore;
+use crate::settled_at;
+use device::Core;
+use model::Control;
+use model::Date;
+use registers::refusals;
+use registers::refusals::Checked;
+ghost use mathlib.Core.Path.{_≡_};
+ghost use Rattle.model.specs.State.{withPoweredDownAt};
+ghost use Rattle.model.specs.Calls.{powerDown};
+ghost use Rattle.device.specs.Holds.{Arrays, Ok};
+ghost use Rattle.calls.specs.Changes.{withControlOf};
+ghost use Rattle.calls.specs.Answers.{DoneWith};
+
+fn put(control: Control, powered_down_at: Date) -> Control
+    ensures { λ r. ⌜ r ≡ withPoweredDownAt «powered_down_at» control ⌝ }
+{
+    let words = control.words;
+    let line = control.line;
+    let wake = control.wake;
+    Control {
+        words,
+        line,
+        period: control.period,
+        last: control.last,
+        wake,
+        watched: control.watched,
+        powered_down_at,
+        level: control.level,
+    }
+}
+
+// Another power-down, in subcycles, or none.
+pub fn with_powered_down_at(mut core: Core, powered_down_at: Date) -> Core
+    ensures { λ r. ⌜ r ≡ withControlOf (withPoweredDownAt «powered_down_at» (core .control)) core ⌝ }
+{
+    let control = put(core.control, powered_down_at);
+    core.control = control;
+    core
+}
+
+// No array of the UART is read, so the answer is the same whatever stands in them.
+pub fn power_down(core: Core, cycle: u64) -> DoneCore
+    ensures { λ r. ⌜ ((a : Arrays) → Ok core a → DoneWith (powerDown cycle) core a (r .core) a (r .reply) (r .report)) ⌝ }
+{
+    let control = core.control;
+    let tests = refusals::date_refusal(cycle, control.last);
+    match tests {
+        Checked::Refused(refusal) => answers::refused(core, refusal),
+        Checked::Passed => {
+            let moved = settled_at::dated(core, cycle);
+            let down = with_powered_down_at(moved, Date::At(dates::subcycles(cycle)));
+            answers::done(down, 0, 0)
+        }
+    }
+}

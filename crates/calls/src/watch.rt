@@ -1,0 +1,49 @@
+// watch: it arms without settling.
+use crate::answers;
+use crate::answers::DoneCore;
+use device::Core;
+use device::arming;
+use registers::refusals;
+use registers::refusals::Checked;
+ghost use mathlib.Core.Path.{_≡_};
+ghost use lib.ListN.{length};
+ghost use Rattle.model.specs.Calls.{watch as Calls·watch};
+ghost use Rattle.queue.specs.Cursors.{Held};
+ghost use Rattle.device.specs.Holds.{Arrays, Ok};
+ghost use Rattle.device.specs.Arms.{Ready};
+ghost use Rattle.calls.specs.Changes.{watchedCore};
+ghost use Rattle.calls.specs.Answers.{DoneWith};
+
+fn watched(mut core: Core, cycle: u64, on: bool) -> Core
+    ensures { λ r. ⌜ r ≡ watchedCore cycle on core ⌝ }
+{
+    let mut control = core.control;
+    control.last = cycle;
+    control.watched = on;
+    core.control = control;
+    core
+}
+
+// Of the arrays it reads the dates in flight and of the runs; the answer is the same whatever stands in the others.
+pub fn watch<'a>(
+    core: Core,
+    gone_at: &'a [u64; 129],
+    run_dates: &'a [u64; 64],
+    cycle: u64,
+    on: bool,
+) -> DoneCore
+    requires { ⌜ Ready core (now «gone_at») × Held 64 (core .runs) × (length (now «run_dates») ≡ 64) ⌝ }
+    ensures { λ r. ⌜ ((a : Arrays) → a .goneAt ≡ now («gone_at» .entry) → a .runDates ≡ now («run_dates» .entry) → Ok core a
+        → DoneWith (Calls·watch cycle on) core a (r .core) a (r .reply) (r .report)) ⌝ }
+{
+    let control = core.control;
+    let tests = refusals::date_refusal(cycle, control.last);
+    match tests {
+        Checked::Refused(refusal) => answers::refused(core, refusal),
+        Checked::Passed => {
+            let from = watched(core, cycle, on);
+            let armed = arming::arm(from, gone_at, run_dates);
+            answers::done(armed, 0, 0)
+        }
+    }
+}

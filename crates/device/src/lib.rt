@@ -1,0 +1,26 @@
+// The UART over parts: its numbers and marks with a cursor for each queue, and the slots of the queues in arrays lent beside
+// them. Carried over from inkemu's uart.rs and changed: the queues are rings in fixed slots.
+pub mod arming;
+pub mod departures;
+pub mod passes;
+pub mod settling;
+
+use control::Receiving;
+use model::Control;
+use model::RegisterMap;
+use queue::Cursor;
+
+// All but the arrays.
+#[repr(C)]
+pub struct Core {
+    pub map: RegisterMap,
+    pub control: Control,
+    pub receiving: Receiving,
+    // The byte on the line; free while nothing is on it.
+    pub byte: u8,
+    pub flight: Cursor,
+    pub tx: Cursor,
+    pub host: Cursor,
+    pub runs: Cursor,
+    pub rx: Cursor,
+}

@@ -1,0 +1,17 @@
+-- `taking::refused` meets its contract. Assumes nothing.
+use borrow.Author.Needs.{needs}
+use Rattle.handover.proofs.taking.refused.Statement.{statement}
+use Rattle.handover.proofs.taking.refused.Tie as tie
+
+no-report-requires : tie.Need-no-report-requires
+no-report-requires c κs = search needs
+
+returns : tie.Need-returns
+returns c = rw (c .no-report .ensures)
+
+pub refused-spec : {M : Type 1} → statement M
+refused-spec =
+    tie.close
+    (tie.spec
+    no-report-requires
+    returns)

@@ -1,0 +1,21 @@
+-- `taking::taken` meets its contract. Assumes nothing.
+use borrow.Author.Needs.{needs}
+use Rattle.handover.proofs.taking.taken.Statement.{statement}
+use Rattle.handover.proofs.taking.taken.Tie as tie
+
+none-requires : tie.Need-none-requires
+none-requires c κs = search needs
+
+report-requires : tie.Need-report-requires
+report-requires c κs = search needs
+
+returns : tie.Need-returns
+returns c = rw (c .report .ensures, c .before .none .ensures)
+
+pub taken-spec : {M : Type 1} → statement M
+taken-spec =
+    tie.close
+    (tie.spec
+    none-requires
+    report-requires
+    returns)

@@ -1,0 +1,17 @@
+-- `taking::undated` meets its contract. Assumes nothing.
+use borrow.Author.Needs.{needs}
+use Rattle.handover.proofs.taking.undated.Statement.{statement}
+use Rattle.handover.proofs.taking.undated.Tie as tie
+
+no-report-requires : tie.Need-no-report-requires
+no-report-requires c κs = search needs
+
+returns : tie.Need-returns
+returns c = rw (c .no-report .ensures)
+
+pub undated-spec : {M : Type 1} → statement M
+undated-spec =
+    tie.close
+    (tie.spec
+    no-report-requires
+    returns)

@@ -1,0 +1,64 @@
+-- `run` meets its contract: each call keeps the UART within the limits. Assumes nothing.
+use Prim.Native.Nat.{_-_, _≤_}
+use Rattle.uart.specs.Whole.{Good}
+use borrow.Author.Needs.{needs}
+use native.Mathlib.Omega.{arith}
+use Rattle.mixed_main.proofs.run.Statement.{statement}
+use Rattle.mixed_main.proofs.run.Tie as tie
+
+abbrev Inv-loop : tie.InvT-loop
+Inv-loop tally₀ row₀ tally row = Good (tally .uart) × (row ≤ 100)
+
+abbrev μ-loop : tie.MeasureT-loop
+μ-loop tally₀ row₀ tally row = 100 - row
+
+write-requires : tie.Need-write-requires Inv-loop μ-loop
+write-requires c κs = search needs
+
+write-requires-2 : tie.Need-write-requires-2 Inv-loop μ-loop
+write-requires-2 c κs = search needs
+
+loop-holds : tie.Need-loop-holds Inv-loop μ-loop
+loop-holds c = search needs
+
+mul-round : tie.Need-mul-round Inv-loop μ-loop
+mul-round c = search needs
+
+add-round : tie.Need-add-round Inv-loop μ-loop
+add-round c = search needs
+
+round-requires : tie.Need-round-requires Inv-loop μ-loop
+round-requires c κs = search needs
+
+add-row : tie.Need-add-row Inv-loop μ-loop
+add-row c = search needs
+
+loop-less : tie.Need-loop-less Inv-loop μ-loop
+loop-less c = search needs
+
+loop-again : tie.Need-loop-again Inv-loop μ-loop
+loop-again c = search needs
+
+show-requires : tie.Need-show-requires Inv-loop μ-loop
+show-requires c κs = search needs
+
+returns : tie.Need-returns Inv-loop μ-loop
+returns c = search needs
+
+pub run-spec : {M : Type 1} → statement M
+run-spec =
+    tie.close
+    (tie.spec
+    Inv-loop
+    μ-loop
+    write-requires
+    write-requires-2
+    loop-holds
+    mul-round
+    add-round
+    round-requires
+    add-row
+    loop-less
+    loop-again
+    show-requires
+    returns)

@@ -1,0 +1,61 @@
+// The answer to a line.
+use crate::carried::carry_out;
+use crate::faults::Fault;
+use crate::faults::Reason;
+use crate::faults::put_fault;
+use crate::lines::Line;
+use crate::lines::read_line;
+use crate::names::Name;
+use crate::session::Session;
+use crate::setups::set_up;
+use text::next_word;
+ghost use Rattle.uart.specs.Whole.{Good};
+
+fn wrong(session: Session, s: &[u8], fault: Fault, out: &mut [u8]) -> Session
+    requires { ⌜ Good (session .uart) ⌝ }
+    ensures { λ r. ⌜ Good (r .uart) ⌝ }
+{
+    let at = put_fault(out, session.at, s, fault);
+    session.with_output(at)
+}
+
+// A call before the first set-up.
+fn first_call(session: Session, s: &[u8], name: Name, numbers: [u64; 32], out: &mut [u8]) -> Session
+    requires { ⌜ Good (session .uart) ⌝ }
+    ensures { λ r. ⌜ Good (r .uart) ⌝ }
+{
+    if let Name::Setup = name {
+        return set_up(session, numbers, out);
+    }
+    let word = next_word(s, 0);
+    wrong(
+        session,
+        s,
+        Fault {
+            reason: Reason::NoUart,
+            start: word.start,
+            end: word.end,
+        },
+        out,
+    )
+}
+
+// Puts the answer to a line. A line that is no call changes nothing.
+pub fn answer(session: Session, s: &[u8], bytes: &mut [u8], out: &mut [u8]) -> Session
+    requires { ⌜ Good (session .uart) ⌝ }
+    ensures { λ r. ⌜ Good (r .uart) ⌝ }
+{
+    let mut numbers = [0u64; 32];
+    let line = read_line(s, &mut numbers, bytes);
+    match line {
+        Line::Nothing => session,
+        Line::Wrong(fault) => wrong(session, s, fault, out),
+        Line::Call(name, last) => {
+            if session.ready {
+                carry_out(session, name, numbers, last, bytes, out)
+            } else {
+                first_call(session, s, name, numbers, out)
+            }
+        }
+    }
+}

@@ -1,0 +1,83 @@
+// What makes a line no call, and the line that it answers.
+use text::put;
+
+pub enum Reason {
+    UnknownName,
+    // The word is the call's name.
+    MissingWord,
+    ExtraWord,
+    NoNumber,
+    NoNumber32,
+    NoBit,
+    NoLength,
+    NoBytes,
+    NoUart,
+}
+
+// The word at fault stands from `start` up to, and without, `end`.
+pub struct Fault {
+    pub reason: Reason,
+    pub start: usize,
+    pub end: usize,
+}
+
+// More of a word than this is not shown.
+const SHOWN: usize = 40;
+
+fn put_reason(out: &mut [u8], at: usize, reason: Reason) -> usize {
+    match reason {
+        Reason::UnknownName => put(out, at, b"no call has the name"),
+        Reason::MissingWord => put(out, at, b"a word is missing after"),
+        Reason::ExtraWord => put(out, at, b"an extra word"),
+        Reason::NoNumber => put(out, at, b"no number of 64 bits"),
+        Reason::NoNumber32 => put(out, at, b"no number of 32 bits"),
+        Reason::NoBit => put(out, at, b"neither 0 nor 1"),
+        Reason::NoLength => put(out, at, b"no length of at most 8192"),
+        Reason::NoBytes => put(out, at, b"no even number of hexadecimal digits"),
+        Reason::NoUart => put(out, at, b"no UART is set up for"),
+    }
+}
+
+// A byte as it is shown: one that does not print is a `?`.
+fn shown(byte: u8) -> u8 {
+    if byte < 33 {
+        b'?'
+    } else if byte > 126 {
+        b'?'
+    } else {
+        byte
+    }
+}
+
+// Puts the start of a word of `s`.
+fn put_shown(out: &mut [u8], at: usize, s: &[u8], start: usize, end: usize) -> usize {
+    let mut place = at;
+    let mut i = start;
+    while i < end {
+        if i >= s.len() {
+            return place;
+        }
+        if i - start >= SHOWN {
+            return put(out, place, b"..");
+        }
+        let letter = [shown(s[i])];
+        place = put(out, place, &letter);
+        i += 1;
+    }
+    place
+}
+
+// Puts the line that a line with a fault answers.
+pub fn put_fault(out: &mut [u8], at: usize, s: &[u8], fault: Fault) -> usize {
+    let named = put(out, at, b"error: ");
+    let reason = fault.reason;
+    let said = put_reason(out, named, reason);
+    let quoted = put(out, said, b": `");
+    let word = put_shown(out, quoted, s, fault.start, fault.end);
+    put(out, word, b"`\n")
+}
+
+// Puts the line that a line of more than 16,384 bytes answers.
+pub fn put_long(out: &mut [u8], at: usize) -> usize {
+    put(out, at, b"error: the line is longer than 16384 bytes\n")
+}

@@ -1,0 +1,24 @@
+// Answers the calls of the replay format (docs/REPLAY.md) on standard input, a line for each, on standard output.
+mod answering;
+mod answers;
+mod carried;
+mod faults;
+mod forms;
+mod input;
+mod lent;
+mod lines;
+mod names;
+mod notices;
+mod output;
+mod session;
+mod setups;
+mod usage;
+mod words;
+
+fn main() {
+    if os::arg_count() > 1 {
+        usage::show();
+    } else {
+        input::run();
+    }
+}

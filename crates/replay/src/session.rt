@@ -1,0 +1,74 @@
+// The UART that the calls are on, and how far the output is filled.
+use crate::output::flush;
+use uart::Uart;
+ghost use Rattle.uart.specs.Whole.{Good};
+
+// Before the first set-up the UART is one that no call reaches. The output is filled up to `at`; nothing is put to it
+// or written after a failure.
+pub struct Session {
+    pub uart: Uart,
+    pub ready: bool,
+    pub at: usize,
+    pub failed: bool,
+}
+
+impl Session {
+    // The output is filled up to another place.
+    pub fn with_output(mut self, at: usize) -> Session
+        requires { ⌜ Good (self .uart) ⌝ }
+        ensures { λ r. ⌜ Good (r .uart) ⌝ }
+    {
+        self.at = at;
+        self
+    }
+
+    pub fn failing(mut self) -> Session
+        requires { ⌜ Good (self .uart) ⌝ }
+        ensures { λ r. ⌜ Good (r .uart) ⌝ }
+    {
+        self.failed = true;
+        self
+    }
+
+    // All that was put to the output is written.
+    pub fn written(self, out: &[u8]) -> Session
+        requires { ⌜ Good (self .uart) ⌝ }
+        ensures { λ r. ⌜ Good (r .uart) ⌝ }
+    {
+        if self.failed {
+            return self;
+        }
+        if flush(out, self.at) {
+            self.with_output(0)
+        } else {
+            self.failing()
+        }
+    }
+}
+
+pub fn begin() -> Session
+    ensures { λ r. ⌜ Good (r .uart) ⌝ }
+{
+    let offsets = [0, 4, 8, 12, 16, 20, 24, 28, 32, 36, 40, 44, 48, 52, 56, 60];
+    let new = Uart::new(offsets, [0; 16]);
+    let uart = new.uart;
+    Session {
+        uart,
+        ready: false,
+        at: 0,
+        failed: false,
+    }
+}
+
+// A UART that was set up.
+pub fn in_use(uart: Uart, at: usize) -> Session
+    requires { ⌜ Good uart ⌝ }
+    ensures { λ r. ⌜ Good (r .uart) ⌝ }
+{
+    Session {
+        uart,
+        ready: true,
+        at,
+        failed: false,
+    }
+}

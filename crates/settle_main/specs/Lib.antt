@@ -1,3 +1,0 @@
--- The states that the program settles.
-pub mod Bench
-pub mod Between

@@ -1,0 +1,14 @@
+-- `Uart::watch` meets its contract. Assumes nothing.
+use mathlib.Core.Path.{refl}
+use borrow.Author.Needs.{needs}
+use Rattle.uart.proofs.Uart.watch.Statement.{statement}
+use Rattle.uart.proofs.Uart.watch.Tie as tie
+
+watch-requires : tie.Need-watch-requires
+watch-requires c κs = search needs
+
+returns : tie.Need-returns
+returns c = c .before .before .watch .ensures _ refl refl (c .before .before .before .before .before .before .before .pre)
+
+pub watch-spec : {M : Type 1} → statement M
+watch-spec = tie.close (tie.spec watch-requires returns)

@@ -1,0 +1,127 @@
+-- A UART as one value: what it stands for, the condition on it, and the contracts of its methods, which are those of the calls
+-- over parts. Assumes nothing.
+-- What is free is named in the specs of `device`, Holds: where a queue starts in its slots, and what stands in slots that hold no
+-- element. No answer depends on it, since every contract gives the answer from the meaning alone.
+use mathlib.Core.Path.{_≡_, refl, sym, subst, _∙_}
+use mathlib.Core.Bool.{false}
+use mathlib.Core.List.{List}
+use Prim.Native.Nat.{ℕ, _+_, _≤_}
+use native.Mathlib.Omega.{arith}
+use lib.ListN.{length, replicate}
+use Rattle.model.specs.State
+use Rattle.model.specs.SetUp.{mapOf, newControl, new, setUpReply}
+use Rattle.model.specs.Tests.{repeated, sentLimit}
+use Rattle.model.specs.Calls.{Outcome}
+use Rattle.model.specs.Replies.{Take}
+use Rattle.model.specs.Limits.{Within}
+use Rattle.model.specs.Laws.Choose.{choose-ind}
+use Rattle.model.specs.Keeps.Runs.{new-within}
+use Rattle.model.specs.declared.Report.{Report}
+use Rattle.model.specs.declared.SetUp.{SetUp}
+use Rattle.model.specs.declared.Taken.{Taken}
+use Rattle.queue.specs.Cursors.{slotOf, empty}
+use Rattle.queue.specs.Laws.{elems-length, empty-held, empty-elems}
+use Rattle.control.specs.declared.Receiving.{Receiving}
+use Rattle.device.specs.Holds.{Arrays, sentAt, runAt, onTheLine, abs, Shape, Ok}
+use Rattle.device.specs.Wholes.{arrays}
+use Rattle.device.specs.declared.Core.{Core}
+use Rattle.calls.specs.Answers.{Answers}
+use Rattle.handover.specs.Takes.{TakesWith}
+use Rattle.uart.specs.declared.Uart.{Uart}
+
+abbrev pub arraysOf : Uart → Arrays
+arraysOf u = arrays (u .«gone_at») (u .flight) (u .tx) (u .host) (u .«run_dates») (u .«run_counts») (u .rx)
+
+-- the state of the definition that it stands for
+abbrev pub meaning : Uart → State.Uart ℕ ℕ
+meaning u = abs (u .core) (arraysOf u)
+
+-- its queues stand in their slots, and it is within document 01's limits
+abbrev pub Good : Uart → Type 0
+Good u = Ok (u .core) (arraysOf u)
+
+-- a call answers as the definition's
+abbrev pub Answered : {X R : Type 0} → (X → R) → (X → ℕ) → (State.Uart ℕ ℕ → Outcome X ℕ ℕ) → Uart → Uart → R → Report → Type 0
+Answered view number call u u′ reply report = Answers view number (call (meaning u)) (u .core) (arraysOf u) (u′ .core) (arraysOf u′) reply report
+
+-- the same of a call that fills a lent buffer
+abbrev pub Took : (State.Uart ℕ ℕ → Outcome (Take ℕ ℕ) ℕ ℕ) → Uart → Uart → Taken → Report → List ℕ → Type 0
+Took call u u′ reply report out = TakesWith call (u .core) (arraysOf u) (u′ .core) (arraysOf u′) reply report out
+
+-- set-up gives the definition's new state, within the limits unless it is refused
+pub record SetsUp (offsets resets : List ℕ) (u : Uart) (reply : SetUp) : Type 0 where
+  pub replies : reply ≡ setUpReply offsets
+  pub state : meaning u ≡ new offsets resets
+  pub good : reply ≡ SetUp.Ready → Good u
+
+-- the bytes that left and those in flight fit a lent buffer
+pub sent-few : (c : Core) (a : Arrays) → Ok c a → c .tx .count + c .flight .count ≤ sentLimit
+sent-few c a ok =
+    omega (arith, ok .within .sent, elems-length (slotOf (a .tx) 0) 1152 (c .tx), elems-length (sentAt (a .goneAt) (a .flight)) 129 (c .flight))
+
+-- ---- set-up
+
+-- a core with nothing in its queues
+abbrev pub newCore : List ℕ → List ℕ → Core
+newCore offsets resets = record {
+  map = mapOf offsets resets;
+  control = newControl (mapOf offsets resets .reset);
+  receiving = Receiving.None;
+  byte = 0;
+  flight = empty;
+  tx = empty;
+  host = empty;
+  runs = empty;
+  rx = empty;
+}
+
+-- slots of zeros
+abbrev pub zeros : Arrays
+zeros = arrays (replicate 129 0) (replicate 129 0) (replicate 1152 0) (replicate 1024 0) (replicate 64 0) (replicate 64 0) (replicate 128 0)
+
+module _ (offsets resets : List ℕ) (a : Arrays) where
+  -- whatever stands in the slots
+  pub new-means : abs (newCore offsets resets) a ≡ new offsets resets
+  unfolding new mapOf onTheLine
+  new-means =
+      rw (
+        empty-elems (sentAt (a .goneAt) (a .flight)) 129,
+        empty-elems (slotOf (a .tx) 0) 1152,
+        empty-elems (slotOf (a .host) 0) 1024,
+        empty-elems (runAt (a .runDates) (a .runCounts)) 64,
+        empty-elems (slotOf (a .rx) 0) 128,
+      )
+
+  -- the lengths of the seven arrays
+  abbrev pub Slots : Type 0
+  Slots =
+      (length (a .goneAt) ≡ 129) × (length (a .flight) ≡ 129) × (length (a .tx) ≡ 1152) × (length (a .host) ≡ 1024)
+      × (length (a .runDates) ≡ 64) × (length (a .runCounts) ≡ 64) × (length (a .rx) ≡ 128)
+
+  new-shape : Slots → Shape (newCore offsets resets) a
+  new-shape l = record {
+    flight = empty-held 129 (omega arith);
+    tx = empty-held 1152 (omega arith);
+    host = empty-held 1024 (omega arith);
+    runs = empty-held 64 (omega arith);
+    rx = empty-held 128 (omega arith);
+    goneAtSlots = l .0;
+    flightSlots = l .1;
+    txSlots = l .2;
+    hostSlots = l .3;
+    runDateSlots = l .4;
+    runCountSlots = l .5;
+    rxSlots = l .6;
+  }
+
+  -- set-up that is not refused has offsets that all differ
+  all-differ : {reply : SetUp} → reply ≡ setUpReply offsets → reply ≡ SetUp.Ready → repeated offsets ≡ false
+  unfolding setUpReply
+  all-differ {reply} e ready =
+      choose-ind (λ (r : SetUp). r ≡ SetUp.Ready → repeated offsets ≡ false) (repeated offsets) (λ _ bad. cc) (λ t _. t) (sym e ∙ ready)
+
+  pub new-good : {reply : SetUp} → length offsets ≡ 16 → Slots → reply ≡ setUpReply offsets → reply ≡ SetUp.Ready → Ok (newCore offsets resets) a
+  new-good sixteen l e ready = record {
+    shape = new-shape l;
+    within = subst Within (sym new-means) (new-within offsets resets sixteen (all-differ e ready));
+  }
