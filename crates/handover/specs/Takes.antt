@@ -116,13 +116,15 @@ took-written lent c a {k} {out} s f =
     let bytes : map (λ (x : Sent ℕ). x .byte) (abs c a .inFlight) ≡ elems (slotOf (a .flight) 0) 129 (c .flight) = map-elems (λ (x : Sent ℕ). x .byte) (sentAt (a .goneAt) (a .flight)) 129 (c .flight) in
     let all : length (abs c a .tx ++ map (λ (x : Sent ℕ). x .byte) (abs c a .inFlight)) ≡ k =
     rw (length-append, bytes, elems-length (slotOf (a .tx) 0) 1152 (c .tx), elems-length (slotOf (a .flight) 0) 129 (c .flight)) (sym (f .0))
-    in
-    (record {
-      shape = emptied-shape c a empty (empty-held 129 (omega arith)) s;
-      replies = ap Taken.Bytes (sym all);
-      reports = refl;
-      state = rw (empty-elems (slotOf (a .tx) 0) 1152, empty-elems (sentAt (a .goneAt) (a .flight)) 129);
-    }, f .1 ∙ rw (all, bytes, f .0, append-assoc))
+    in (
+      record {
+        shape = emptied-shape c a empty (empty-held 129 (omega arith)) s;
+        replies = ap Taken.Bytes (sym all);
+        reports = refl;
+        state = rw (empty-elems (slotOf (a .tx) 0) 1152, empty-elems (sentAt (a .goneAt) (a .flight)) 129);
+      },
+      f .1 ∙ rw (all, bytes, f .0, append-assoc),
+    )
 
 module _ {call : Outcome (Take ℕ ℕ) ℕ ℕ} {tests : Option Refusal} (lent : List ℕ) (work : State.Uart ℕ ℕ → Outcome (Take ℕ ℕ) ℕ ℕ) (c : Core) (a : Arrays)
     (e : call ≡ unless tests (notTaken lent) work (abs c a)) where

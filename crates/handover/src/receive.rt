@@ -62,7 +62,13 @@ fn received<'a, 'b>(
     }
     let mut settled = t.core;
     let waiting = settled.host.append(1024, host, bytes);
-    let runs = runs::joined(settled.runs, run_dates, run_counts, host_date(cycle, at), n as u64);
+    let runs = runs::joined(
+        settled.runs,
+        run_dates,
+        run_counts,
+        host_date(cycle, at),
+        n as u64,
+    );
     settled.host = waiting;
     settled.runs = runs;
     let armed = arming::arm(settled, gone_at, run_dates);

@@ -1,16 +1,26 @@
-// One mixed workload: firmware sends a row, a host answers with one, an interrupt handler reads it, and a console takes what
-// was sent. compare/programs/src/bin/workload.rs does the same on the published Rust.
+// One mixed workload over the parts of a UART, as a program that embeds it would call: firmware sends a row, a host answers
+// with one, an interrupt handler reads it, and a console takes what was sent. compare/programs/src/bin/workload.rs does the
+// same on the published Rust.
+use access::read;
+use access::write;
+use calls::undated;
+use calls::wake;
+use device::Core;
+use handover::receive;
+use handover::take_tx;
 use libc::STDOUT_FILENO;
 use model::Read;
 use model::SetUp;
 use model::Taken;
 use uart::Uart;
 ghost use Prim.Native.Nat.{_≤_};
+ghost use Rattle.device.specs.Holds.{Ok};
+ghost use Rattle.device.specs.Wholes.{arrays};
 ghost use Rattle.uart.specs.Whole.{Good};
 
-// A UART, and a sum over what its calls answered.
+// A core, and a sum over what the calls answered.
 struct Tally {
-    uart: Uart,
+    core: Core,
     sum: u64,
 }
 
@@ -27,72 +37,270 @@ fn value_of(reply: Read) -> u32 {
 }
 
 // The firmware: a look at the transmit FIFO before each of 16 bytes.
-fn row_sent(from: Tally, base: u64) -> Tally
-    requires { ⌜ Good (from .uart) × (base ≤ 100000000) ⌝ }
-    ensures { λ r. ⌜ Good (r .uart) ⌝ }
+fn row_sent<'a>(
+    from: Tally,
+    gone_at: &'a mut [u64; 129],
+    flight: &'a mut [u8; 129],
+    tx: &'a mut [u8; 1152],
+    host: &'a mut [u8; 1024],
+    run_dates: &'a mut [u64; 64],
+    run_counts: &'a mut [u64; 64],
+    rx: &'a mut [u8; 128],
+    base: u64,
+) -> Tally
+    requires { ⌜ Ok (from .core) (arrays (now «gone_at») (now flight) (now tx) (now host) (now «run_dates») (now «run_counts») (now rx)) × (base ≤ 100000000) ⌝ }
+    ensures { λ r. ⌜ Ok (r .core) (arrays (now («gone_at» .exit)) (now (flight .exit)) (now (tx .exit)) (now (host .exit)) (now («run_dates» .exit)) (now («run_counts» .exit)) (now (rx .exit))) ⌝ }
 {
-    let mut uart = from.uart;
+    let mut core = from.core;
     let mut sum = from.sum;
     let mut i: u64 = 0;
     while i < 16 {
         let cycle = base + i * 10;
-        let seen = uart.read(cycle, bench::STATUS);
+        let seen = read::read(
+            core,
+            gone_at,
+            flight,
+            tx,
+            host,
+            run_dates,
+            run_counts,
+            rx,
+            cycle,
+            bench::STATUS,
+        );
         let status = seen.reply;
         sum = added(sum, value_of(status) as u64);
-        let looked = seen.uart;
-        let put = looked.write(cycle, bench::FIFO, (i + 32) as u32);
-        uart = put.uart;
+        core = seen.core;
+        let put = write::write(
+            core,
+            gone_at,
+            flight,
+            tx,
+            host,
+            run_dates,
+            run_counts,
+            rx,
+            cycle,
+            bench::FIFO,
+            (i + 32) as u32,
+        );
+        core = put.core;
         i = i + 1;
     }
-    Tally { uart, sum }
+    Tally { core, sum }
+}
+
+// What a read gave.
+struct Look {
+    core: Core,
+    sum: u64,
+    value: u32,
+}
+
+// What is read at an offset joins the sum.
+fn looked<'a>(
+    from: Tally,
+    gone_at: &'a mut [u64; 129],
+    flight: &'a mut [u8; 129],
+    tx: &'a mut [u8; 1152],
+    host: &'a mut [u8; 1024],
+    run_dates: &'a mut [u64; 64],
+    run_counts: &'a mut [u64; 64],
+    rx: &'a mut [u8; 128],
+    cycle: u64,
+    offset: u32,
+) -> Look
+    requires { ⌜ Ok (from .core) (arrays (now «gone_at») (now flight) (now tx) (now host) (now «run_dates») (now «run_counts») (now rx)) ⌝ }
+    ensures { λ r. ⌜ Ok (r .core) (arrays (now («gone_at» .exit)) (now (flight .exit)) (now (tx .exit)) (now (host .exit)) (now («run_dates» .exit)) (now («run_counts» .exit)) (now (rx .exit))) ⌝ }
+{
+    let before = from.core;
+    let seen = read::read(
+        before,
+        gone_at,
+        flight,
+        tx,
+        host,
+        run_dates,
+        run_counts,
+        rx,
+        cycle,
+        offset,
+    );
+    let reply = seen.reply;
+    let value = value_of(reply);
+    let core = seen.core;
+    Look {
+        core,
+        sum: added(from.sum, value as u64),
+        value,
+    }
 }
 
 // A byte is read where STATUS counts one.
-fn byte_read(uart: Uart, sum: u64, status: u32, cycle: u64) -> Tally
-    requires { ⌜ Good uart ⌝ }
-    ensures { λ r. ⌜ Good (r .uart) ⌝ }
+fn byte_read<'a>(
+    status: Look,
+    gone_at: &'a mut [u64; 129],
+    flight: &'a mut [u8; 129],
+    tx: &'a mut [u8; 1152],
+    host: &'a mut [u8; 1024],
+    run_dates: &'a mut [u64; 64],
+    run_counts: &'a mut [u64; 64],
+    rx: &'a mut [u8; 128],
+    cycle: u64,
+) -> Tally
+    requires { ⌜ Ok (status .core) (arrays (now «gone_at») (now flight) (now tx) (now host) (now «run_dates») (now «run_counts») (now rx)) ⌝ }
+    ensures { λ r. ⌜ Ok (r .core) (arrays (now («gone_at» .exit)) (now (flight .exit)) (now (tx .exit)) (now (host .exit)) (now («run_dates» .exit)) (now («run_counts» .exit)) (now (rx .exit))) ⌝ }
 {
-    if status & 0x3FF == 0 {
-        return Tally { uart, sum };
+    let core = status.core;
+    if status.value & 0x3FF == 0 {
+        return Tally {
+            core,
+            sum: status.sum,
+        };
     }
-    let done = uart.read(cycle, bench::FIFO);
-    let byte = done.reply;
-    let next = done.uart;
+    let byte = looked(
+        Tally {
+            core,
+            sum: status.sum,
+        },
+        gone_at,
+        flight,
+        tx,
+        host,
+        run_dates,
+        run_counts,
+        rx,
+        cycle,
+        bench::FIFO,
+    );
+    let next = byte.core;
     Tally {
-        uart: next,
-        sum: added(sum, value_of(byte) as u64),
+        core: next,
+        sum: byte.sum,
     }
 }
 
-// The interrupt handler: what is raised, one byte where one is held, and what was raised is cleared.
-fn handled(from: Tally, base: u64) -> Tally
-    requires { ⌜ Good (from .uart) × (base ≤ 100000000) ⌝ }
-    ensures { λ r. ⌜ Good (r .uart) ⌝ }
+// The interrupt: what is raised, one byte where one is held, and what was raised is cleared.
+fn interrupt<'a>(
+    from: Tally,
+    gone_at: &'a mut [u64; 129],
+    flight: &'a mut [u8; 129],
+    tx: &'a mut [u8; 1152],
+    host: &'a mut [u8; 1024],
+    run_dates: &'a mut [u64; 64],
+    run_counts: &'a mut [u64; 64],
+    rx: &'a mut [u8; 128],
+    cycle: u64,
+) -> Tally
+    requires { ⌜ Ok (from .core) (arrays (now «gone_at») (now flight) (now tx) (now host) (now «run_dates») (now «run_counts») (now rx)) ⌝ }
+    ensures { λ r. ⌜ Ok (r .core) (arrays (now («gone_at» .exit)) (now (flight .exit)) (now (tx .exit)) (now (host .exit)) (now («run_dates» .exit)) (now («run_counts» .exit)) (now (rx .exit))) ⌝ }
 {
-    let mut uart = from.uart;
-    let mut sum = from.sum;
+    let woken = wake::wake(
+        from.core,
+        gone_at,
+        flight,
+        tx,
+        host,
+        run_dates,
+        run_counts,
+        rx,
+        cycle,
+    );
+    let core = woken.core;
+    let raised = looked(
+        Tally {
+            core,
+            sum: from.sum,
+        },
+        gone_at,
+        flight,
+        tx,
+        host,
+        run_dates,
+        run_counts,
+        rx,
+        cycle,
+        bench::INT_ST,
+    );
+    let told = raised.core;
+    let status = looked(
+        Tally {
+            core: told,
+            sum: raised.sum,
+        },
+        gone_at,
+        flight,
+        tx,
+        host,
+        run_dates,
+        run_counts,
+        rx,
+        cycle,
+        bench::STATUS,
+    );
+    let read = byte_read(
+        status,
+        gone_at,
+        flight,
+        tx,
+        host,
+        run_dates,
+        run_counts,
+        rx,
+        cycle,
+    );
+    let cleared = write::write(
+        read.core,
+        gone_at,
+        flight,
+        tx,
+        host,
+        run_dates,
+        run_counts,
+        rx,
+        cycle,
+        bench::INT_CLR,
+        raised.value,
+    );
+    let next = cleared.core;
+    Tally {
+        core: next,
+        sum: read.sum,
+    }
+}
+
+// The handler is called twenty times.
+fn handled<'a>(
+    from: Tally,
+    gone_at: &'a mut [u64; 129],
+    flight: &'a mut [u8; 129],
+    tx: &'a mut [u8; 1152],
+    host: &'a mut [u8; 1024],
+    run_dates: &'a mut [u64; 64],
+    run_counts: &'a mut [u64; 64],
+    rx: &'a mut [u8; 128],
+    base: u64,
+) -> Tally
+    requires { ⌜ Ok (from .core) (arrays (now «gone_at») (now flight) (now tx) (now host) (now «run_dates») (now «run_counts») (now rx)) × (base ≤ 100000000) ⌝ }
+    ensures { λ r. ⌜ Ok (r .core) (arrays (now («gone_at» .exit)) (now (flight .exit)) (now (tx .exit)) (now (host .exit)) (now («run_dates» .exit)) (now («run_counts» .exit)) (now (rx .exit))) ⌝ }
+{
+    let mut tally = from;
     let mut i: u64 = 0;
     while i < 20 {
-        let cycle = base + i * 420;
-        let woken = uart.wake(cycle);
-        uart = woken.uart;
-        let first = uart.read(cycle, bench::INT_ST);
-        let interrupts = first.reply;
-        let raised = value_of(interrupts);
-        uart = first.uart;
-        let second = uart.read(cycle, bench::STATUS);
-        let counts = second.reply;
-        let status = value_of(counts);
-        uart = second.uart;
-        let both = added(added(sum, raised as u64), status as u64);
-        let read = byte_read(uart, both, status, cycle);
-        sum = read.sum;
-        uart = read.uart;
-        let cleared = uart.write(cycle, bench::INT_CLR, raised);
-        uart = cleared.uart;
+        tally = interrupt(
+            tally,
+            gone_at,
+            flight,
+            tx,
+            host,
+            run_dates,
+            run_counts,
+            rx,
+            base + i * 420,
+        );
         i = i + 1;
     }
-    Tally { uart, sum }
+    tally
 }
 
 fn count_of(reply: Taken) -> u64 {
@@ -103,57 +311,167 @@ fn count_of(reply: Taken) -> u64 {
 }
 
 // The console: what was sent, and whether more has left or waits.
-fn shown(tally: Tally, cycle: u64) -> Tally
-    requires { ⌜ Good (tally .uart) ⌝ }
-    ensures { λ r. ⌜ Good (r .uart) ⌝ }
+fn shown<'a>(
+    from: Tally,
+    gone_at: &'a mut [u64; 129],
+    flight: &'a mut [u8; 129],
+    tx: &'a mut [u8; 1152],
+    host: &'a mut [u8; 1024],
+    run_dates: &'a mut [u64; 64],
+    run_counts: &'a mut [u64; 64],
+    rx: &'a mut [u8; 128],
+    cycle: u64,
+) -> Tally
+    requires { ⌜ Ok (from .core) (arrays (now «gone_at») (now flight) (now tx) (now host) (now «run_dates») (now «run_counts») (now rx)) ⌝ }
+    ensures { λ r. ⌜ Ok (r .core) (arrays (now («gone_at» .exit)) (now (flight .exit)) (now (tx .exit)) (now (host .exit)) (now («run_dates» .exit)) (now («run_counts» .exit)) (now (rx .exit))) ⌝ }
 {
     let mut buffer = [0u8; 1152];
-    let uart = tally.uart;
-    let done = uart.take_tx(cycle, &mut buffer);
-    let next = done.uart;
+    let done = take_tx::take_tx(
+        from.core,
+        gone_at,
+        flight,
+        tx,
+        host,
+        run_dates,
+        run_counts,
+        rx,
+        cycle,
+        &mut buffer,
+    );
+    let core = done.core;
     let reply = done.reply;
-    let pending = next.host_pending() as u64;
-    let left = next.has_left() as u64;
-    let sum = added(added(added(tally.sum, count_of(reply)), pending), left);
-    Tally { uart: next, sum }
+    let pending = undated::host_pending(core) as u64;
+    let left = undated::has_left(core) as u64;
+    let sum = added(added(added(from.sum, count_of(reply)), pending), left);
+    Tally { core, sum }
 }
 
-fn round(tally: Tally, base: u64) -> Tally
-    requires { ⌜ Good (tally .uart) × (base ≤ 90000000) ⌝ }
-    ensures { λ r. ⌜ Good (r .uart) ⌝ }
+// A row is sent, one comes, the handler reads it, and the console takes what was sent.
+fn round<'a>(
+    from: Tally,
+    gone_at: &'a mut [u64; 129],
+    flight: &'a mut [u8; 129],
+    tx: &'a mut [u8; 1152],
+    host: &'a mut [u8; 1024],
+    run_dates: &'a mut [u64; 64],
+    run_counts: &'a mut [u64; 64],
+    rx: &'a mut [u8; 128],
+    base: u64,
+) -> Tally
+    requires { ⌜ Ok (from .core) (arrays (now «gone_at») (now flight) (now tx) (now host) (now «run_dates») (now «run_counts») (now rx)) × (base ≤ 90000000) ⌝ }
+    ensures { λ r. ⌜ Ok (r .core) (arrays (now («gone_at» .exit)) (now (flight .exit)) (now (tx .exit)) (now (host .exit)) (now («run_dates» .exit)) (now («run_counts» .exit)) (now (rx .exit))) ⌝ }
 {
-    let sent = row_sent(tally, base);
+    let sent = row_sent(
+        from,
+        gone_at,
+        flight,
+        tx,
+        host,
+        run_dates,
+        run_counts,
+        rx,
+        base,
+    );
     let row = *b"basket 7, row 12";
-    let uart = sent.uart;
-    let given = uart.receive(base + 200, base + 300, &row);
-    let next = given.uart;
+    let given = receive::receive(
+        sent.core,
+        gone_at,
+        flight,
+        tx,
+        host,
+        run_dates,
+        run_counts,
+        rx,
+        base + 200,
+        base + 300,
+        &row,
+    );
+    let core = given.core;
     let answered = handled(
         Tally {
-            uart: next,
+            core,
             sum: sent.sum,
         },
+        gone_at,
+        flight,
+        tx,
+        host,
+        run_dates,
+        run_counts,
+        rx,
         base + 300,
     );
-    shown(answered, base + 9000)
+    shown(
+        answered,
+        gone_at,
+        flight,
+        tx,
+        host,
+        run_dates,
+        run_counts,
+        rx,
+        base + 9000,
+    )
 }
 
-fn run(new: Uart)
-    requires { ⌜ Good new ⌝ }
+// Interrupts are enabled, a byte held raises RXFIFO_FULL, and the timeout is on.
+fn run<'a>(
+    new: Core,
+    gone_at: &'a mut [u64; 129],
+    flight: &'a mut [u8; 129],
+    tx: &'a mut [u8; 1152],
+    host: &'a mut [u8; 1024],
+    run_dates: &'a mut [u64; 64],
+    run_counts: &'a mut [u64; 64],
+    rx: &'a mut [u8; 128],
+) -> Tally
+    requires { ⌜ Ok new (arrays (now «gone_at») (now flight) (now tx) (now host) (now «run_dates») (now «run_counts») (now rx)) ⌝ }
+    ensures { λ r. ⌜ Ok (r .core) (arrays (now («gone_at» .exit)) (now (flight .exit)) (now (tx .exit)) (now (host .exit)) (now («run_dates» .exit)) (now («run_counts» .exit)) (now (rx .exit))) ⌝ }
 {
-    let enabled = new.write(0, bench::INT_ENA, 0x4113);
-    let first = enabled.uart;
-    let timed = first.write(0, bench::CONF1, 0x20C001);
-    let start = timed.uart;
-    let mut tally = Tally {
-        uart: start,
-        sum: 0,
-    };
+    let enabled = write::write(
+        new,
+        gone_at,
+        flight,
+        tx,
+        host,
+        run_dates,
+        run_counts,
+        rx,
+        0,
+        bench::INT_ENA,
+        0x4113,
+    );
+    let timed = write::write(
+        enabled.core,
+        gone_at,
+        flight,
+        tx,
+        host,
+        run_dates,
+        run_counts,
+        rx,
+        0,
+        bench::CONF1,
+        0x20C001,
+    );
+    let core = timed.core;
+    let mut tally = Tally { core, sum: 0 };
     let mut row: u64 = 0;
     while row < 100 {
-        tally = round(tally, row * 20000 + 1000);
+        tally = round(
+            tally,
+            gone_at,
+            flight,
+            tx,
+            host,
+            run_dates,
+            run_counts,
+            rx,
+            row * 20000 + 1000,
+        );
         row = row + 1;
     }
-    show(tally.sum);
+    tally
 }
 
 fn show(sum: u64) {
@@ -162,11 +480,34 @@ fn show(sum: u64) {
     io::write_all(STDOUT_FILENO, b"\n");
 }
 
+fn apart(new: Uart)
+    requires { ⌜ Good new ⌝ }
+{
+    let mut gone_at = new.gone_at;
+    let mut flight = new.flight;
+    let mut tx = new.tx;
+    let mut host = new.host;
+    let mut run_dates = new.run_dates;
+    let mut run_counts = new.run_counts;
+    let mut rx = new.rx;
+    let tally = run(
+        new.core,
+        &mut gone_at,
+        &mut flight,
+        &mut tx,
+        &mut host,
+        &mut run_dates,
+        &mut run_counts,
+        &mut rx,
+    );
+    show(tally.sum);
+}
+
 fn main() {
     let made = Uart::new(bench::OFFSETS, bench::RESETS);
     let reply = made.reply;
     match reply {
         SetUp::Refused(_) => show(0),
-        SetUp::Ready => run(made.uart),
+        SetUp::Ready => apart(made.uart),
     }
 }

@@ -1,16 +1,17 @@
 -- `row_sent` meets its contract: each call keeps the UART within the limits. Assumes nothing.
 use Prim.Native.Nat.{_-_, _≤_}
-use Rattle.uart.specs.Whole.{Good}
+use Rattle.device.specs.Holds.{Ok}
+use Rattle.device.specs.Wholes.{arrays}
 use borrow.Author.Needs.{needs}
 use native.Mathlib.Omega.{arith}
 use Rattle.mixed_main.proofs.row_sent.Statement.{statement}
 use Rattle.mixed_main.proofs.row_sent.Tie as tie
 
 abbrev Inv-loop : tie.InvT-loop
-Inv-loop base uart₀ sum₀ i₀ uart sum i = Good uart × (i ≤ 16)
+Inv-loop gone-at₀ flight₀ tx₀ host run-dates run-counts₀ rx₀ base core₀ sum₀ i₀ gone-at flight tx run-counts rx core sum i = Ok core (arrays gone-at flight tx host run-dates run-counts rx) × (i ≤ 16)
 
 abbrev μ-loop : tie.MeasureT-loop
-μ-loop base uart₀ sum₀ i₀ uart sum i = 16 - i
+μ-loop gone-at₀ flight₀ tx₀ host run-dates run-counts₀ rx₀ base core₀ sum₀ i₀ gone-at flight tx run-counts rx core sum i = 16 - i
 
 loop-holds : tie.Need-loop-holds Inv-loop μ-loop
 loop-holds c = search needs
@@ -43,13 +44,13 @@ write-requires : tie.Need-write-requires Inv-loop μ-loop
 write-requires c κs = search needs
 
 add-i : tie.Need-add-i Inv-loop μ-loop
-add-i c = search needs
+add-i c = omega (arith, c .before .before .before .before .before .before .before .before .before .before .before .before .before .before .before .before .before .before .before .before .loop-test .taken)
 
 loop-less : tie.Need-loop-less Inv-loop μ-loop
-loop-less c = search needs
+loop-less c = omega (arith, c .before .before .before .before .before .before .before .before .before .before .before .before .before .before .before .before .before .before .before .before .loop-test .taken)
 
 loop-again : tie.Need-loop-again Inv-loop μ-loop
-loop-again c = search needs
+loop-again c = (c .before .write .ensures .ok, omega (arith, c .before .before .before .before .before .before .before .before .before .before .before .before .before .before .before .before .before .before .before .before .loop-test .taken))
 
 returns : tie.Need-returns Inv-loop μ-loop
 returns c = search needs

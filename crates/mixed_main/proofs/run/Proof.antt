@@ -1,16 +1,17 @@
--- `run` meets its contract: each call keeps the UART within the limits. Assumes nothing.
+-- `run` meets its contract: each round keeps the UART within the limits. Assumes nothing.
 use Prim.Native.Nat.{_-_, _≤_}
-use Rattle.uart.specs.Whole.{Good}
+use Rattle.device.specs.Holds.{Ok}
+use Rattle.device.specs.Wholes.{arrays}
 use borrow.Author.Needs.{needs}
 use native.Mathlib.Omega.{arith}
 use Rattle.mixed_main.proofs.run.Statement.{statement}
 use Rattle.mixed_main.proofs.run.Tie as tie
 
 abbrev Inv-loop : tie.InvT-loop
-Inv-loop tally₀ row₀ tally row = Good (tally .uart) × (row ≤ 100)
+Inv-loop gone-at₀ flight₀ tx₀ host₀ run-dates₀ run-counts₀ rx₀ tally₀ row₀ gone-at flight tx host run-dates run-counts rx tally row = Ok (tally .core) (arrays gone-at flight tx host run-dates run-counts rx) × (row ≤ 100)
 
 abbrev μ-loop : tie.MeasureT-loop
-μ-loop tally₀ row₀ tally row = 100 - row
+μ-loop gone-at₀ flight₀ tx₀ host₀ run-dates₀ run-counts₀ rx₀ tally₀ row₀ gone-at flight tx host run-dates run-counts rx tally row = 100 - row
 
 write-requires : tie.Need-write-requires Inv-loop μ-loop
 write-requires c κs = search needs
@@ -37,10 +38,7 @@ loop-less : tie.Need-loop-less Inv-loop μ-loop
 loop-less c = search needs
 
 loop-again : tie.Need-loop-again Inv-loop μ-loop
-loop-again c = search needs
-
-show-requires : tie.Need-show-requires Inv-loop μ-loop
-show-requires c κs = search needs
+loop-again c = (c .round .ensures, omega (arith, c .before .before .before .before .before .before .before .before .loop-test .taken))
 
 returns : tie.Need-returns Inv-loop μ-loop
 returns c = search needs
@@ -60,5 +58,4 @@ run-spec =
     add-row
     loop-less
     loop-again
-    show-requires
     returns)

@@ -29,12 +29,12 @@ enum-told c = search needs
 
 reclocked-requires : tie.Need-reclocked-requires
 unfolding clocking periodTooLong
-reclocked-requires c κs = 
+reclocked-requires c κs =
     let tests = in-time _ _ _ (passes (c .before .before .before .before .before .clock-refusal .ensures) (c .before .before .before .enum-told .given .1)) in
     (c .before .before .before .before .before .before .before .pre, tests .0, ltb-false _ _ (not-refused _ _ none (tests .1) .0))
 
 returns : tie.Need-returns
-returns c = 
+returns c =
     let start = c .before .before .before .before .before .before in
     let o = start .args in
     rw (c .refused .ensures)
@@ -43,7 +43,7 @@ returns c =
 
 returns-2 : tie.Need-returns-2
 unfolding clockWork afterSettling quiet doneNumber
-returns-2 c = 
+returns-2 c =
     let start = c .before .before .before .before .before .before .before .before in
     let o = start .args in
     let tests = passes (c .before .before .before .before .before .before .clock-refusal .ensures) (c .before .before .before .before .enum-told .given .1) in

@@ -19,12 +19,12 @@ settled-requires : tie.Need-settled-requires
 settled-requires c κs = rw (c .before .before .before .clocked .ensures) (clocked-ok 0 _ _ (c .before .before .before .before .settled-at .ensures .ok) _ (c .before .before .before .before .before .before .before .before .pre .2))
 
 arm-requires : tie.Need-arm-requires
-arm-requires c κs = 
+arm-requires c κs =
     let ok = c .before .settled .ensures .ok in
     ready _ _ (ok .shape) (ok .within .periodHigh)
 
 add-done : tie.Need-add-done
-add-done c = 
+add-done c =
     let first = c .before .before .before .before .before .before .before .before .before .settled-at .ensures in
     let begun = clocked-ok 0 _ _ (first .ok) (c .before .before .before .before .before .before .before .before .before .before .before .before .before .args .period) (c .before .before .before .before .before .before .before .before .before .before .before .before .before .pre .2) in
     let second = rw (c .before .before .before .before .before .before .before .before .clocked .ensures) at (c .before .before .before .before .settled .ensures) in
@@ -33,7 +33,7 @@ add-done c =
     omega (arith, one .0, two .0)
 
 add-done-2 : tie.Need-add-done-2
-add-done-2 c = 
+add-done-2 c =
     let first = c .before .before .before .before .before .before .before .before .before .before .before .settled-at .ensures in
     let begun = clocked-ok 0 _ _ (first .ok) (c .before .before .before .before .before .before .before .before .before .before .before .before .before .before .before .args .period) (c .before .before .before .before .before .before .before .before .before .before .before .before .before .before .before .pre .2) in
     let second = rw (c .before .before .before .before .before .before .before .before .before .before .clocked .ensures) at (c .before .before .before .before .before .before .settled .ensures) in
@@ -46,7 +46,7 @@ done-requires c κs = search needs
 
 returns : tie.Need-returns
 unfolding clockWork
-returns c = 
+returns c =
     let first = c .before .before .before .before .before .before .before .before .before .before .before .before .settled-at .ensures in
     let second = rw (c .before .before .before .before .before .before .before .before .before .before .before .clocked .ensures) at (c .before .before .before .before .before .before .before .settled .ensures) in
     rw (c .done .ensures) (done-armed (twice (c .before .before .before .before .before .before .before .before .before .before .before .before .before .before .before .before .args .cycle) _ (c .before .before .before .before .before .before .before .before .before .before .before .before .before .before .before .before .args .period) first second) (c .before .before .before .before .before .arm .ensures _ refl refl (second .ok .shape)))

@@ -29,7 +29,7 @@ unfolding datesOnly
 restarted-requires c κs = (c .before .before .before .before .before .before .before .pre, in-time _ _ none (passes (c .before .before .before .before .before .date-refusal .ensures) (c .before .before .before .enum-told .given .1)) .0)
 
 returns : tie.Need-returns
-returns c = 
+returns c =
     let start = c .before .before .before .before .before .before in
     let o = start .args in
     rw (c .refused .ensures)
@@ -38,7 +38,7 @@ returns c =
 
 returns-2 : tie.Need-returns-2
 unfolding resetWork afterSettling quiet doneNumber
-returns-2 c = 
+returns-2 c =
     let start = c .before .before .before .before .before .before .before .before in
     let o = start .args in
     let tests = passes (c .before .before .before .before .before .before .date-refusal .ensures) (c .before .before .before .before .enum-told .given .1) in

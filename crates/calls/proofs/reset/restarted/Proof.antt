@@ -20,7 +20,7 @@ leveled-requires : tie.Need-leveled-requires
 leveled-requires c κs = search needs
 
 arm-requires : tie.Need-arm-requires
-arm-requires c κs = 
+arm-requires c κs =
     let ok = c .before .before .settled-at .ensures .ok in
     rw (c .leveled .ensures, c .before .cleared .ensures) (ready _ _ (shape-of _ _ _ (cleared-shape _ _ (ok .shape))) (ok .within .periodHigh))
 
@@ -29,7 +29,7 @@ done-requires c κs = search needs
 
 returns : tie.Need-returns
 unfolding resetWork
-returns c = 
+returns c =
     let settled = rw (c .before .before .before .before .before .before .before .before .with-powered-down-at .ensures) at (c .before .before .before .before .settled-at .ensures) in
     let armed = rw (c .before .before .leveled .ensures, c .before .before .before .cleared .ensures) at (c .before .arm .ensures) in
     rw (c .done .ensures) (reset-done settled (armed _ refl refl (shape-of _ _ _ (cleared-shape _ _ (settled .ok .shape)))))

@@ -28,7 +28,7 @@ watched-requires : tie.Need-watched-requires
 watched-requires c κs = search needs
 
 arm-requires : tie.Need-arm-requires
-arm-requires c κs = 
+arm-requires c κs =
     let p = c .before .before .before .before .before .pre in
     rw (c .watched .ensures) (record { flight = p .0 .flight; slots = p .0 .slots; period = p .0 .period }, p .1, p .2)
 

@@ -35,14 +35,14 @@ enum-told c = search needs
 
 received-requires : tie.Need-received-requires
 unfolding receiving
-received-requires c κs = 
+received-requires c κs =
     let o = c .before .before .before .before .before .before .before .before .before .before .before .before .before .args in
     let tests = in-time _ _ _ (passes (c .before .before .before .before .before .before .before .receive-refusal .ensures ∙ tested (o .cycle) (o .at) (o .bytes .now) (o .core) (arrays (o .gone-at .now) (o .flight .now) (o .tx .now) (o .host .now) (o .run-dates .now) (o .run-counts .now) (o .rx .now)) (c .before .before .before .before .before .before .before .before .before .last-date .ensures (o .run-counts .now)) (c .before .before .before .before .before .before .before .before .host-date .ensures)) (c .before .before .before .before .before .enum-told .given .1)) in
     let five = not-refused _ _ _ (tests .1) in
     (c .before .before .before .before .before .before .before .before .before .before .before .before .before .pre, tests .0, record { host = five .0; runs = not-refused _ _ none (five .1) .0 })
 
 returns : tie.Need-returns
-returns c = 
+returns c =
     let o = c .before .before .before .before .before .before .before .before .before .before .args in
     rw (c .refused .ensures)
     (turned-away (λ x. x) doneNumber Done.Refused (receiveWork (o .cycle) (o .at) (o .bytes .now)) _ _ (receive-tests (o .cycle) _ (o .at) (o .bytes .now))
@@ -50,7 +50,7 @@ returns c =
 
 returns-2 : tie.Need-returns-2
 unfolding receiveWork afterSettling quiet doneNumber
-returns-2 c = 
+returns-2 c =
     let o = c .before .before .before .before .before .before .before .before .before .before .before .before .before .before .args in
     carried (λ x. x) doneNumber Done.Refused (receiveWork (o .cycle) (o .at) (o .bytes .now)) _ _ (receive-tests (o .cycle) _ (o .at) (o .bytes .now))
     (passes (c .before .before .before .before .before .before .before .before .receive-refusal .ensures ∙ tested (o .cycle) (o .at) (o .bytes .now) (o .core) (arrays (o .gone-at .now) (o .flight .now) (o .tx .now) (o .host .now) (o .run-dates .now) (o .run-counts .now) (o .rx .now)) (c .before .before .before .before .before .before .before .before .before .before .last-date .ensures (o .run-counts .now)) (c .before .before .before .before .before .before .before .before .before .host-date .ensures)) (c .before .before .before .before .before .before .enum-told .given .1)) (receive-within (o .cycle) (o .at) (o .bytes .now) _ (c .before .before .before .before .before .before .before .before .before .before .before .before .before .before .pre .within)) refl (c .received .ensures)

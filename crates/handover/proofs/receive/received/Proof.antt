@@ -16,14 +16,14 @@ done-requires c κs = search needs
 
 returns : tie.Need-returns
 unfolding receiveWork
-returns c = 
+returns c =
     let p = c .before .before .before .before .before .before .before .before .before .pre in
     let o = c .before .before .before .before .before .before .before .before .before .args in
     let s = c .before .before .settled-at .ensures in
     rw (c .done .ensures) (received-none (hostDate (o .cycle) (o .at)) (o .bytes .now) s (c .before .if1 .taken))
 
 append-requires : tie.Need-append-requires
-append-requires c κs = 
+append-requires c κs =
     let p = c .before .before .before .before .before .before .before .before .before .before .pre in
     let o = c .before .before .before .before .before .before .before .before .before .before .args in
     let s = c .before .before .before .settled-at .ensures in
@@ -33,14 +33,14 @@ host-date-requires : tie.Need-host-date-requires
 host-date-requires c κs = search needs
 
 joined-requires : tie.Need-joined-requires
-joined-requires c κs = 
+joined-requires c κs =
     let p = c .before .before .before .before .before .before .before .before .before .before .before .before .before .before .pre in
     let o = c .before .before .before .before .before .before .before .before .before .before .before .before .before .before .args in
     let s = c .before .before .before .before .before .before .before .settled-at .ensures in
     (s .ok .shape .runs, s .ok .shape .runDateSlots, s .ok .shape .runCountSlots, rw (c .host-date .ensures) (runs-room (o .cycle) _ _ _ _ s (p .2) (omega (arith, c .before .before .before .before .before .before .if1 .left))))
 
 arm-requires : tie.Need-arm-requires
-arm-requires c κs = 
+arm-requires c κs =
     let p = c .before .before .before .before .before .before .before .before .before .before .before .before .before .before .before .before .pre in
     let o = c .before .before .before .before .before .before .before .before .before .before .before .before .before .before .before .before .args in
     let s = c .before .before .before .before .before .before .before .before .before .settled-at .ensures in
@@ -52,7 +52,7 @@ done-requires-2 c κs = search needs
 
 returns-2 : tie.Need-returns-2
 unfolding receiveWork
-returns-2 c = 
+returns-2 c =
     let p = c .before .before .before .before .before .before .before .before .before .before .before .before .before .before .before .before .before .before .pre in
     let o = c .before .before .before .before .before .before .before .before .before .before .before .before .before .before .before .before .before .before .args in
     let s = c .before .before .before .before .before .before .before .before .before .before .before .settled-at .ensures in

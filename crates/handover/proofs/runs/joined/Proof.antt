@@ -25,7 +25,7 @@ element-copy-out-run-counts : tie.Need-element-copy-out-run-counts
 element-copy-out-run-counts c = omega (arith, c .before .before .before .last .ensures .1, c .before .before .before .before .pre .1, c .before .before .before .before .pre .2)
 
 add-run-counts : tie.Need-add-run-counts
-add-run-counts c = 
+add-run-counts c =
     let p = c .before .before .before .before .before .pre in
     let o = c .before .before .before .before .before .args in
     let test = sym (c .before .before .joins .ensures) ∙ c .before .if1 .taken in
@@ -57,7 +57,7 @@ pushed-requires : tie.Need-pushed-requires
 pushed-requires c κs = omega (arith, c .before .before .before .before .before .pre .0 .few)
 
 returns : tie.Need-returns
-returns c = 
+returns c =
     let p = c .before .before .before .before .before .pre in
     let o = c .before .before .before .before .before .args in
     let test = sym (c .before .before .joins .ensures) ∙ c .before .if1 .taken in
@@ -65,7 +65,7 @@ returns c =
     rw (c .before .before .before .before .last .ensures .0) (grows (o .date) (o .n) (o .runs) (o .run-dates .now) (o .run-counts .now) (p .0) (p .1) (p .2) (early .0) (early .1))
 
 returns-2 : tie.Need-returns-2
-returns-2 c = 
+returns-2 c =
     let p = c .before .before .before .before .before .before .pre in
     let o = c .before .before .before .before .before .before .args in
     let test = sym (c .before .before .before .joins .ensures) ∙ c .before .before .if1 .left in

@@ -29,12 +29,12 @@ enum-told c = search needs
 
 taken-requires : tie.Need-taken-requires
 unfolding takingTx takingWritten bufferTooShort
-taken-requires c κs = 
+taken-requires c κs =
     let tests = in-time _ _ _ (passes (c .before .before .before .before .before .before .take-refusal .ensures) (c .before .before .before .before .enum-told .given .1)) in
     (c .before .before .before .before .before .before .before .before .before .pre, tests .0, ltb-false _ _ (not-refused _ _ none (tests .1) .0))
 
 returns : tie.Need-returns
-returns c = 
+returns c =
     let o = c .before .before .before .before .before .before .before .args in
     rw (c .refused .ensures)
     (take-refused (o .out .now) (takeTxWork (o .cycle) (o .out .now)) _ _ (take-tests (o .cycle) _ (o .out .now)) (refuses (c .before .before .before .before .take-refusal .ensures) (c .before .before .tests .given .1)) (c .before .before .before .before .before .before .before .pre))
@@ -44,7 +44,7 @@ same-length c = search needs
 
 returns-2 : tie.Need-returns-2
 unfolding takeTxWork afterSettling quiet filled takenNumber
-returns-2 c = 
+returns-2 c =
     let o = c .before .before .before .before .before .before .before .before .before .before .before .before .args in
     take-carried (o .out .now) (takeTxWork (o .cycle) (o .out .now)) _ _ (take-tests (o .cycle) _ (o .out .now)) (passes (c .before .before .before .before .before .before .before .before .before .take-refusal .ensures) (c .before .before .before .before .before .before .before .enum-told .given .1))
     (takeTx-within (o .cycle) (o .out .now) _ (c .before .before .before .before .before .before .before .before .before .before .before .before .pre .within)) refl (c .before .before .taken .ensures)

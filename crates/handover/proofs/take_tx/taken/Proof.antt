@@ -10,7 +10,7 @@ settled-at-requires : tie.Need-settled-at-requires
 settled-at-requires c κs = (c .before .before .before .before .pre .0, c .before .before .before .before .pre .1)
 
 copy-out-requires : tie.Need-copy-out-requires
-copy-out-requires c κs = 
+copy-out-requires c κs =
     let s = c .before .before .before .before .settled-at .ensures in
     (s .ok .shape .tx, s .ok .shape .txSlots, omega (arith, s .ok .shape .tx .few, c .before .before .before .before .before .before .before .before .before .pre .2))
 
@@ -25,7 +25,7 @@ same-length c = search needs
 
 returns : tie.Need-returns
 unfolding takeTxWork
-returns c = 
+returns c =
     let o = c .before .before .before .before .before .before .before .before .before .before .before .before .before .before .args in
     let s = c .before .before .before .before .before .before .before .before .before .settled-at .ensures in
     rw (c .taken .ensures, c .before .new .ensures) (took-tx (o .out .now) s (c .before .before .before .before .copy-out .ensures .0) (c .before .before .before .before .copy-out .ensures .1))

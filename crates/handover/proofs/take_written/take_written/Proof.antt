@@ -29,7 +29,7 @@ enum-told c = search needs
 
 filled-requires : tie.Need-filled-requires
 unfolding takingWritten bufferTooShort
-filled-requires c κs = 
+filled-requires c κs =
     let p = c .before .before .before .before .before .pre in
     (p .0, p .1, p .2, p .3, p .4, ltb-false _ _ (not-refused _ _ none (passes (c .before .before .before .written-refusal .ensures) (c .before .enum-told .given .1)) .0))
 

@@ -6,7 +6,7 @@ use Rattle.uart.proofs.Uart.take_written.Statement.{statement}
 use Rattle.uart.proofs.Uart.take_written.Tie as tie
 
 take-written-requires : tie.Need-take-written-requires
-take-written-requires c κs = 
+take-written-requires c κs =
     let ok = c .before .before .before .before .before .before .pre in
     (ok .shape .flight, ok .shape .tx, ok .shape .flightSlots, ok .shape .txSlots, sent-few _ _ ok)
 
