@@ -7,7 +7,7 @@ use Rattle.timing.proofs.byte_time.Statement.{statement}
 use Rattle.timing.proofs.byte_time.Tie as tie
 
 frame-half-bits-requires : tie.Need-frame-half-bits-requires
-frame-half-bits-requires c κs = search needs
+frame-half-bits-requires c κs = tt
 
 half-bit-time-requires : tie.Need-half-bit-time-requires
 half-bit-time-requires c κs = search needs

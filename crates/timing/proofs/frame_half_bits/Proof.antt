@@ -7,22 +7,22 @@ use Rattle.timing.proofs.frame_half_bits.Statement.{statement}
 use Rattle.timing.proofs.frame_half_bits.Tie as tie
 
 bit-num-requires : tie.Need-bit-num-requires
-bit-num-requires c κs = search needs
+bit-num-requires c κs = tt
 
 wide-requires : tie.Need-wide-requires
-wide-requires c κs = search needs
+wide-requires c κs = tt
 
 parity-en-requires : tie.Need-parity-en-requires
-parity-en-requires c κs = search needs
+parity-en-requires c κs = tt
 
 wide-requires-2 : tie.Need-wide-requires-2
-wide-requires-2 c κs = search needs
+wide-requires-2 c κs = tt
 
 stop-bit-num-requires : tie.Need-stop-bit-num-requires
-stop-bit-num-requires c κs = search needs
+stop-bit-num-requires c κs = tt
 
 stop-half-bits-requires : tie.Need-stop-half-bits-requires
-stop-half-bits-requires c κs = search needs
+stop-half-bits-requires c κs = tt
 
 add-result : tie.Need-add-result
 add-result c = search needs

@@ -1,6 +1,5 @@
 -- `half_bit_time` meets its contract: three factors within their bounds. Assumes nothing.
 use Prim.Native.Nat.{_*_}
-use borrow.Author.Needs.{needs}
 use native.Mathlib.Omega.{arith}
 use Rattle.model.specs.Timing.{halfBitTime}
 use Rattle.model.specs.Tests.{periodLimit}
@@ -9,13 +8,13 @@ use Rattle.timing.proofs.half_bit_time.Statement.{statement}
 use Rattle.timing.proofs.half_bit_time.Tie as tie
 
 divider-requires : tie.Need-divider-requires
-divider-requires c κs = search needs
+divider-requires c κs = tt
 
 source-divider-requires : tie.Need-source-divider-requires
-source-divider-requires c κs = search needs
+source-divider-requires c κs = tt
 
 source-period-requires : tie.Need-source-period-requires
-source-period-requires c κs = search needs
+source-period-requires c κs = tt
 
 mul-result : tie.Need-mul-result
 mul-result c = omega (arith, product-most (c .before .before .divider .result) (c .before .source-divider .result) 65535 256 (omega arith) (omega arith))

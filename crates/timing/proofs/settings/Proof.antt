@@ -11,19 +11,19 @@ timeout-time-requires : tie.Need-timeout-time-requires
 timeout-time-requires c κs = search needs
 
 unmodelled-source-requires : tie.Need-unmodelled-source-requires
-unmodelled-source-requires c κs = search needs
+unmodelled-source-requires c κs = tt
 
 rx-sclk-en-requires : tie.Need-rx-sclk-en-requires
-rx-sclk-en-requires c κs = search needs
+rx-sclk-en-requires c κs = tt
 
 rx-tout-en-requires : tie.Need-rx-tout-en-requires
-rx-tout-en-requires c κs = search needs
+rx-tout-en-requires c κs = tt
 
 rxfifo-rst-requires : tie.Need-rxfifo-rst-requires
-rxfifo-rst-requires c κs = search needs
+rxfifo-rst-requires c κs = tt
 
 dis-rx-dat-ovf-requires : tie.Need-dis-rx-dat-ovf-requires
-dis-rx-dat-ovf-requires c κs = search needs
+dis-rx-dat-ovf-requires c κs = tt
 
 returns : tie.Need-returns
 unfolding settings

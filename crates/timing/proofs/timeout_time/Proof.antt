@@ -7,10 +7,10 @@ use Rattle.timing.proofs.timeout_time.Statement.{statement}
 use Rattle.timing.proofs.timeout_time.Tie as tie
 
 rx-tout-thrhd-requires : tie.Need-rx-tout-thrhd-requires
-rx-tout-thrhd-requires c κs = search needs
+rx-tout-thrhd-requires c κs = tt
 
 wide-requires : tie.Need-wide-requires
-wide-requires c κs = search needs
+wide-requires c κs = tt
 
 bit-time-requires : tie.Need-bit-time-requires
 bit-time-requires c κs = search needs

@@ -1,10 +1,9 @@
 -- `read::answered` meets its contract. Assumes nothing.
-use borrow.Author.Needs.{needs}
 use Rattle.access.proofs.read.answered.Statement.{statement}
 use Rattle.access.proofs.read.answered.Tie as tie
 
 report-requires : tie.Need-report-requires
-report-requires c κs = search needs
+report-requires c κs = tt
 
 returns : tie.Need-returns
 returns c = rw (c .report .ensures)

@@ -9,24 +9,23 @@ use Rattle.model.specs.Refuses.Carried.{looking-proper}
 use Rattle.registers.specs.Calls.{read-tests}
 use Rattle.registers.specs.Refusals.{datesOnly}
 use Rattle.calls.specs.Answers.{carried, turned-away, passes, refuses, in-time}
-use borrow.Author.Needs.{needs}
 use Rattle.access.proofs.read.read.Statement.{statement}
 use Rattle.access.proofs.read.read.Tie as tie
 
 place-of-requires : tie.Need-place-of-requires
-place-of-requires c κs = search needs
+place-of-requires c κs = tt
 
 date-refusal-requires : tie.Need-date-refusal-requires
-date-refusal-requires c κs = search needs
+date-refusal-requires c κs = tt
 
 enum-known-tests : tie.Need-enum-known-tests
-enum-known-tests c = search needs
+enum-known-tests c = c .match .keys1
 
 refused-requires : tie.Need-refused-requires
-refused-requires c κs = search needs
+refused-requires c κs = tt
 
 enum-told : tie.Need-enum-told
-enum-told c = search needs
+enum-told c = c .match .keys2
 
 read-settled-requires : tie.Need-read-settled-requires
 unfolding datesOnly

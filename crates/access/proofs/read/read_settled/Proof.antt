@@ -15,7 +15,7 @@ read-at-requires : tie.Need-read-at-requires
 read-at-requires c κs = search needs
 
 answered-requires : tie.Need-answered-requires
-answered-requires c κs = search needs
+answered-requires c κs = tt
 
 returns : tie.Need-returns
 unfolding readWork

@@ -1,10 +1,9 @@
 -- `read::refused` meets its contract. Assumes nothing.
-use borrow.Author.Needs.{needs}
 use Rattle.access.proofs.read.refused.Statement.{statement}
 use Rattle.access.proofs.read.refused.Tie as tie
 
 no-report-requires : tie.Need-no-report-requires
-no-report-requires c κs = search needs
+no-report-requires c κs = tt
 
 returns : tie.Need-returns
 returns c = rw (c .no-report .ensures)

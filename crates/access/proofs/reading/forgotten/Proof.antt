@@ -1,11 +1,10 @@
 -- `reading::forgotten` meets its contract, by the test. Assumes nothing.
 use Rattle.model.specs.Numbers.{choose}
-use borrow.Author.Needs.{needs}
 use Rattle.access.proofs.reading.forgotten.Statement.{statement}
 use Rattle.access.proofs.reading.forgotten.Tie as tie
 
 with-mistimed-requires : tie.Need-with-mistimed-requires
-with-mistimed-requires c κs = search needs
+with-mistimed-requires c κs = tt
 
 returns : tie.Need-returns
 unfolding choose

@@ -8,13 +8,13 @@ element-copy-out-wide : tie.Need-element-copy-out-wide
 element-copy-out-wide c = search needs
 
 wide-requires : tie.Need-wide-requires
-wide-requires c κs = search needs
+wide-requires c κs = tt
 
 popped-requires : tie.Need-popped-requires
 popped-requires c κs = search needs
 
 with-empty-read-requires : tie.Need-with-empty-read-requires
-with-empty-read-requires c κs = search needs
+with-empty-read-requires c κs = tt
 
 returns : tie.Need-returns
 returns c = pop-takes _ _ _ (c .before .before .before .if1 .taken) (c .popped .ensures) (c .before .wide .ensures)

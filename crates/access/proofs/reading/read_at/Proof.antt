@@ -14,16 +14,16 @@ use Rattle.access.proofs.reading.read_at.Statement.{statement}
 use Rattle.access.proofs.reading.read_at.Tie as tie
 
 looks-requires : tie.Need-looks-requires
-looks-requires c κs = search needs
+looks-requires c κs = tt
 
 told-requires : tie.Need-told-requires
-told-requires c κs = search needs
+told-requires c κs = tt
 
 receive-clock-notices-requires : tie.Need-receive-clock-notices-requires
-receive-clock-notices-requires c κs = search needs
+receive-clock-notices-requires c κs = tt
 
 forgotten-requires : tie.Need-forgotten-requires
-forgotten-requires c κs = search needs
+forgotten-requires c κs = tt
 
 enum-told : tie.Need-enum-told
 enum-told c = search needs

@@ -16,7 +16,7 @@ enum-told-2 : tie.Need-enum-told-2
 enum-told-2 c = search needs
 
 int-status-requires : tie.Need-int-status-requires
-int-status-requires c κs = search needs
+int-status-requires c κs = tt
 
 enum-told-3 : tie.Need-enum-told-3
 enum-told-3 c = search needs
@@ -28,13 +28,13 @@ enum-told-4 : tie.Need-enum-told-4
 enum-told-4 c = search needs
 
 fsm-status-requires : tie.Need-fsm-status-requires
-fsm-status-requires c κs = search needs
+fsm-status-requires c κs = tt
 
 enum-told-5 : tie.Need-enum-told-5
 enum-told-5 c = search needs
 
 read-requires : tie.Need-read-requires
-read-requires c κs = search needs
+read-requires c κs = tt
 
 returns : tie.Need-returns
 unfolding asRead wordAt

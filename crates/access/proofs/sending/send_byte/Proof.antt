@@ -9,10 +9,10 @@ use Rattle.access.proofs.sending.send_byte.Statement.{statement}
 use Rattle.access.proofs.sending.send_byte.Tie as tie
 
 fifo-full-requires : tie.Need-fifo-full-requires
-fifo-full-requires c κs = search needs
+fifo-full-requires c κs = tt
 
 overflow-notices-requires : tie.Need-overflow-notices-requires
-overflow-notices-requires c κs = search needs
+overflow-notices-requires c κs = tt
 
 back-requires : tie.Need-back-requires
 back-requires c κs = search needs
@@ -33,10 +33,10 @@ pushed-requires : tie.Need-pushed-requires
 pushed-requires c κs = search needs
 
 unmodelled-source-requires : tie.Need-unmodelled-source-requires
-unmodelled-source-requires c κs = search needs
+unmodelled-source-requires c κs = tt
 
 clock-notices-requires : tie.Need-clock-notices-requires
-clock-notices-requires c κs = search needs
+clock-notices-requires c κs = tt
 
 returns : tie.Need-returns
 returns c =

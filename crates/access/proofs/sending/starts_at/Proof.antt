@@ -11,7 +11,7 @@ enum-known-last : tie.Need-enum-known-last
 enum-known-last c = search needs
 
 later-requires : tie.Need-later-requires
-later-requires c κs = search needs
+later-requires c κs = tt
 
 returns : tie.Need-returns
 unfolding startsAt

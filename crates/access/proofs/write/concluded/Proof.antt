@@ -1,17 +1,16 @@
 -- `write::concluded` meets its contract. Assumes nothing.
 use Rattle.access.specs.Concludes.{leveled-ready, concludes-any}
-use borrow.Author.Needs.{needs}
 use Rattle.access.proofs.write.concluded.Statement.{statement}
 use Rattle.access.proofs.write.concluded.Tie as tie
 
 leveled-requires : tie.Need-leveled-requires
-leveled-requires c κs = search needs
+leveled-requires c κs = tt
 
 arm-requires : tie.Need-arm-requires
 arm-requires c κs = leveled-ready _ (c .leveled .ensures) (c .before .before .pre)
 
 answered-requires : tie.Need-answered-requires
-answered-requires c κs = search needs
+answered-requires c κs = tt
 
 returns : tie.Need-returns
 returns c = concludes-any _ (c .before .before .leveled .ensures) (c .before .arm .ensures) (c .answered .ensures)

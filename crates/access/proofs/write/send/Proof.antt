@@ -8,21 +8,20 @@ use Rattle.model.specs.declared.Write.{Write}
 use Rattle.registers.specs.Refusals.{sending}
 use Rattle.calls.specs.Answers.{carried, turned-away, passes, refuses, in-time}
 use Rattle.access.specs.Sends.{send-checks}
-use borrow.Author.Needs.{needs}
 use Rattle.access.proofs.write.send.Statement.{statement}
 use Rattle.access.proofs.write.send.Tie as tie
 
 send-refusal-requires : tie.Need-send-refusal-requires
-send-refusal-requires c κs = search needs
+send-refusal-requires c κs = tt
 
 enum-known-tests : tie.Need-enum-known-tests
-enum-known-tests c = search needs
+enum-known-tests c = c .match .keys1
 
 refused-requires : tie.Need-refused-requires
-refused-requires c κs = search needs
+refused-requires c κs = tt
 
 enum-told : tie.Need-enum-told
-enum-told c = search needs
+enum-told c = c .match .keys2
 
 send-settled-requires : tie.Need-send-settled-requires
 unfolding sending

@@ -9,13 +9,13 @@ use Rattle.access.proofs.write.write.Statement.{statement}
 use Rattle.access.proofs.write.write.Tie as tie
 
 place-of-requires : tie.Need-place-of-requires
-place-of-requires c κs = search needs
+place-of-requires c κs = tt
 
 enum-told : tie.Need-enum-told
 enum-told c = search needs
 
 low-byte-requires : tie.Need-low-byte-requires
-low-byte-requires c κs = search needs
+low-byte-requires c κs = tt
 
 send-requires : tie.Need-send-requires
 send-requires c κs = search needs

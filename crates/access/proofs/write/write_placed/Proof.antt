@@ -9,21 +9,20 @@ use Rattle.model.specs.declared.Write.{Write}
 use Rattle.registers.specs.Calls.{write-tests}
 use Rattle.registers.specs.Refusals.{datesOnly}
 use Rattle.calls.specs.Answers.{carried, turned-away, passes, refuses, in-time}
-use borrow.Author.Needs.{needs}
 use Rattle.access.proofs.write.write_placed.Statement.{statement}
 use Rattle.access.proofs.write.write_placed.Tie as tie
 
 date-refusal-requires : tie.Need-date-refusal-requires
-date-refusal-requires c κs = search needs
+date-refusal-requires c κs = tt
 
 enum-known-tests : tie.Need-enum-known-tests
-enum-known-tests c = search needs
+enum-known-tests c = c .match .keys1
 
 refused-requires : tie.Need-refused-requires
-refused-requires c κs = search needs
+refused-requires c κs = tt
 
 enum-told : tie.Need-enum-told
-enum-told c = search needs
+enum-told c = c .match .keys2
 
 write-settled-requires : tie.Need-write-settled-requires
 unfolding datesOnly

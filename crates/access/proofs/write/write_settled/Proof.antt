@@ -12,7 +12,7 @@ settled-at-requires : tie.Need-settled-at-requires
 settled-at-requires c κs = search needs
 
 write-place-requires : tie.Need-write-place-requires
-write-place-requires c κs = search needs
+write-place-requires c κs = tt
 
 concluded-requires : tie.Need-concluded-requires
 concluded-requires c κs =

@@ -1,12 +1,11 @@
 -- `writing::cut_if` meets its contract, by the test. Assumes nothing.
 use mathlib.Core.Path.{sym, _∙_}
 use Rattle.model.specs.Laws.Choose.{choose-true, choose-false}
-use borrow.Author.Needs.{needs}
 use Rattle.access.proofs.writing.cut_if.Statement.{statement}
 use Rattle.access.proofs.writing.cut_if.Tie as tie
 
 cut-to-one-requires : tie.Need-cut-to-one-requires
-cut-to-one-requires c κs = search needs
+cut-to-one-requires c κs = tt
 
 returns : tie.Need-returns
 returns c = c .before .cut-to-one .ensures ∙ sym (choose-true _ _ (c .if1 .taken))

@@ -1,12 +1,11 @@
 -- `writing::emptied_if` meets its contract, by the test. Assumes nothing.
 use mathlib.Core.Path.{sym, _∙_}
 use Rattle.model.specs.Laws.Choose.{choose-true, choose-false}
-use borrow.Author.Needs.{needs}
 use Rattle.access.proofs.writing.emptied_if.Statement.{statement}
 use Rattle.access.proofs.writing.emptied_if.Tie as tie
 
 new-requires : tie.Need-new-requires
-new-requires c κs = search needs
+new-requires c κs = tt
 
 returns : tie.Need-returns
 returns c = c .before .new .ensures ∙ sym (choose-true _ _ (c .if1 .taken))

@@ -1,20 +1,19 @@
 -- `writing::reset_fifos` meets its contract. Assumes nothing.
 use Rattle.access.specs.Writes.{resets}
-use borrow.Author.Needs.{needs}
 use Rattle.access.proofs.writing.reset_fifos.Statement.{statement}
 use Rattle.access.proofs.writing.reset_fifos.Tie as tie
 
 txfifo-rst-requires : tie.Need-txfifo-rst-requires
-txfifo-rst-requires c κs = search needs
+txfifo-rst-requires c κs = tt
 
 rxfifo-rst-requires : tie.Need-rxfifo-rst-requires
-rxfifo-rst-requires c κs = search needs
+rxfifo-rst-requires c κs = tt
 
 cut-if-requires : tie.Need-cut-if-requires
-cut-if-requires c κs = search needs
+cut-if-requires c κs = tt
 
 emptied-if-requires : tie.Need-emptied-if-requires
-emptied-if-requires c κs = search needs
+emptied-if-requires c κs = tt
 
 returns : tie.Need-returns
 returns c =

@@ -12,19 +12,19 @@ enum-told : tie.Need-enum-told
 enum-told c = search needs
 
 cleared-requires : tie.Need-cleared-requires
-cleared-requires c κs = search needs
+cleared-requires c κs = tt
 
 enum-told-2 : tie.Need-enum-told-2
 enum-told-2 c = search needs
 
 reset-fifos-requires : tie.Need-reset-fifos-requires
-reset-fifos-requires c κs = search needs
+reset-fifos-requires c κs = tt
 
 stored-requires : tie.Need-stored-requires
-stored-requires c κs = search needs
+stored-requires c κs = tt
 
 stored-requires-2 : tie.Need-stored-requires-2
-stored-requires-2 c κs = search needs
+stored-requires-2 c κs = tt
 
 returns : tie.Need-returns
 unfolding writePlace

@@ -1,10 +1,9 @@
 -- `answers::refused` meets its contract. Assumes nothing.
-use borrow.Author.Needs.{needs}
 use Rattle.calls.proofs.answers.refused.Statement.{statement}
 use Rattle.calls.proofs.answers.refused.Tie as tie
 
 no-report-requires : tie.Need-no-report-requires
-no-report-requires c κs = search needs
+no-report-requires c κs = tt
 
 returns : tie.Need-returns
 returns c = rw (c .no-report .ensures)

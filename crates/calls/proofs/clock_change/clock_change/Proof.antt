@@ -8,7 +8,6 @@ use Rattle.model.specs.declared.Done.{Done}
 use Rattle.registers.specs.Calls.{clock-tests}
 use Rattle.registers.specs.Refusals.{clocking}
 use Rattle.calls.specs.Answers.{carried, turned-away, passes, refuses, in-time}
-use borrow.Author.Needs.{needs}
 use borrow.Author.Tests.{ltb-false}
 use Rattle.model.specs.Tests.{periodTooLong}
 use Rattle.model.specs.Keeps.Dated.{not-refused}
@@ -16,16 +15,16 @@ use Rattle.calls.proofs.clock_change.clock_change.Statement.{statement}
 use Rattle.calls.proofs.clock_change.clock_change.Tie as tie
 
 clock-refusal-requires : tie.Need-clock-refusal-requires
-clock-refusal-requires c κs = search needs
+clock-refusal-requires c κs = tt
 
 enum-known-tests : tie.Need-enum-known-tests
-enum-known-tests c = search needs
+enum-known-tests c = c .match .keys1
 
 refused-requires : tie.Need-refused-requires
-refused-requires c κs = search needs
+refused-requires c κs = tt
 
 enum-told : tie.Need-enum-told
-enum-told c = search needs
+enum-told c = c .match .keys2
 
 reclocked-requires : tie.Need-reclocked-requires
 unfolding clocking periodTooLong

@@ -1,10 +1,9 @@
 -- `clock_change::clocked` meets its contract. Assumes nothing.
-use borrow.Author.Needs.{needs}
 use Rattle.calls.proofs.clock_change.clocked.Statement.{statement}
 use Rattle.calls.proofs.clock_change.clocked.Tie as tie
 
 new-requires : tie.Need-new-requires
-new-requires c κs = search needs
+new-requires c κs = tt
 
 returns : tie.Need-returns
 returns c = rw (c .before .new .ensures)

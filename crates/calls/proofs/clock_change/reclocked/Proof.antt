@@ -5,15 +5,14 @@ use Rattle.model.specs.Calls.{clockWork}
 use Rattle.calls.specs.Changes.{clocked-ok, ready}
 use Rattle.calls.specs.Answers.{done-armed}
 use Rattle.calls.specs.Sums.{few, few-at, twice}
-use borrow.Author.Needs.{needs}
 use Rattle.calls.proofs.clock_change.reclocked.Statement.{statement}
 use Rattle.calls.proofs.clock_change.reclocked.Tie as tie
 
 settled-at-requires : tie.Need-settled-at-requires
-settled-at-requires c κs = search needs
+settled-at-requires c κs = (c .before .before .before .pre .0, c .before .before .before .pre .1)
 
 clocked-requires : tie.Need-clocked-requires
-clocked-requires c κs = search needs
+clocked-requires c κs = tt
 
 settled-requires : tie.Need-settled-requires
 settled-requires c κs = rw (c .before .before .before .clocked .ensures) (clocked-ok 0 _ _ (c .before .before .before .before .settled-at .ensures .ok) _ (c .before .before .before .before .before .before .before .before .pre .2))
@@ -42,7 +41,7 @@ add-done-2 c =
     omega (arith, one .1, two .1)
 
 done-requires : tie.Need-done-requires
-done-requires c κs = search needs
+done-requires c κs = tt
 
 returns : tie.Need-returns
 unfolding clockWork

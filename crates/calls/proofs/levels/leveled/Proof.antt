@@ -1,13 +1,12 @@
 -- `levels::leveled` meets its contract. Assumes nothing.
-use borrow.Author.Needs.{needs}
 use Rattle.calls.proofs.levels.leveled.Statement.{statement}
 use Rattle.calls.proofs.levels.leveled.Tie as tie
 
 levels-requires : tie.Need-levels-requires
-levels-requires c κs = search needs
+levels-requires c κs = tt
 
 level-requires : tie.Need-level-requires
-level-requires c κs = search needs
+level-requires c κs = tt
 
 returns : tie.Need-returns
 returns c = rw (c .level .ensures, c .before .levels .ensures)

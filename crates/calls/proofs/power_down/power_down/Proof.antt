@@ -8,33 +8,32 @@ use Rattle.model.specs.Calls.{powerDownWork, unsettled}
 use Rattle.model.specs.Keeps.EachCall.{powerDown-within}
 use Rattle.registers.specs.Calls.{power-down-tests}
 use Rattle.calls.specs.Changes.{shape-of}
-use borrow.Author.Needs.{needs}
 use Rattle.calls.proofs.power_down.power_down.Statement.{statement}
 use Rattle.calls.proofs.power_down.power_down.Tie as tie
 
 date-refusal-requires : tie.Need-date-refusal-requires
-date-refusal-requires c κs = search needs
+date-refusal-requires c κs = tt
 
 enum-known-tests : tie.Need-enum-known-tests
-enum-known-tests c = search needs
+enum-known-tests c = c .match .keys1
 
 refused-requires : tie.Need-refused-requires
-refused-requires c κs = search needs
+refused-requires c κs = tt
 
 enum-told : tie.Need-enum-told
-enum-told c = search needs
+enum-told c = c .match .keys2
 
 dated-requires : tie.Need-dated-requires
-dated-requires c κs = search needs
+dated-requires c κs = tt
 
 subcycles-requires : tie.Need-subcycles-requires
-subcycles-requires c κs = search needs
+subcycles-requires c κs = tt
 
 with-powered-down-at-requires : tie.Need-with-powered-down-at-requires
-with-powered-down-at-requires c κs = search needs
+with-powered-down-at-requires c κs = tt
 
 done-requires : tie.Need-done-requires
-done-requires c κs = search needs
+done-requires c κs = tt
 
 returns : tie.Need-returns
 returns c = λ a ok.

@@ -1,10 +1,9 @@
 -- `power_down::with_powered_down_at` meets its contract. Assumes nothing.
-use borrow.Author.Needs.{needs}
 use Rattle.calls.proofs.power_down.with_powered_down_at.Statement.{statement}
 use Rattle.calls.proofs.power_down.with_powered_down_at.Tie as tie
 
 put-requires : tie.Need-put-requires
-put-requires c κs = search needs
+put-requires c κs = tt
 
 returns : tie.Need-returns
 returns c = rw (c .put .ensures)

@@ -1,7 +1,6 @@
 -- `reset::cleared_line` meets its contract. Assumes nothing.
 use mathlib.Core.Path.{refl}
 use Rattle.model.specs.Calls.{clearedLine}
-use borrow.Author.Needs.{needs}
 use Rattle.calls.proofs.reset.cleared_line.Statement.{statement}
 use Rattle.calls.proofs.reset.cleared_line.Tie as tie
 

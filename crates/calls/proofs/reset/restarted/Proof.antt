@@ -3,21 +3,20 @@ use mathlib.Core.Path.{refl}
 use Rattle.model.specs.Calls.{resetWork}
 use Rattle.calls.specs.Changes.{put-down-ok, shape-of, cleared-shape, ready}
 use Rattle.calls.specs.Resets.{reset-done}
-use borrow.Author.Needs.{needs}
 use Rattle.calls.proofs.reset.restarted.Statement.{statement}
 use Rattle.calls.proofs.reset.restarted.Tie as tie
 
 with-powered-down-at-requires : tie.Need-with-powered-down-at-requires
-with-powered-down-at-requires c κs = search needs
+with-powered-down-at-requires c κs = tt
 
 settled-at-requires : tie.Need-settled-at-requires
 settled-at-requires c κs = rw (c .before .before .before .with-powered-down-at .ensures) (put-down-ok 0 _ _ (c .before .before .before .before .pre .0) _, c .before .before .before .before .pre .1)
 
 cleared-requires : tie.Need-cleared-requires
-cleared-requires c κs = search needs
+cleared-requires c κs = tt
 
 leveled-requires : tie.Need-leveled-requires
-leveled-requires c κs = search needs
+leveled-requires c κs = tt
 
 arm-requires : tie.Need-arm-requires
 arm-requires c κs =
@@ -25,7 +24,7 @@ arm-requires c κs =
     rw (c .leveled .ensures, c .before .cleared .ensures) (ready _ _ (shape-of _ _ _ (cleared-shape _ _ (ok .shape))) (ok .within .periodHigh))
 
 done-requires : tie.Need-done-requires
-done-requires c κs = search needs
+done-requires c κs = tt
 
 returns : tie.Need-returns
 unfolding resetWork

@@ -1,12 +1,11 @@
 -- `settled_at::settled_at` meets its contract: the core with its last date moved is settled. Assumes nothing.
 use Rattle.model.specs.Calls.{settledAt, dated}
 use Rattle.calls.specs.Changes.{dated-ok}
-use borrow.Author.Needs.{needs}
 use Rattle.calls.proofs.settled_at.settled_at.Statement.{statement}
 use Rattle.calls.proofs.settled_at.settled_at.Tie as tie
 
 dated-requires : tie.Need-dated-requires
-dated-requires c κs = search needs
+dated-requires c κs = tt
 
 settled-requires : tie.Need-settled-requires
 settled-requires c κs = let start = c .before .before .before .before in

@@ -1,13 +1,12 @@
 -- `wake::called` meets its contract. Assumes nothing.
-use borrow.Author.Needs.{needs}
 use Rattle.calls.proofs.wake.called.Statement.{statement}
 use Rattle.calls.proofs.wake.called.Tie as tie
 
 called-requires : tie.Need-called-requires
-called-requires c κs = search needs
+called-requires c κs = tt
 
 with-wake-of-requires : tie.Need-with-wake-of-requires
-with-wake-of-requires c κs = search needs
+with-wake-of-requires c κs = tt
 
 returns : tie.Need-returns
 returns c = rw (c .with-wake-of .ensures, c .before .called .ensures)

@@ -1,14 +1,13 @@
 -- `wake::woken` meets its contract: settled from the cleared Deadline, and armed. Assumes nothing.
 use mathlib.Core.Path.{refl}
 use Rattle.model.specs.Calls.{wakeWork}
-use Rattle.calls.specs.Changes.{called-ok}
+use Rattle.calls.specs.Changes.{called-ok, ready}
 use Rattle.calls.specs.Answers.{done-armed}
-use borrow.Author.Needs.{needs}
 use Rattle.calls.proofs.wake.woken.Statement.{statement}
 use Rattle.calls.proofs.wake.woken.Tie as tie
 
 called-requires : tie.Need-called-requires
-called-requires c κs = search needs
+called-requires c κs = tt
 
 settled-at-requires : tie.Need-settled-at-requires
 settled-at-requires c κs =
@@ -16,10 +15,12 @@ settled-at-requires c κs =
     rw (c .before .before .before .called .ensures) (called-ok _ _ _ (start .pre .0), start .pre .1)
 
 arm-requires : tie.Need-arm-requires
-arm-requires c κs = search needs
+arm-requires c κs =
+    let ok = c .before .settled-at .ensures .ok in
+    ready _ _ (ok .shape) (ok .within .periodHigh)
 
 done-requires : tie.Need-done-requires
-done-requires c κs = search needs
+done-requires c κs = tt
 
 returns : tie.Need-returns
 unfolding wakeWork

@@ -8,24 +8,23 @@ use Rattle.model.specs.Calls.{watchWork, unsettled}
 use Rattle.model.specs.Keeps.EachCall.{watch-within}
 use Rattle.registers.specs.Calls.{watch-tests}
 use Rattle.calls.specs.Changes.{shape-of}
-use borrow.Author.Needs.{needs}
 use Rattle.calls.proofs.watch.watch.Statement.{statement}
 use Rattle.calls.proofs.watch.watch.Tie as tie
 
 date-refusal-requires : tie.Need-date-refusal-requires
-date-refusal-requires c κs = search needs
+date-refusal-requires c κs = tt
 
 enum-known-tests : tie.Need-enum-known-tests
-enum-known-tests c = search needs
+enum-known-tests c = c .match .keys1
 
 refused-requires : tie.Need-refused-requires
-refused-requires c κs = search needs
+refused-requires c κs = tt
 
 enum-told : tie.Need-enum-told
-enum-told c = search needs
+enum-told c = c .match .keys2
 
 watched-requires : tie.Need-watched-requires
-watched-requires c κs = search needs
+watched-requires c κs = tt
 
 arm-requires : tie.Need-arm-requires
 arm-requires c κs =
@@ -33,7 +32,7 @@ arm-requires c κs =
     rw (c .watched .ensures) (record { flight = p .0 .flight; slots = p .0 .slots; period = p .0 .period }, p .1, p .2)
 
 done-requires : tie.Need-done-requires
-done-requires c κs = search needs
+done-requires c κs = tt
 
 returns : tie.Need-returns
 returns c = λ a eg ed ok.

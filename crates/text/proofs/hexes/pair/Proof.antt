@@ -6,10 +6,10 @@ use Rattle.text.proofs.hexes.pair.Statement.{statement}
 use Rattle.text.proofs.hexes.pair.Tie as tie
 
 digit-requires : tie.Need-digit-requires
-digit-requires c κs = search needs
+digit-requires c κs = tt
 
 digit-requires-2 : tie.Need-digit-requires-2
-digit-requires-2 c κs = search needs
+digit-requires-2 c κs = tt
 
 returns : tie.Need-returns
 unfolding pairValue

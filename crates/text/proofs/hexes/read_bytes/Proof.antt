@@ -10,7 +10,7 @@ slice-aggregate-same : tie.Need-slice-aggregate-same
 slice-aggregate-same c = search needs
 
 same-requires : tie.Need-same-requires
-same-requires c κs = search needs
+same-requires c κs = tt
 
 returns : tie.Need-returns
 returns c = let e = sym (c .before .same .ensures) ∙ c .if1 .taken in (simp e, simp e)

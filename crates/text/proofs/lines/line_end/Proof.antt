@@ -1,14 +1,13 @@
 -- `lines::line_end` meets its contract. Assumes nothing.
 use mathlib.Core.Path.{_≡_}
 use borrow.Author.Tests.{lt-ltb, le-ltb}
-use borrow.Author.Needs.{needs}
 use Rattle.text.specs.Seek.{isByte, seek}
 use Rattle.text.specs.Lines.{lineFeed}
 use Rattle.text.proofs.lines.line_end.Statement.{statement}
 use Rattle.text.proofs.lines.line_end.Tie as tie
 
 seek-requires : tie.Need-seek-requires
-seek-requires c κs = search needs
+seek-requires c κs = tt
 
 returns : tie.Need-returns
 returns c =

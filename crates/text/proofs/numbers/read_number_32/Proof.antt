@@ -7,7 +7,7 @@ use Rattle.text.proofs.numbers.read_number_32.Statement.{statement}
 use Rattle.text.proofs.numbers.read_number_32.Tie as tie
 
 read-number-requires : tie.Need-read-number-requires
-read-number-requires c κs = search needs
+read-number-requires c κs = tt
 
 enum-known-number : tie.Need-enum-known-number
 enum-known-number c = search needs

@@ -7,7 +7,7 @@ use Rattle.text.proofs.output.put.Statement.{statement}
 use Rattle.text.proofs.output.put.Tie as tie
 
 room-requires : tie.Need-room-requires
-room-requires c κs = search needs
+room-requires c κs = tt
 
 returns : tie.Need-returns
 returns c = put-none _ _ _ (omega arith)

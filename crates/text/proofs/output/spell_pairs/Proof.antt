@@ -24,7 +24,7 @@ shared-slice-read-high-letter : tie.Need-shared-slice-read-high-letter Inv-loop 
 shared-slice-read-high-letter c = search needs
 
 high-letter-requires : tie.Need-high-letter-requires Inv-loop μ-loop
-high-letter-requires c κs = search needs
+high-letter-requires c κs = tt
 
 mul-out : tie.Need-mul-out Inv-loop μ-loop
 mul-out c = search needs
@@ -39,7 +39,7 @@ shared-slice-read-low-letter : tie.Need-shared-slice-read-low-letter Inv-loop μ
 shared-slice-read-low-letter c = search needs
 
 low-letter-requires : tie.Need-low-letter-requires Inv-loop μ-loop
-low-letter-requires c κs = search needs
+low-letter-requires c κs = tt
 
 mul-out-2 : tie.Need-mul-out-2 Inv-loop μ-loop
 mul-out-2 c = search needs

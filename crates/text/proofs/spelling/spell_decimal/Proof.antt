@@ -24,7 +24,7 @@ loop-holds c =
     (omega arith, omega arith, omega arith, sym (append-nil (decimal (a .n))) ∙ ap (λ (l : List ℕ). decimal (a .n) ++ l) (sym none))
 
 last-letter-requires : tie.Need-last-letter-requires Inv-loop μ-loop
-last-letter-requires c κs = search needs
+last-letter-requires c κs = tt
 
 slice-write-to : tie.Need-slice-write-to Inv-loop μ-loop
 slice-write-to c = omega arith
@@ -47,7 +47,7 @@ loop-again c =
     )
 
 last-letter-requires-2 : tie.Need-last-letter-requires-2 Inv-loop μ-loop
-last-letter-requires-2 c κs = search needs
+last-letter-requires-2 c κs = tt
 
 slice-write-to-2 : tie.Need-slice-write-to-2 Inv-loop μ-loop
 slice-write-to-2 c = omega arith

@@ -2,7 +2,6 @@
 use mathlib.Core.Path.{_≡_, ap, ap₂, _∙_}
 use Prim.Native.Nat.{ℕ, _≤_, min}
 use native.Mathlib.Omega.{arith}
-use borrow.Author.Needs.{needs}
 use lib.ListN.{length}
 use Rattle.text.specs.Seek.{isByte, isOther, seek, seek-after, seek-within}
 use Rattle.text.specs.Words.{space, wordStart, wordEnd, nextWord}
@@ -11,13 +10,13 @@ use Rattle.text.proofs.words.next_word.Statement.{statement}
 use Rattle.text.proofs.words.next_word.Tie as tie
 
 lesser-requires : tie.Need-lesser-requires
-lesser-requires c κs = search needs
+lesser-requires c κs = tt
 
 skip-requires : tie.Need-skip-requires
-skip-requires c κs = search needs
+skip-requires c κs = tt
 
 seek-requires : tie.Need-seek-requires
-seek-requires c κs = search needs
+seek-requires c κs = tt
 
 returns : tie.Need-returns
 returns c =

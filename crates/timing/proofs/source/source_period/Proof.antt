@@ -1,6 +1,5 @@
 -- `source::source_period` meets its contract, by the test on SCLK_SEL. Assumes nothing.
 use mathlib.Core.Path.{sym, _∙_}
-use borrow.Author.Needs.{needs}
 use borrow.Author.Tests.{eq-eqb, ne-eqb}
 use Rattle.model.specs.Laws.Choose.{choose-true, choose-false}
 use Rattle.model.specs.Timing.{sourcePeriod}
@@ -8,7 +7,7 @@ use Rattle.timing.proofs.source.source_period.Statement.{statement}
 use Rattle.timing.proofs.source.source_period.Tie as tie
 
 sclk-sel-requires : tie.Need-sclk-sel-requires
-sclk-sel-requires c κs = search needs
+sclk-sel-requires c κs = tt
 
 returns : tie.Need-returns
 unfolding sourcePeriod

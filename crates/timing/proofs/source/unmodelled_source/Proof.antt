@@ -1,6 +1,5 @@
 -- `source::unmodelled_source` meets its contract, case by case. Assumes nothing.
 use mathlib.Core.Path.{_≡_, refl, sym, ap, _∙_}
-use borrow.Author.Needs.{needs}
 use native.Mathlib.Omega.{arith}
 use Rattle.model.specs.Timing.{unmodelled, unmodelledSource}
 use Rattle.timing.specs.Cases.{modelled}
@@ -8,7 +7,7 @@ use Rattle.timing.proofs.source.unmodelled_source.Statement.{statement}
 use Rattle.timing.proofs.source.unmodelled_source.Tie as tie
 
 sclk-sel-requires : tie.Need-sclk-sel-requires
-sclk-sel-requires c κs = search needs
+sclk-sel-requires c κs = tt
 
 returns : tie.Need-returns
 unfolding unmodelledSource unmodelled
