@@ -20,8 +20,8 @@ use Rattle.model.specs.Calls.{Outcome, refusing, unless, afterSettling, unsettl
 use Rattle.model.specs.declared.Refusal.{Refusal}
 use Rattle.model.specs.declared.Report.{Report}
 use Rattle.model.specs.declared.Done.{Done}
-use Rattle.registers.specs.Refusals.{verdict, dates}
-use Rattle.registers.specs.declared.refusals.Checked.{Checked}
+use Rattle.refusals.specs.Refusals.{verdict, dates}
+use Rattle.refusals.specs.declared.Checked.{Checked}
 use Rattle.registers.specs.Notices.{noted}
 use Rattle.registers.specs.Reports.{reported, report-of}
 use Rattle.registers.specs.declared.notices.Notices.{Notices}

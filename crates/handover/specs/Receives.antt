@@ -18,7 +18,7 @@ use Rattle.model.specs.Keeps.Kept.{Kept, settle-keeps, fewer-waiting, fewer-run
 use Rattle.model.specs.Keeps.EachCall.{room-before}
 use Rattle.model.specs.declared.Done.{Done}
 use Rattle.registers.specs.Notices.{noted}
-use Rattle.registers.specs.Refusals.{receiving}
+use Rattle.refusals.specs.Refusals.{receiving}
 use Rattle.queue.specs.Slots.{side}
 use Rattle.queue.specs.Cursors.{Held, slotOf, lastOf, pushedBy}
 use Rattle.queue.specs.Laws.{elems-length, elems-last, push-held}

@@ -1,8 +1,7 @@
 // What register access and every call decide from numbers and marks alone: the place of an offset, the words read, the
-// notices, the refusals, the reports and what set-up fixes. Carried over from inkemu's uart.rs and changed.
+// notices, the reports and what set-up fixes. Carried over from inkemu's uart.rs and changed.
 pub mod notices;
 pub mod places;
-pub mod refusals;
 pub mod reports;
 pub mod setup;
 pub mod words;

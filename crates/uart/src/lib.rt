@@ -1,12 +1,7 @@
 // The UART as one value: its core and the slots of its queues. Its methods take it and hand it back; the work is done over the
 // parts, by the crates below. Carried over from inkemu's uart.rs and changed.
-use access::read;
-use access::write;
-use calls::clock_change;
 use calls::power_down;
-use calls::reset;
 use calls::undated;
-use calls::wake;
 use calls::watch;
 use control::Receiving;
 use device::Core;
@@ -21,7 +16,6 @@ use model::SetUp;
 use model::Taken;
 use model::Write;
 use queue::Cursor;
-use registers::refusals;
 use registers::setup;
 ghost use mathlib.Core.Path.{_≡_};
 ghost use Rattle.model.specs.Settle.{settle};

@@ -7,8 +7,8 @@ use Rattle.model.specs.Replies.{doneNumber}
 use Rattle.model.specs.Keeps.Dated.{not-refused}
 use Rattle.model.specs.Keeps.EachCall.{receive-within}
 use Rattle.model.specs.declared.Done.{Done}
-use Rattle.registers.specs.Refusals.{receiving}
-use Rattle.registers.specs.Calls.{receive-tests}
+use Rattle.refusals.specs.Refusals.{receiving}
+use Rattle.refusals.specs.Calls.{receive-tests}
 use Rattle.calls.specs.Answers.{carried, turned-away, passes, refuses, in-time}
 use Rattle.handover.specs.Receives.{tested}
 use borrow.Author.Needs.{needs}

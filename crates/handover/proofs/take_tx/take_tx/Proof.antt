@@ -7,8 +7,8 @@ use Rattle.model.specs.Keeps.Dated.{not-refused}
 use Rattle.model.specs.Replies.{takenNumber}
 use Rattle.model.specs.Calls.{takeTxWork, afterSettling, quiet, filled}
 use Rattle.model.specs.Keeps.EachCall.{takeTx-within}
-use Rattle.registers.specs.Refusals.{takingTx, takingWritten}
-use Rattle.registers.specs.Calls.{take-tests}
+use Rattle.refusals.specs.Refusals.{takingTx, takingWritten}
+use Rattle.refusals.specs.Calls.{take-tests}
 use Rattle.calls.specs.Answers.{passes, refuses, in-time}
 use Rattle.handover.specs.Takes.{take-carried, take-refused}
 use borrow.Author.Needs.{needs}

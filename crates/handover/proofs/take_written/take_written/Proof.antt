@@ -7,8 +7,8 @@ use Rattle.model.specs.Keeps.Dated.{not-refused}
 use Rattle.model.specs.Replies.{takenNumber}
 use Rattle.model.specs.Calls.{takeWrittenWork, undated, filled}
 use Rattle.model.specs.Keeps.EachCall.{takeWritten-within}
-use Rattle.registers.specs.Refusals.{takingWritten}
-use Rattle.registers.specs.Calls.{written-tests}
+use Rattle.refusals.specs.Refusals.{takingWritten}
+use Rattle.refusals.specs.Calls.{written-tests}
 use Rattle.calls.specs.Answers.{passes, refuses}
 use Rattle.handover.specs.Takes.{take-carried, take-refused, took-written}
 use borrow.Author.Needs.{needs}

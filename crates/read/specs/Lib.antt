@@ -1,0 +1,3 @@
+-- What the contracts of `read` say, and the laws of it.
+pub mod Structs
+pub mod Reads

@@ -1,0 +1,57 @@
+-- `reset` meets its contract: refused as the tests say, or carried out. Assumes nothing.
+use mathlib.Core.Path.{refl}
+use mathlib.Core.Option.{none}
+use Rattle.model.specs.Calls.{resetWork, afterSettling, quiet}
+use Rattle.model.specs.Keeps.EachCall.{reset-within}
+use Rattle.model.specs.Replies.{doneNumber}
+use Rattle.model.specs.declared.Done.{Done}
+use Rattle.refusals.specs.Calls.{reset-tests}
+use Rattle.refusals.specs.Refusals.{datesOnly}
+use Rattle.calls.specs.Answers.{carried, turned-away, passes, refuses, in-time}
+use Rattle.reset.proofs.reset.Statement.{statement}
+use Rattle.reset.proofs.reset.Tie as tie
+
+date-refusal-requires : tie.Need-date-refusal-requires
+date-refusal-requires c κs = tt
+
+enum-known-tests : tie.Need-enum-known-tests
+enum-known-tests c = c .match .keys1
+
+refused-requires : tie.Need-refused-requires
+refused-requires c κs = tt
+
+enum-told : tie.Need-enum-told
+enum-told c = c .match .keys2
+
+restarted-requires : tie.Need-restarted-requires
+unfolding datesOnly
+restarted-requires c κs = (c .before .before .before .before .before .before .before .pre, in-time _ _ none (passes (c .before .before .before .before .before .date-refusal .ensures) (c .before .before .before .enum-told .given .1)) .0)
+
+returns : tie.Need-returns
+returns c =
+    let start = c .before .before .before .before .before .before in
+    let o = start .args in
+    rw (c .refused .ensures)
+    (turned-away (λ x. x) doneNumber Done.Refused (resetWork (o .cycle)) _ _ (reset-tests (o .cycle) _)
+    (refuses (c .before .before .before .before .date-refusal .ensures) (c .before .before .tests .given .1)) (start .pre))
+
+returns-2 : tie.Need-returns-2
+unfolding resetWork afterSettling quiet doneNumber
+returns-2 c =
+    let start = c .before .before .before .before .before .before .before .before in
+    let o = start .args in
+    let tests = passes (c .before .before .before .before .before .before .date-refusal .ensures) (c .before .before .before .before .enum-told .given .1) in
+    carried (λ x. x) doneNumber Done.Refused (resetWork (o .cycle)) _ _ (reset-tests (o .cycle) _) tests
+    (reset-within (o .cycle) _ (start .pre .within)) refl (c .restarted .ensures)
+
+pub reset-spec : {M : Type 1} → statement M
+reset-spec =
+    tie.close
+    (tie.spec
+    date-refusal-requires
+    enum-known-tests
+    refused-requires
+    enum-told
+    restarted-requires
+    returns
+    returns-2)

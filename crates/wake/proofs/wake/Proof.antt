@@ -1,0 +1,59 @@
+-- `wake` meets its contract: refused as the tests say, or carried out. Assumes nothing.
+use mathlib.Core.Path.{refl}
+use mathlib.Core.Option.{none}
+use Rattle.model.specs.Calls.{wakeWork, afterSettling, quiet}
+use Rattle.model.specs.Keeps.EachCall.{wake-within}
+use Rattle.model.specs.Replies.{doneNumber}
+use Rattle.model.specs.declared.Done.{Done}
+use Rattle.refusals.specs.Calls.{wake-tests}
+use Rattle.refusals.specs.Refusals.{datesOnly}
+use Rattle.calls.specs.Answers.{carried, turned-away, passes, refuses, in-time}
+use Rattle.wake.proofs.wake.Statement.{statement}
+use Rattle.wake.proofs.wake.Tie as tie
+
+date-refusal-requires : tie.Need-date-refusal-requires
+date-refusal-requires c κs = tt
+
+enum-known-tests : tie.Need-enum-known-tests
+enum-known-tests c = c .match .keys1
+
+refused-requires : tie.Need-refused-requires
+refused-requires c κs = tt
+
+enum-told : tie.Need-enum-told
+enum-told c = c .match .keys2
+
+woken-requires : tie.Need-woken-requires
+unfolding datesOnly
+woken-requires c κs = (
+  c .before .before .before .before .before .before .before .pre,
+  in-time _ _ none (passes (c .before .before .before .before .before .date-refusal .ensures) (c .before .before .before .enum-told .given .1)) .0,
+)
+
+returns : tie.Need-returns
+returns c =
+    let start = c .before .before .before .before .before .before in
+    let o = start .args in
+    rw (c .refused .ensures)
+    (turned-away (λ x. x) doneNumber Done.Refused (wakeWork (o .cycle)) _ _ (wake-tests (o .cycle) _)
+    (refuses (c .before .before .before .before .date-refusal .ensures) (c .before .before .tests .given .1)) (start .pre))
+
+returns-2 : tie.Need-returns-2
+unfolding wakeWork afterSettling quiet doneNumber
+returns-2 c =
+    let start = c .before .before .before .before .before .before .before .before in
+    let o = start .args in
+    let tests = passes (c .before .before .before .before .before .before .date-refusal .ensures) (c .before .before .before .before .enum-told .given .1) in
+    carried (λ x. x) doneNumber Done.Refused (wakeWork (o .cycle)) _ _ (wake-tests (o .cycle) _) tests (wake-within (o .cycle) _ (start .pre .within)) refl (c .woken .ensures)
+
+pub wake-spec : {M : Type 1} → statement M
+wake-spec =
+    tie.close
+    (tie.spec
+    date-refusal-requires
+    enum-known-tests
+    refused-requires
+    enum-told
+    woken-requires
+    returns
+    returns-2)
