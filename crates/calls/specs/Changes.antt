@@ -10,7 +10,6 @@ use Rattle.model.specs.Settle
 use Rattle.model.specs.Arm
 use Rattle.model.specs.Calls.{periodOf, clearedLine, dated, clocked, cleared}
 use Rattle.model.specs.Tests.{dateEnd, periodLimit}
-use Rattle.model.specs.Limits.{Within}
 use Rattle.model.specs.Keeps.Parts.{putClock, through}
 use Rattle.model.specs.Keeps.Dated.{moved-parts}
 use Rattle.model.specs.Keeps.EachCall.{clocked-parts}

@@ -1,9 +1,8 @@
 -- What has_left and host_pending read of a core. Assumes nothing.
-use mathlib.Core.Path.{_≡_, ap, sym, _∙_}
+use mathlib.Core.Path.{_≡_, ap, sym}
 use Prim.Native.Nat.{ℕ, _+_}
 use native.Mathlib.Omega.{arith}
 use lib.Dec.{ltb}
-use lib.ListN.{length}
 use Rattle.model.specs.Settle.{pending, onTheLine}
 use Rattle.model.specs.Calls.{undated, hasLeft, hostPending}
 use Rattle.model.specs.declared.Frame.{Frame}

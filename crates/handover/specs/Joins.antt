@@ -1,5 +1,5 @@
 -- The runs of waiting host bytes in their slots: the last one's date, and what joining or adding a run does. Assumes nothing.
-use mathlib.Core.Path.{_≡_, refl, sym, ap, subst, _∙_}
+use mathlib.Core.Path.{_≡_, refl, sym, ap, _∙_}
 use mathlib.Core.Bool.{Bool, true, false, false≢true}
 use mathlib.Core.List.{List, [], _∷_, _++_}
 use mathlib.Core.Logic.{⊎-elim}
@@ -14,7 +14,7 @@ use Rattle.model.specs.Calls.{joined, lastDate}
 use Rattle.queue.specs.Slots.{side}
 use Rattle.queue.specs.Cursors.{Held, slotOf, lastOf, backOf, pushed}
 use Rattle.queue.specs.Laws.{elems-none, elems-last, push-held, last-low, back-low}
-use Rattle.queue.specs.Stores.{Stored, set-stored, both, kept, last-stored, push-elems}
+use Rattle.queue.specs.Stores.{set-stored, both, kept, last-stored, push-elems}
 use Rattle.queue.specs.declared.Cursor.{Cursor}
 use Rattle.device.specs.Holds.{runAt, runsOf}
 

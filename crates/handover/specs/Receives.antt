@@ -3,7 +3,7 @@ use mathlib.Core.Path.{_≡_, refl, sym, ap, subst, _∙_}
 use mathlib.Core.Bool.{false}
 use mathlib.Core.List.{List, [], _∷_, _++_}
 use mathlib.Core.Logic.{⊎-elim}
-use Prim.Native.Nat.{ℕ, _+_, _-_, _^_, _≤_, _<_}
+use Prim.Native.Nat.{ℕ, _+_, _-_, _≤_, _<_}
 use native.Mathlib.Omega.{arith}
 use borrow.Author.Tests.{ltb-false}
 use lib.ListN.{length, take, getD}
@@ -20,7 +20,7 @@ use Rattle.model.specs.declared.Done.{Done}
 use Rattle.registers.specs.Notices.{noted}
 use Rattle.refusals.specs.Refusals.{receiving}
 use Rattle.queue.specs.Slots.{side}
-use Rattle.queue.specs.Cursors.{Held, slotOf, lastOf, pushedBy}
+use Rattle.queue.specs.Cursors.{slotOf, lastOf, pushedBy}
 use Rattle.queue.specs.Laws.{elems-length, elems-last, push-held}
 use Rattle.queue.specs.Append.{storedFrom, stored-length, append-elems}
 use Rattle.queue.specs.declared.Cursor.{Cursor}

@@ -7,7 +7,7 @@ use model::Source;
 use model::Unsupported;
 use timing::fields;
 ghost use mathlib.Core.Path.{_≡_};
-ghost use Prim.Native.Nat.{_<_};
+ghost use Prim.Native.Nat.{ℕ, _<_};
 ghost use mathlib.Core.List.{[], _∷_};
 ghost use Rattle.model.specs.Numbers.{bit};
 ghost use Rattle.model.specs.Registers.{noteIf, conf0Notes, storedNotes, sourceNotes};
@@ -92,26 +92,33 @@ pub fn overflow_notices() -> Notices
     one(Unsupported::UartOverflow)
 }
 
+// A source without a frequency gives the notice with its SCLK_SEL.
+fn source_notices(source: Source, sel0: Unsupported, sel2: Unsupported) -> Notices
+    ensures { λ r. ⌜ ((notice : ℕ → Unsupported) → sel0 ≡ notice 0 → sel2 ≡ notice 2 → r ≡ noted (sourceNotes notice source)) ⌝ }
+{
+    match source {
+        Source::None => none(),
+        Source::Sel0 => one(sel0),
+        Source::Sel2 => one(sel2),
+    }
+}
+
 // A byte sent on a source without a frequency.
 pub fn clock_notices(source: Source) -> Notices
     ensures { λ r. ⌜ r ≡ noted (sourceNotes Unsupported.UartClock source) ⌝ }
 {
-    match source {
-        Source::None => none(),
-        Source::Sel0 => one(Unsupported::UartClock(0)),
-        Source::Sel2 => one(Unsupported::UartClock(2)),
-    }
+    source_notices(source, Unsupported::UartClock(0), Unsupported::UartClock(2))
 }
 
 // A mistimed reception that the firmware has not been told of.
 pub fn receive_clock_notices(source: Source) -> Notices
     ensures { λ r. ⌜ r ≡ noted (sourceNotes Unsupported.UartReceiveClock source) ⌝ }
 {
-    match source {
-        Source::None => none(),
-        Source::Sel0 => one(Unsupported::UartReceiveClock(0)),
-        Source::Sel2 => one(Unsupported::UartReceiveClock(2)),
-    }
+    source_notices(
+        source,
+        Unsupported::UartReceiveClock(0),
+        Unsupported::UartReceiveClock(2),
+    )
 }
 
 // The first four modes of CONF0 that are refused by name, in the order of their bits.

@@ -1,5 +1,5 @@
 -- A reset after its settling: cleared, leveled and armed. Assumes nothing.
-use mathlib.Core.Path.{_≡_, refl, ap, _∙_}
+use mathlib.Core.Path.{refl, ap, _∙_}
 use Prim.Native.Nat.{ℕ}
 use mathlib.Core.List.{[]}
 use Rattle.model.specs.State
@@ -8,7 +8,7 @@ use Rattle.model.specs.Arm.{arm}
 use Rattle.model.specs.Calls.{afterSettling, quiet, cleared}
 use Rattle.model.specs.declared.Done.{Done}
 use Rattle.registers.specs.Notices.{noted}
-use Rattle.device.specs.Holds.{Arrays, abs}
+use Rattle.device.specs.Holds.{Arrays}
 use Rattle.device.specs.Settles.{Settles}
 use Rattle.device.specs.Arms.{Arms}
 use Rattle.device.specs.declared.Core.{Core}

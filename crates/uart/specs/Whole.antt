@@ -2,7 +2,7 @@
 -- over parts. Assumes nothing.
 -- What is free is named in the specs of `device`, Holds: where a queue starts in its slots, and what stands in slots that hold no
 -- element. No answer depends on it, since every contract gives the answer from the meaning alone.
-use mathlib.Core.Path.{_≡_, refl, sym, subst, _∙_}
+use mathlib.Core.Path.{_≡_, sym, subst, _∙_}
 use mathlib.Core.Bool.{false}
 use mathlib.Core.List.{List}
 use Prim.Native.Nat.{ℕ, _+_, _≤_}

@@ -1,6 +1,5 @@
 -- `power_down::power_down` meets its contract: refused as the tests say, or its date is set. Assumes nothing.
 use mathlib.Core.Path.{refl}
-use mathlib.Core.Option.{none}
 use Rattle.model.specs.Replies.{doneNumber}
 use Rattle.model.specs.declared.Done.{Done}
 use Rattle.calls.specs.Answers.{carried, turned-away, passes, refuses, unsettled-works}

@@ -1,5 +1,4 @@
 -- `take_written::filled` meets its contract: the second copy stands after the first. Assumes nothing.
-use native.Mathlib.Omega.{arith}
 use mathlib.Core.Path.{refl}
 use Rattle.queue.specs.CopyOut.{copied-after}
 use borrow.Author.Needs.{needs}

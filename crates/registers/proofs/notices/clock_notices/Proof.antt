@@ -1,52 +1,14 @@
--- `notices::clock_notices` meets its contract, by cases on the source. Assumes nothing.
-use mathlib.Core.Path.{sym, ap, _∙_}
-use borrow.Author.Needs.{needs}
-use Rattle.model.specs.Registers.{sourceNotes}
+-- `notices::clock_notices` meets its contract. Assumes nothing.
+use mathlib.Core.Path.{refl}
 use Rattle.model.specs.declared.Unsupported.{Unsupported}
-use Rattle.registers.specs.Notices.{noted}
 use Rattle.registers.proofs.notices.clock_notices.Statement.{statement}
 use Rattle.registers.proofs.notices.clock_notices.Tie as tie
 
-enum-told : tie.Need-enum-told
-enum-told c = search needs
-
-none-requires : tie.Need-none-requires
-none-requires c κs = search needs
-
-enum-told-2 : tie.Need-enum-told-2
-enum-told-2 c = search needs
-
-one-requires : tie.Need-one-requires
-one-requires c κs = search needs
-
-enum-told-3 : tie.Need-enum-told-3
-enum-told-3 c = search needs
-
-one-requires-2 : tie.Need-one-requires-2
-one-requires-2 c κs = search needs
+source-notices-requires : tie.Need-source-notices-requires
+source-notices-requires c κs = tt
 
 returns : tie.Need-returns
-unfolding sourceNotes
-returns c = c .none .ensures ∙ ap (λ s. noted (sourceNotes Unsupported.UartClock s)) (sym (c .before .enum-told .given .1))
-
-returns-2 : tie.Need-returns-2
-unfolding sourceNotes
-returns-2 c = c .one .ensures ∙ ap (λ s. noted (sourceNotes Unsupported.UartClock s)) (sym (c .before .enum-told2 .given .1))
-
-returns-3 : tie.Need-returns-3
-unfolding sourceNotes
-returns-3 c = c .one2 .ensures ∙ ap (λ s. noted (sourceNotes Unsupported.UartClock s)) (sym (c .before .enum-told3 .given .1))
+returns c = c .source-notices .ensures Unsupported.UartClock refl refl
 
 pub clock-notices-spec : {M : Type 1} → statement M
-clock-notices-spec =
-    tie.close
-    (tie.spec
-    enum-told
-    none-requires
-    enum-told-2
-    one-requires
-    enum-told-3
-    one-requires-2
-    returns
-    returns-2
-    returns-3)
+clock-notices-spec = tie.close (tie.spec source-notices-requires returns)
