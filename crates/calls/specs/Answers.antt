@@ -22,12 +22,12 @@ use Rattle.model.specs.declared.Report.{Report}
 use Rattle.model.specs.declared.Done.{Done}
 use Rattle.refusals.specs.Refusals.{verdict, dates}
 use Rattle.refusals.specs.declared.Checked.{Checked}
-use Rattle.registers.specs.Notices.{noted}
-use Rattle.registers.specs.Reports.{reported, report-of}
-use Rattle.registers.specs.declared.notices.Notices.{Notices}
+use Rattle.notices.specs.Notices.{noted}
+use Rattle.notices.specs.Reports.{reported, report-of}
+use Rattle.notices.specs.declared.Notices.{Notices}
 use Rattle.device.specs.Holds.{Arrays, abs, Shape, Ok}
-use Rattle.device.specs.Settles.{Settles}
-use Rattle.device.specs.Arms.{Arms}
+use Rattle.settle.specs.Settles.{Settles}
+use Rattle.settle.specs.Arms.{Arms}
 use Rattle.device.specs.declared.Core.{Core}
 use Rattle.calls.specs.declared.answers.DoneCore.{DoneCore}
 

@@ -1,5 +1,4 @@
 -- What the contracts of the calls say, and the laws that put an answer together.
 pub mod Answers
 pub mod Changes
-pub mod Undated
 pub mod Queues

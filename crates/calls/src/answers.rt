@@ -3,8 +3,7 @@ use device::Core;
 use model::Done;
 use model::Refusal;
 use model::Report;
-use registers::notices;
-use registers::reports;
+use notices::reports;
 ghost use mathlib.Core.Path.{_≡_};
 ghost use Rattle.calls.specs.Answers.{doneCore, refusedCore};
 

@@ -1,6 +1,6 @@
 // Levels and the interrupt of a core, from its words and the numbers of its queues.
-use control::settling;
 use device::Core;
+use instants::settling;
 ghost use mathlib.Core.Path.{_≡_};
 ghost use Rattle.calls.specs.Changes.{leveledCore};
 

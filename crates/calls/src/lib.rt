@@ -4,5 +4,4 @@ pub mod answers;
 pub mod levels;
 pub mod power_down;
 pub mod settled_at;
-pub mod undated;
 pub mod watch;

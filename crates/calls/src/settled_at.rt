@@ -1,14 +1,14 @@
 // A dated call that is carried out moves the last date, and settles.
 use device::Core;
-use device::settling;
-use device::settling::SettledCore;
+use settle::settling;
+use settle::settling::SettledCore;
 ghost use mathlib.Core.Path.{_≡_};
 ghost use Prim.Native.Nat.{_<_};
 ghost use Rattle.model.specs.Tests.{dateEnd};
 ghost use Rattle.model.specs.Calls.{settledAt};
 ghost use Rattle.device.specs.Holds.{abs, Ok};
 ghost use Rattle.device.specs.Wholes.{arrays};
-ghost use Rattle.device.specs.Settles.{Settles};
+ghost use Rattle.settle.specs.Settles.{Settles};
 ghost use Rattle.calls.specs.Changes.{datedCore};
 
 pub fn dated(mut core: Core, cycle: u64) -> Core

@@ -16,8 +16,8 @@ use Rattle.calls.specs.Changes.{clockedCore}
 use Rattle.model.specs.Ends.Through.{overflowsAmong, ran}
 use Rattle.model.specs.Ends.NothingDue.{settle-passes}
 use Rattle.model.specs.declared.Found.{Found}
-use Rattle.device.specs.Rounds.{lost-adds, lost-low}
-use Rattle.device.specs.Settles.{Settles}
+use Rattle.reception.specs.Rounds.{lost-adds, lost-low}
+use Rattle.settle.specs.Settles.{Settles}
 use Rattle.device.specs.Holds.{Arrays, abs}
 use Rattle.device.specs.declared.Core.{Core}
 

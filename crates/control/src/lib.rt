@@ -1,11 +1,7 @@
-// The decisions of the UART on numbers and marks: no byte is here. Carried over from inkemu's uart.rs and changed.
-pub mod arming;
-pub mod finds;
-mod frames;
+// The line's part of the UART in numbers and marks, without its bytes: what the calls decide on it, the marks of INT_RAW
+// and the idle line. Carried over from inkemu's uart.rs and changed.
 pub mod idle;
-mod marks;
-pub mod passes;
-pub mod settling;
+pub mod marks;
 
 use model::Found;
 use model::Frame;

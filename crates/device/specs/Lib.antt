@@ -1,10 +1,4 @@
--- What the held UART means, and what each part of a settling does to it.
+-- What the held UART means, and what the bytes that leave do to it.
 pub mod Holds
 pub mod Wholes
 pub mod Leaves
-pub mod Receives
-pub mod Allows
-pub mod Carries
-pub mod Rounds
-pub mod Settles
-pub mod Arms

@@ -1,9 +1,6 @@
 // The UART over parts: its numbers and marks with a cursor for each queue, and the slots of the queues in arrays lent beside
 // them. Carried over from inkemu's uart.rs and changed: the queues are rings in fixed slots.
-pub mod arming;
 pub mod departures;
-pub mod passes;
-pub mod settling;
 
 use control::Receiving;
 use model::Control;

@@ -1,4 +1,2 @@
 -- What the contracts of `handover` say, and the laws of it.
 pub mod Takes
-pub mod Joins
-pub mod Receives

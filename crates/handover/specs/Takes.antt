@@ -14,12 +14,12 @@ use Rattle.model.specs.Limits.{Within}
 use Rattle.model.specs.declared.Refusal.{Refusal}
 use Rattle.model.specs.declared.Report.{Report}
 use Rattle.model.specs.declared.Taken.{Taken}
-use Rattle.registers.specs.Notices.{noted}
+use Rattle.notices.specs.Notices.{noted}
 use Rattle.queue.specs.Cursors.{Held, slotOf, elems, empty}
 use Rattle.queue.specs.Laws.{elems-length, map-elems, empty-held, empty-elems}
 use Rattle.queue.specs.declared.Cursor.{Cursor}
 use Rattle.device.specs.Holds.{Arrays, sentAt, txOf, abs, Shape, Ok}
-use Rattle.device.specs.Settles.{Settles}
+use Rattle.settle.specs.Settles.{Settles}
 use Rattle.device.specs.declared.Core.{Core}
 use Rattle.calls.specs.Answers.{Answers, Works, reportOf, after, carried, turned-away}
 use Rattle.handover.specs.declared.taking.TakenCore.{TakenCore}

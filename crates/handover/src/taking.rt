@@ -3,8 +3,7 @@ use device::Core;
 use model::Refusal;
 use model::Report;
 use model::Taken;
-use registers::notices;
-use registers::reports;
+use notices::reports;
 ghost use mathlib.Core.Path.{_≡_};
 ghost use Rattle.handover.specs.Takes.{takenCore, undatedCore, refusedTake};
 

@@ -1,6 +1,6 @@
 // Runs the leaves on document 01's figures and on the edges: 0, 1, the limit, one past it, all ones. A line for each.
+mod bits;
 mod clocks;
-mod fields;
 mod queues;
 mod show;
 mod times;
@@ -9,8 +9,8 @@ mod words;
 fn main() {
     times::marked();
     times::edges();
-    fields::all_ones();
-    fields::single_bits();
+    bits::all_ones();
+    bits::single_bits();
     clocks::periods();
     clocks::deadlines();
     words::places();

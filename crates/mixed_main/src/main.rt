@@ -1,9 +1,7 @@
 // One mixed workload over the parts of a UART, as a program that embeds it would call: firmware sends a row, a host answers
 // with one, an interrupt handler reads it, and a console takes what was sent. compare/programs/src/bin/workload.rs does the
 // same on the published Rust.
-use calls::undated;
 use device::Core;
-use handover::receive;
 use handover::take_tx;
 use libc::STDOUT_FILENO;
 use model::Read;

@@ -1,3 +1,2 @@
 -- What the contracts of `read` say, and the laws of it.
 pub mod Structs
-pub mod Reads

@@ -4,7 +4,7 @@ use Prim.Native.Nat.{ℕ}
 use Rattle.model.specs.Replies.{noReport}
 use Rattle.model.specs.declared.Refusal.{Refusal}
 use Rattle.model.specs.declared.Read.{Read}
-use Rattle.registers.specs.declared.notices.Notices.{Notices}
+use Rattle.notices.specs.declared.Notices.{Notices}
 use Rattle.device.specs.declared.Core.{Core}
 use Rattle.calls.specs.Answers.{reportOf}
 use Rattle.read.specs.declared.ReadCore.{ReadCore}

@@ -1,5 +1,4 @@
 // read: settle, and then the value at a place.
-mod reading;
 
 use calls::settled_at;
 use device::Core;
@@ -7,10 +6,10 @@ use model::Place;
 use model::Read;
 use model::Refusal;
 use model::Report;
+use notices::Notices;
+use notices::reports;
 use refusals::Checked;
-use registers::notices::Notices;
 use registers::places;
-use registers::reports;
 ghost use mathlib.Core.Path.{_≡_};
 ghost use Prim.Native.Nat.{_<_};
 ghost use Rattle.model.specs.Tests.{dateEnd};

@@ -1,5 +1,2 @@
 -- What the contracts of `registers` cite beside the definition, and the laws that join them to it.
 pub mod Places
-pub mod Notices
-pub mod NoticeLaws
-pub mod Reports

@@ -7,10 +7,10 @@ use model::Refusal;
 use model::Report;
 use model::SetUp;
 use model::Write;
-use text::put;
-use text::put_bytes;
-use text::put_decimal;
-use text::put_word;
+use spelling::put;
+use spelling::put_bytes;
+use spelling::put_decimal;
+use spelling::put_word;
 
 fn number_of(refusal: Refusal) -> u64 {
     match refusal {

@@ -1,5 +1,5 @@
 // What makes a line no call, and the line that it answers.
-use text::put;
+use spelling::put;
 
 pub enum Reason {
     UnknownName,

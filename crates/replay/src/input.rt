@@ -5,13 +5,9 @@ use crate::output::within;
 use crate::session::Session;
 use crate::session::begin;
 use libc::STDIN_FILENO;
-use text::LineEnd;
-use text::line_end;
-use text::put;
-ghost use Prim.Native.Nat.{_<_};
-ghost use lib.ListN.{length};
+use spelling::put;
+use text::piece_at;
 ghost use Rattle.uart.specs.Whole.{Good};
-ghost use Rattle.replay.specs.Pieces.{PieceOf};
 
 // The output is written once it is filled so far; an answer that then follows fits behind it.
 const FULL: usize = 57344;
@@ -27,13 +23,6 @@ struct State {
     session: Session,
     begun: Begun,
     more: bool,
-}
-
-// A part of a line, up to `end`; `whole` says that the line ends there. The next one begins at `next`.
-struct Piece {
-    end: usize,
-    next: usize,
-    whole: bool,
 }
 
 fn none_begun() -> Begun {
@@ -115,26 +104,6 @@ fn written(state: State, out: &[u8]) -> State
         session,
         begun,
         more: !session.failed,
-    }
-}
-
-// What stands at a place of what was read.
-fn piece_at(s: &[u8], at: usize) -> Piece
-    requires { ⌜ at < length (now s) ⌝ }
-    ensures { λ r. ⌜ PieceOf (length (now (s .entry))) at r ⌝ }
-{
-    let found = line_end(s, at);
-    match found {
-        LineEnd::At(end) => Piece {
-            end,
-            next: end + 1,
-            whole: true,
-        },
-        LineEnd::NoEnd => Piece {
-            end: s.len(),
-            next: s.len(),
-            whole: false,
-        },
     }
 }
 

@@ -7,7 +7,7 @@ use crate::session::Session;
 use crate::session::in_use;
 use model::Report;
 use model::Taken;
-use text::put;
+use spelling::put;
 use uart::AfterTake;
 use uart::Uart;
 ghost use mathlib.Core.Path.{_≡_};

@@ -2,8 +2,8 @@
 use model::Feature;
 use model::Notice;
 use model::Unsupported;
-use text::put;
-use text::put_decimal;
+use spelling::put;
+use spelling::put_decimal;
 
 fn put_feature(out: &mut [u8], at: usize, feature: Feature) -> usize {
     match feature {

@@ -2,11 +2,11 @@
 use crate::faults::Fault;
 use crate::faults::Reason;
 use crate::forms::Last;
-use text::BytesRead;
-use text::Number;
+use numerals::BytesRead;
+use numerals::Number;
+use numerals::read_bytes;
+use numerals::read_number;
 use text::next_word;
-use text::read_bytes;
-use text::read_number;
 use text::same;
 
 // The longest buffer that a call may lend.

@@ -7,10 +7,10 @@ use Rattle.model.specs.Settle
 use Rattle.model.specs.Arm.{arm}
 use Rattle.model.specs.Calls.{afterSettling, quiet, cleared}
 use Rattle.model.specs.declared.Done.{Done}
-use Rattle.registers.specs.Notices.{noted}
+use Rattle.notices.specs.Notices.{noted}
 use Rattle.device.specs.Holds.{Arrays}
-use Rattle.device.specs.Settles.{Settles}
-use Rattle.device.specs.Arms.{Arms}
+use Rattle.settle.specs.Settles.{Settles}
+use Rattle.settle.specs.Arms.{Arms}
 use Rattle.device.specs.declared.Core.{Core}
 use Rattle.calls.specs.Answers.{Works, reportOf, after}
 use Rattle.calls.specs.Changes.{leveledCore, clearedCore, leveled-abs, cleared-abs}

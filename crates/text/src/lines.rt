@@ -1,22 +1,31 @@
-// Lines: where the next one ends.
+// Lines: what stands of the next one, up to its end.
 use crate::scan::seek;
 ghost use mathlib.Core.Path.{_≡_};
-ghost use Rattle.text.specs.Lines.{lineEnd};
+ghost use Rattle.text.specs.Lines.{pieceAt};
 
-// What ends a line: a line feed at a place, or none in what was read so far.
-pub enum LineEnd {
-    At(usize),
-    NoEnd,
+// A part of a line, up to `end`; `whole` says that the line ends there. The next one begins at `next`.
+pub struct Piece {
+    pub end: usize,
+    pub next: usize,
+    pub whole: bool,
 }
 
-// The first line feed of `s` from `at` on.
-pub fn line_end(s: &[u8], at: usize) -> LineEnd
-    ensures { λ r. ⌜ r ≡ lineEnd (now (s .entry)) at ⌝ }
+// What stands in `s` from `at` on, up to the first line feed, or to the end of `s`.
+pub fn piece_at(s: &[u8], at: usize) -> Piece
+    ensures { λ r. ⌜ r ≡ pieceAt (now (s .entry)) at ⌝ }
 {
     let end = seek(s, at, b'\n');
     if end < s.len() {
-        LineEnd::At(end)
+        Piece {
+            end,
+            next: end + 1,
+            whole: true,
+        }
     } else {
-        LineEnd::NoEnd
+        Piece {
+            end,
+            next: end,
+            whole: false,
+        }
     }
 }

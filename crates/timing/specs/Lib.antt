@@ -1,4 +1,3 @@
--- Laws that join shifts and masks to fields, and the bounds of line timing.
-pub mod Masks
+-- The bounds of line timing.
 pub mod Bounds
 pub mod Cases

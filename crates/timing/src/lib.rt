@@ -1,6 +1,5 @@
 // Line timing: how long a bit, a byte and the receive timeout last, in subcycles.
 // Carried over from inkemu's uart.rs and changed.
-pub mod fields;
 pub mod source;
 
 use model::Settings;

@@ -1,6 +1,5 @@
 // The source clock: its period in cycles, and the selections that the model has no frequency for. Carried over from
 // inkemu's uart.rs and changed.
-use crate::fields;
 use clock::Clock;
 use model::Source;
 ghost use mathlib.Core.Path.{_≡_};

@@ -9,7 +9,7 @@ use Prim.Native.Nat.{ℕ, _+_, _≤_}
 use native.Mathlib.Omega.{arith}
 use lib.ListN.{length, replicate}
 use Rattle.model.specs.State
-use Rattle.model.specs.SetUp.{mapOf, newControl, new, setUpReply}
+use Rattle.model.specs.SetUp.{mapOf, new, setUpReply}
 use Rattle.model.specs.Tests.{repeated, sentLimit}
 use Rattle.model.specs.Calls.{Outcome}
 use Rattle.model.specs.Replies.{Take}
@@ -19,12 +19,12 @@ use Rattle.model.specs.Keeps.Runs.{new-within}
 use Rattle.model.specs.declared.Report.{Report}
 use Rattle.model.specs.declared.SetUp.{SetUp}
 use Rattle.model.specs.declared.Taken.{Taken}
-use Rattle.queue.specs.Cursors.{slotOf, empty}
+use Rattle.queue.specs.Cursors.{slotOf}
 use Rattle.queue.specs.Laws.{elems-length, empty-held, empty-elems}
-use Rattle.control.specs.declared.Receiving.{Receiving}
 use Rattle.device.specs.Holds.{Arrays, sentAt, runAt, onTheLine, abs, Shape, Ok}
 use Rattle.device.specs.Wholes.{arrays}
 use Rattle.device.specs.declared.Core.{Core}
+use Rattle.setup.specs.NewCore.{newCore}
 use Rattle.calls.specs.Answers.{Answers}
 use Rattle.handover.specs.Takes.{TakesWith}
 use Rattle.uart.specs.declared.Uart.{Uart}
@@ -60,20 +60,6 @@ sent-few c a ok =
     omega (arith, ok .within .sent, elems-length (slotOf (a .tx) 0) 1152 (c .tx), elems-length (sentAt (a .goneAt) (a .flight)) 129 (c .flight))
 
 -- ---- set-up
-
--- a core with nothing in its queues
-abbrev pub newCore : List ℕ → List ℕ → Core
-newCore offsets resets = record {
-  map = mapOf offsets resets;
-  control = newControl (mapOf offsets resets .reset);
-  receiving = Receiving.None;
-  byte = 0;
-  flight = empty;
-  tx = empty;
-  host = empty;
-  runs = empty;
-  rx = empty;
-}
 
 -- slots of zeros
 abbrev pub zeros : Arrays

@@ -1,12 +1,8 @@
 // The UART as one value: its core and the slots of its queues. Its methods take it and hand it back; the work is done over the
 // parts, by the crates below. Carried over from inkemu's uart.rs and changed.
 use calls::power_down;
-use calls::undated;
 use calls::watch;
-use control::Receiving;
 use device::Core;
-use device::settling;
-use handover::receive;
 use handover::take_tx;
 use handover::take_written;
 use model::Done;
@@ -15,15 +11,14 @@ use model::Report;
 use model::SetUp;
 use model::Taken;
 use model::Write;
-use queue::Cursor;
-use registers::setup;
+use settle::settling;
 ghost use mathlib.Core.Path.{_≡_};
 ghost use Rattle.model.specs.Settle.{settle};
 ghost use Rattle.model.specs.Replies.{asRead, readNumber, writeNumber, doneNumber};
 ghost use Rattle.model.specs.Calls.{read as Calls·read, write as Calls·write, wake as Calls·wake, reset as Calls·reset};
 ghost use Rattle.model.specs.Calls.{watch as Calls·watch, receive as Calls·receive, clockChange, powerDown, takeTx, takeWritten, hasLeft, hostPending};
-ghost use Rattle.device.specs.Settles.{Settles};
-ghost use Rattle.uart.specs.Whole.{arraysOf, meaning, Good, Answered, Took, newCore, SetsUp};
+ghost use Rattle.settle.specs.Settles.{Settles};
+ghost use Rattle.uart.specs.Whole.{arraysOf, meaning, Good, Answered, Took, SetsUp};
 
 #[repr(C)]
 pub struct Uart {
@@ -84,32 +79,12 @@ pub struct AfterTake {
     pub report: Report,
 }
 
-// What set-up fixes, and nothing in the queues.
-fn empty(offsets: [u32; 16], resets: [u32; 16]) -> Core
-    ensures { λ r. ⌜ r ≡ newCore offsets resets ⌝ }
-{
-    let map = setup::register_map(offsets, resets);
-    let control = setup::new_control(map.reset);
-    let none = Cursor::new();
-    Core {
-        map,
-        control,
-        receiving: Receiving::None,
-        byte: 0,
-        flight: none,
-        tx: none,
-        host: none,
-        runs: none,
-        rx: none,
-    }
-}
-
 impl Uart {
     // Set-up, from sixteen offsets and sixteen reset words. The queues are empty: slots of zeros, a start and a count.
     pub fn new(offsets: [u32; 16], resets: [u32; 16]) -> NewUart
         ensures { λ r. ⌜ SetsUp offsets resets (r .uart) (r .reply) ⌝ }
     {
-        let core = empty(offsets, resets);
+        let core = setup::new_core(offsets, resets);
         let gone_at = [0u64; 129];
         let flight = [0u8; 129];
         let tx = [0u8; 1152];

@@ -17,13 +17,13 @@ use Rattle.model.specs.declared.Write.{Write}
 use Rattle.model.specs.declared.Place.{Place}
 use Rattle.queue.specs.Cursors.{Held}
 use Rattle.device.specs.Holds.{Arrays, abs, Shape}
-use Rattle.device.specs.Settles.{Settles}
-use Rattle.device.specs.Arms.{Ready, ArmsAny}
+use Rattle.settle.specs.Settles.{Settles}
+use Rattle.settle.specs.Arms.{Ready, ArmsAny}
 use Rattle.device.specs.declared.Core.{Core}
 use Rattle.calls.specs.Changes.{leveledCore, leveled-abs, shape-of}
 use Rattle.calls.specs.Answers.{Accesses, Works, Answers, after, reportOf}
 use Rattle.write.specs.Structs.{writeCore}
-use Rattle.write.specs.declared.writing.Put.{Put}
+use Rattle.writing.specs.declared.Put.{Put}
 use Rattle.write.specs.declared.WriteCore.{WriteCore}
 
 -- the core with levels, interrupt and wake of the definition; reply and notices are the access's

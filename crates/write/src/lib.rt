@@ -1,20 +1,19 @@
 // write: settle, then the write at a place, then levels, interrupt and wake.
-mod sending;
-mod writing;
 
-use crate::writing::Put;
 use calls::levels;
 use calls::settled_at;
 use device::Core;
-use device::arming;
 use model::Place;
 use model::Refusal;
 use model::Report;
 use model::Write;
+use notices::Notices;
+use notices::reports;
 use refusals::Checked;
-use registers::notices::Notices;
 use registers::places;
-use registers::reports;
+use settle::arming;
+use writing::Put;
+use writing::sending;
 ghost use mathlib.Core.Path.{_≡_};
 ghost use Prim.Native.Nat.{_<_, _%_};
 ghost use lib.ListN.{length};
@@ -23,7 +22,7 @@ ghost use Rattle.model.specs.Replies.{writeNumber};
 ghost use Rattle.model.specs.Calls.{write as Calls·write, writePlaced, writeWork, send as Calls·send, sendWork};
 ghost use Rattle.queue.specs.Cursors.{Held};
 ghost use Rattle.device.specs.Holds.{abs, Ok};
-ghost use Rattle.device.specs.Arms.{Ready};
+ghost use Rattle.settle.specs.Arms.{Ready};
 ghost use Rattle.device.specs.Wholes.{arrays};
 ghost use Rattle.calls.specs.Answers.{Works, Answers};
 ghost use Rattle.write.specs.Structs.{writeCore, refusedWrite};

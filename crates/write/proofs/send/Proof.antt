@@ -7,7 +7,7 @@ use Rattle.model.specs.Refuses.Carried.{send-proper}
 use Rattle.model.specs.declared.Write.{Write}
 use Rattle.refusals.specs.Refusals.{sending}
 use Rattle.calls.specs.Answers.{carried, turned-away, passes, refuses, in-time}
-use Rattle.write.specs.Sends.{send-checks}
+use Rattle.writing.specs.Sends.{send-checks}
 use Rattle.write.proofs.send.Statement.{statement}
 use Rattle.write.proofs.send.Tie as tie
 

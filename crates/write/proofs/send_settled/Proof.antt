@@ -2,7 +2,7 @@
 use mathlib.Core.Path.{refl}
 use Rattle.model.specs.Registers.{sendByte}
 use Rattle.model.specs.Calls.{sendWork}
-use Rattle.write.specs.Sends.{send-period}
+use Rattle.writing.specs.Sends.{send-period}
 use Rattle.write.specs.Concludes.{access-ready, concluded-works}
 use borrow.Author.Needs.{needs}
 use Rattle.write.proofs.send_settled.Statement.{statement}

@@ -2,7 +2,7 @@
 use mathlib.Core.Path.{refl}
 use Rattle.model.specs.Registers.{writePlace}
 use Rattle.model.specs.Calls.{writeWork}
-use Rattle.write.specs.Writes.{write-period}
+use Rattle.writing.specs.Writes.{write-period}
 use Rattle.write.specs.Concludes.{access-ready, concluded-works}
 use borrow.Author.Needs.{needs}
 use Rattle.write.proofs.write_settled.Statement.{statement}

@@ -5,6 +5,7 @@ use Prim.Native.Nat.{_≤_, _-_}
 use native.Mathlib.Omega.{arith}
 use borrow.Author.Needs.{needs}
 use lib.ListN.{length}
+use Rattle.text.specs.Lines.{is-piece-of}
 use Rattle.uart.specs.Whole.{Good}
 use Rattle.replay.proofs.input.feed.Statement.{statement}
 use Rattle.replay.proofs.input.feed.Tie as tie
@@ -22,13 +23,13 @@ piece-at-requires : tie.Need-piece-at-requires Inv-loop μ-loop
 piece-at-requires c κs = search needs
 
 sub-added : tie.Need-sub-added Inv-loop μ-loop
-sub-added c = search needs
+sub-added c = omega (arith, (is-piece-of _ _ _ (c .piece-at .ensures) (c .before .loop-test .taken)) .starts)
 
 part-added-start : tie.Need-part-added-start Inv-loop μ-loop
-part-added-start c = search needs
+part-added-start c = let p = is-piece-of _ _ _ (c .piece-at .ensures) (c .before .loop-test .taken) in omega (arith, p .starts)
 
 part-added-end : tie.Need-part-added-end Inv-loop μ-loop
-part-added-end c = search needs
+part-added-end c = let p = is-piece-of _ _ _ (c .piece-at .ensures) (c .before .loop-test .taken) in omega (arith, p .ends)
 
 added-requires : tie.Need-added-requires Inv-loop μ-loop
 added-requires c κs = search needs
@@ -40,12 +41,12 @@ left-requires : tie.Need-left-requires Inv-loop μ-loop
 left-requires c κs = search needs
 
 loop-less : tie.Need-loop-less Inv-loop μ-loop
-loop-less c = let p = c .before .before .before .before .before .before .before .before .before .before .before .before .before .before .piece-at .ensures in omega (arith, p .goes, p .within)
+loop-less c = let p = is-piece-of _ _ _ (c .before .before .before .before .before .before .before .before .before .before .before .before .before .before .piece-at .ensures) (c .before .before .before .before .before .before .before .before .before .before .before .before .before .before .before .loop-test .taken) in omega (arith, p .goes, p .within)
 
 loop-again : tie.Need-loop-again Inv-loop μ-loop
 loop-again c =
     let w = c .before .before .before .before .before .before .before .before .before .before .before .before .before .before .before .before .loop in (
-      c .before .before .before .before .before .before .before .before .before .before .before .before .before .before .piece-at .ensures .within,
+      (is-piece-of _ _ _ (c .before .before .before .before .before .before .before .before .before .before .before .before .before .before .piece-at .ensures) (c .before .before .before .before .before .before .before .before .before .before .before .before .before .before .before .loop-test .taken)) .within,
       c .before .before .before .before .before .answered .ensures,
       c .before .before .before .before .before .before .before .before .before .before .line .given ∙ w .inv .2,
       c .before .before .before .before .bytes .given ∙ w .inv .3,

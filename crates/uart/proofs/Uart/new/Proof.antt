@@ -6,8 +6,8 @@ use Rattle.uart.specs.Whole.{zeros, new-means, new-good}
 use Rattle.uart.proofs.Uart.new.Statement.{statement}
 use Rattle.uart.proofs.Uart.new.Tie as tie
 
-empty-requires : tie.Need-empty-requires
-empty-requires c κs = search needs
+new-core-requires : tie.Need-new-core-requires
+new-core-requires c κs = search needs
 
 set-up-reply-requires : tie.Need-set-up-reply-requires
 set-up-reply-requires c κs = search needs
@@ -15,7 +15,7 @@ set-up-reply-requires c κs = search needs
 returns : tie.Need-returns
 returns c =
     let o = c .before .before .args in
-    rw (c .before .empty .ensures)
+    rw (c .before .new-core .ensures)
     (record {
       replies = c .set-up-reply .ensures;
       state = new-means (o .offsets) (o .resets) zeros;
@@ -23,4 +23,4 @@ returns c =
     })
 
 pub new-spec : {M : Type 1} → statement M
-new-spec = tie.close (tie.spec empty-requires set-up-reply-requires returns)
+new-spec = tie.close (tie.spec new-core-requires set-up-reply-requires returns)

@@ -1,0 +1,2 @@
+-- Laws that join shifts and masks to fields.
+pub mod Masks

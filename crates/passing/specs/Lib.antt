@@ -1,0 +1,2 @@
+-- How a host byte begins in a pass.
+pub mod Begins

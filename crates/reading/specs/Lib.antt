@@ -1,0 +1,2 @@
+-- What the contracts of `reading` say.
+pub mod Reads

@@ -1,0 +1,73 @@
+-- The receive side as it stands in the slots, and what a pass and all passes do to it: in any state that has such a receive
+-- side they are the definition's. Assumes nothing.
+use mathlib.Core.Path.{_≡_}
+use mathlib.Core.Bool.{Bool, true, false}
+use mathlib.Core.List.{List}
+use Prim.Native.Nat.{ℕ}
+use lib.Dec.{ltb, leb}
+use lib.ListN.{length}
+use Rattle.model.specs.State
+use Rattle.model.specs.State.{withLine}
+use Rattle.model.specs.Numbers.{choose}
+use Rattle.model.specs.Settle
+use Rattle.model.specs.Settle.{Pass, Settled, pass}
+use Rattle.model.specs.declared.Date.{Date}
+use Rattle.model.specs.declared.Settings.{Settings}
+use Rattle.model.specs.declared.Found.{Found}
+use Rattle.queue.specs.Cursors.{Held}
+use Rattle.device.specs.Holds.{hostOf, runsOf, rxOf, onTheLine}
+use Rattle.reception.specs.declared.Reception.{Reception}
+
+-- ---- what the small functions of a pass give
+
+abbrev pub num : Bool → ℕ
+num true = 1
+num false = 0
+
+-- whether a run of n bytes goes, where one of them starts
+unfoldable pub spent : Bool → ℕ → Bool
+spent true n = leb n 1
+spent false n = false
+
+-- the date of the first run, where host bytes and runs wait
+unfoldable pub waitingAt : ℕ → ℕ → ℕ → Date
+waitingAt host runs date = choose (ltb 0 host) (choose (ltb 0 runs) (Date.At date) Date.None) Date.None
+
+-- ---- the receive side
+
+-- the cursors are within their slots, and the arrays have their lengths
+pub record Fit (at : Reception) (hosts dates counts rxs : List ℕ) : Type 0 where
+  pub host : Held 1024 (at .host)
+  pub runs : Held 64 (at .runs)
+  pub rx : Held 128 (at .rx)
+  pub hostSlots : length hosts ≡ 1024
+  pub runDateSlots : length dates ≡ 64
+  pub runCountSlots : length counts ≡ 64
+  pub rxSlots : length rxs ≡ 128
+
+-- a state, with the receive side that a reception and its slots stand for
+abbrev pub with : Reception → List ℕ → List ℕ → List ℕ → List ℕ → State.Uart ℕ ℕ → State.Uart ℕ ℕ
+with at hosts dates counts rxs u = record {
+  map = u .map;
+  control = withLine (at .line) (u .control);
+  inFlight = u .inFlight;
+  tx = u .tx;
+  host = hostOf hosts (at .host);
+  hostRuns = runsOf dates counts (at .runs);
+  receiving = onTheLine (at .receiving) (at .byte);
+  rx = rxOf rxs (at .rx);
+}
+
+module _ (s : Settings) (date : ℕ) (at : Reception) (hosts dates counts rxs : List ℕ) (at′ : Reception) (counts′ rxs′ : List ℕ) where
+  -- one pass: what it found, and the receive side that it leaves
+  pub record Passes (found : Found) : Type 0 where
+    pub fit : Fit at′ hosts dates counts′ rxs′
+    pub one : (u : State.Uart ℕ ℕ)
+        → _≡_ {A = Pass ℕ ℕ} (pass s date (with at hosts dates counts rxs u)) (record { found = found; state = with at′ hosts dates counts′ rxs′ u })
+
+  -- all passes: the receive side that they leave, how many there were, and the bytes lost with UartRxOverflow
+  pub record Ends (n o : ℕ) : Type 0 where
+    pub fit : Fit at′ hosts dates counts′ rxs′
+    pub all : (u : State.Uart ℕ ℕ)
+        → _≡_ {A = Settled ℕ ℕ} (Settle.passes s date (with at hosts dates counts rxs u))
+        (record { state = with at′ hosts dates counts′ rxs′ u; passes = n; overflows = o })

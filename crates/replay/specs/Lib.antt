@@ -1,2 +1,0 @@
--- What the contracts of `replay` say.
-pub mod Pieces

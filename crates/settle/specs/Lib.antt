@@ -1,0 +1,3 @@
+-- What a settling and its arming do to the held UART.
+pub mod Settles
+pub mod Arms

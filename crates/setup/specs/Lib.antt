@@ -1,0 +1,2 @@
+-- What the contracts of `setup` cite beside the definition.
+pub mod NewCore

@@ -1,0 +1,21 @@
+-- What set-up makes of a core. Assumes nothing.
+use Prim.Native.Nat.{ℕ}
+use mathlib.Core.List.{List}
+use Rattle.model.specs.SetUp.{mapOf, newControl}
+use Rattle.queue.specs.Cursors.{empty}
+use Rattle.control.specs.declared.Receiving.{Receiving}
+use Rattle.device.specs.declared.Core.{Core}
+
+-- a core with nothing in its queues
+abbrev pub newCore : List ℕ → List ℕ → Core
+newCore offsets resets = record {
+  map = mapOf offsets resets;
+  control = newControl (mapOf offsets resets .reset);
+  receiving = Receiving.None;
+  byte = 0;
+  flight = empty;
+  tx = empty;
+  host = empty;
+  runs = empty;
+  rx = empty;
+}

@@ -1,0 +1,3 @@
+-- What the contracts of `writing` say, and the laws of it.
+pub mod Writes
+pub mod Sends
