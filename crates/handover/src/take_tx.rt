@@ -45,7 +45,7 @@ fn taken<'a, 'b>(
         cycle,
     );
     let mut settled = t.core;
-    let count = settled.tx.copy_out(1152, tx, out);
+    let count = copies::copy_out(settled.tx, 1152, tx, out);
     settled.tx = Cursor::new();
     taking::taken(settled, count, t.passes, t.overflows)
 }

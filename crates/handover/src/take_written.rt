@@ -19,8 +19,8 @@ fn filled<'a>(core: Core, flight: &'a [u8; 129], tx: &'a [u8; 1152], out: &'a mu
         × (core .tx .count + core .flight .count ≤ sentLimit) × (sentLimit ≤ length (now out)) ⌝ }
     ensures { λ r. ⌜ Filled core (now (flight .entry)) (now (tx .entry)) (now (out .entry)) r (now (out .exit)) ⌝ }
 {
-    let left = core.tx.copy_out(1152, tx, out);
-    let flying = core.flight.copy_out(129, flight, &mut out[left..]);
+    let left = copies::copy_out(core.tx, 1152, tx, out);
+    let flying = copies::copy_out(core.flight, 129, flight, &mut out[left..]);
     left + flying
 }
 

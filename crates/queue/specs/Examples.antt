@@ -1,11 +1,10 @@
 -- The definitions at work on four slots, computed. Assumes nothing.
 use mathlib.Core.Path.{_≡_, refl}
 use mathlib.Core.List.{List, [], _∷_}
-use Prim.Native.Nat.{ℕ, _+_}
+use Prim.Native.Nat.{ℕ}
 use Rattle.queue.specs.Slots.{wrap}
 use Rattle.queue.specs.Listed.{listed}
-use Rattle.queue.specs.Cursors.{slotOf, lastOf, backOf, elems, pushedBy, popped, cutToOne}
-use Rattle.queue.specs.Append.{storedFrom}
+use Rattle.queue.specs.Cursors.{slotOf, lastOf, backOf, elems, popped, cutToOne}
 use Rattle.queue.specs.declared.Cursor.{Cursor}
 
 abbrev slots : List ℕ
@@ -34,15 +33,3 @@ gone = refl
 cut : elems (slotOf slots 0) 4 (cutToOne cursor) ≡ 13 ∷ []
 unfolding elems listed wrap
 cut = refl
-
--- two more at the back; slot 3 keeps the first element
-abbrev after : List ℕ
-after = 10 ∷ 20 ∷ 21 ∷ 13 ∷ []
-
-more : storedFrom 4 slots (cursor .start + cursor .count) (20 ∷ 21 ∷ []) ≡ after
-unfolding storedFrom wrap
-more = refl
-
-full : elems (slotOf after 0) 4 (pushedBy 2 cursor) ≡ 13 ∷ 10 ∷ 20 ∷ 21 ∷ []
-unfolding elems listed wrap
-full = refl

@@ -5,6 +5,4 @@ pub mod Cursors
 pub mod Laws
 pub mod Stores
 pub mod Guards
-pub mod Append
-pub mod CopyOut
 mod Examples

@@ -1,6 +1,5 @@
 // Queues in fixed slots: a cursor says where the elements stand, and the slots are arrays beside it. One cursor serves the
 // five queues of the UART. Carried over from inkemu's uart.rs (its `VecDeque`s and `Vec`) and changed.
-mod copies;
 
 ghost use mathlib.Core.Path.{_≡_};
 ghost use Prim.Native.Nat.{_+_, _-_, _<_, _≤_, min};
@@ -25,7 +24,7 @@ fn less_one(n: usize) -> usize
 }
 
 // The smaller of two numbers.
-fn smaller(a: usize, b: usize) -> usize
+pub fn smaller(a: usize, b: usize) -> usize
     ensures { λ r. ⌜ r ≡ min a b ⌝ }
 {
     if a < b { a } else { b }

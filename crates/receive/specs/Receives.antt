@@ -22,7 +22,7 @@ use Rattle.refusals.specs.Refusals.{receiving}
 use Rattle.queue.specs.Slots.{side}
 use Rattle.queue.specs.Cursors.{slotOf, lastOf, pushedBy}
 use Rattle.queue.specs.Laws.{elems-length, elems-last, push-held}
-use Rattle.queue.specs.Append.{storedFrom, stored-length, append-elems}
+use Rattle.copies.specs.Append.{storedFrom, stored-length, append-elems}
 use Rattle.queue.specs.declared.Cursor.{Cursor}
 use Rattle.device.specs.Holds.{Arrays, runAt, runsOf, abs, Shape, Ok}
 use Rattle.settle.specs.Settles.{Settles}

@@ -61,7 +61,7 @@ fn received<'a, 'b>(
         return answers::done(t.core, t.passes, t.overflows);
     }
     let mut settled = t.core;
-    let waiting = settled.host.append(1024, host, bytes);
+    let waiting = copies::append(settled.host, 1024, host, bytes);
     let runs = runs::joined(
         settled.runs,
         run_dates,

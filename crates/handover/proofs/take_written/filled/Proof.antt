@@ -1,6 +1,6 @@
 -- `take_written::filled` meets its contract: the second copy stands after the first. Assumes nothing.
 use mathlib.Core.Path.{refl}
-use Rattle.queue.specs.CopyOut.{copied-after}
+use Rattle.copies.specs.CopyOut.{copied-after}
 use borrow.Author.Needs.{needs}
 use Rattle.handover.proofs.take_written.filled.Statement.{statement}
 use Rattle.handover.proofs.take_written.filled.Tie as tie

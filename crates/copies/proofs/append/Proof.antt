@@ -1,11 +1,11 @@
--- `queue::Cursor::append` meets its contract: two copies, which are stores one after the other (`appended`). Assumes nothing.
+-- `append` meets its contract: two copies, which are stores one after the other (`appended`). Assumes nothing.
 use mathlib.Core.Path.{refl}
 use Prim.Native.Nat.{_+_}
 use borrow.Author.Needs.{needs}
 use native.Mathlib.Omega.{arith}
-use Rattle.queue.specs.Append.{appended}
-use Rattle.queue.proofs.Cursor.append.Statement.{statement}
-use Rattle.queue.proofs.Cursor.append.Tie as tie
+use Rattle.copies.specs.Append.{appended}
+use Rattle.copies.proofs.append.Statement.{statement}
+use Rattle.copies.proofs.append.Tie as tie
 
 back-requires : tie.Need-back-requires
 back-requires c κs = search needs
@@ -40,7 +40,7 @@ returns c =
     let begin = c .before .before .before .before .before .before .before .before .before .before .before .before .before in
     let a = begin .args in
     let p = begin .pre in
-    (refl, appended (a .cap) (a .slots .now) (a .self .start + a .self .count) (a .bytes .now) (p .1) (omega arith) (omega arith) (omega arith) slot first copy then)
+    (refl, appended (a .cap) (a .slots .now) (a .cursor .start + a .cursor .count) (a .bytes .now) (p .1) (omega arith) (omega arith) (omega arith) slot first copy then)
 
 pub append-spec : {M : Type 1} → statement M
 append-spec = tie.close (tie.spec back-requires sub-smaller smaller-requires copy-run-requires sub-copy-run copy-run-requires-2 add-t8 same-length returns)

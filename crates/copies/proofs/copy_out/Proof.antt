@@ -1,9 +1,9 @@
--- `queue::Cursor::copy_out` meets its contract: two copies put the elements at the front (`copied-out`). Assumes nothing.
+-- `copy_out` meets its contract: two copies put the elements at the front (`copied-out`). Assumes nothing.
 use mathlib.Core.Path.{refl}
 use borrow.Author.Needs.{needs}
-use Rattle.queue.specs.CopyOut.{copied-out}
-use Rattle.queue.proofs.Cursor.copy_out.Statement.{statement}
-use Rattle.queue.proofs.Cursor.copy_out.Tie as tie
+use Rattle.copies.specs.CopyOut.{copied-out}
+use Rattle.copies.proofs.copy_out.Statement.{statement}
+use Rattle.copies.proofs.copy_out.Tie as tie
 
 sub-smaller : tie.Need-sub-smaller
 sub-smaller c = search needs
@@ -31,7 +31,7 @@ returns c =
     let begin = c .before .before .before .before .before .before .before .before .before .before .before in
     let a = begin .args in
     let p = begin .pre in
-    (refl, copied-out 0 (a .cap) (a .slots .now) (a .self) (p .1) (p .0) (a .out .now) (p .2) first copy then)
+    (refl, copied-out 0 (a .cap) (a .slots .now) (a .cursor) (p .1) (p .0) (a .out .now) (p .2) first copy then)
 
 pub copy-out-spec : {M : Type 1} → statement M
 copy-out-spec = tie.close (tie.spec sub-smaller smaller-requires copy-run-requires sub-copy-run copy-run-requires-2 same-length returns)

@@ -1,4 +1,4 @@
--- `queue::copies::copy_run` meets its contract. The loop's invariant: `dst` is as it was, with the first i bytes copied in.
+-- `copy_run` meets its contract. The loop's invariant: `dst` is as it was, with the first i bytes copied in.
 -- Assumes nothing.
 use mathlib.Core.Path.{_≡_, refl, sym, ap, _∙_}
 use mathlib.Core.List.{List}
@@ -7,8 +7,8 @@ use native.Mathlib.Numerals.{add-one}
 use native.Mathlib.Omega.{arith}
 use lib.ListN.{length, drop, getD, set, length-set, length-drop}
 use lib.Seq.{paste, paste-zero, paste-suc, getD-drop}
-use Rattle.queue.proofs.copies.copy_run.Statement.{statement}
-use Rattle.queue.proofs.copies.copy_run.Tie as tie
+use Rattle.copies.proofs.copy_run.Statement.{statement}
+use Rattle.copies.proofs.copy_run.Tie as tie
 
 abbrev Inv-loop : tie.InvT-loop
 Inv-loop dst₀ at src from n i₀ dst i = (i ≤ n) × (dst ≡ paste dst₀ at (drop from src) i) × (length dst ≡ length dst₀)
