@@ -1,2 +1,3 @@
--- Laws of the Deadline, case by case.
+-- The Deadline as the definition has it, and its laws, case by case.
+pub mod Changes
 pub mod Laws

@@ -1,6 +1,7 @@
 // The clock's periods and the Deadline.
 use crate::show;
 use clock::Clock;
+use deadline::Deadline;
 use model::Date;
 
 fn period(p: u64) {
@@ -37,7 +38,9 @@ fn earlier(due: Date, at: u64) {
     show::date(due);
     show::number(at);
     show::text(b" =");
-    show::date(deadline::earliest(due, at));
+    let armed = Deadline { due }.armed(at);
+    let after = armed.due;
+    show::date(after);
     show::text(b"\n");
 }
 

@@ -1,11 +1,11 @@
 -- `arm` meets its contract, by cases on the instant. Assumes nothing.
 use mathlib.Core.Path.{ap, sym, _∙_}
-use Rattle.deadline.specs.Laws.{armed-none, called-none, called-due, called-before}
-use Rattle.model.specs.Arm.{armed}
-use Rattle.model.specs.Numbers.{earliest, inCycles}
-use Rattle.model.specs.declared.Date.{Date}
-use native.Mathlib.Omega.{arith}
 use borrow.Author.Needs.{needs}
+use Rattle.model.specs.Arm.{armed}
+use Rattle.model.specs.Numbers.{inCycles}
+use Rattle.model.specs.declared.Date.{Date}
+use Rattle.deadline.specs.Laws.{armed-none}
+use Rattle.deadline.specs.declared.Deadline.{Deadline}
 use Rattle.deadline.proofs.arm.Statement.{statement}
 use Rattle.deadline.proofs.arm.Tie as tie
 
@@ -16,10 +16,10 @@ enum-known-instant : tie.Need-enum-known-instant
 enum-known-instant c = search needs
 
 cycles-requires : tie.Need-cycles-requires
-cycles-requires c κs = search needs
+cycles-requires c κs = tt
 
-earliest-requires : tie.Need-earliest-requires
-earliest-requires c κs = search needs
+armed-requires : tie.Need-armed-requires
+armed-requires c κs = tt
 
 returns : tie.Need-returns
 unfolding inCycles
@@ -28,11 +28,11 @@ returns c = sym (ap (λ d. armed (inCycles d) (c .before .before .args .due)) (c
 returns-2 : tie.Need-returns-2
 unfolding inCycles
 returns-2 c =
-    c .earliest .ensures
+    ap (λ (d : Deadline). d .due) (c .armed .ensures)
     ∙ ap (λ n. armed (Date.At n) (c .before .before .before .before .before .args .due)) (c .before .cycles .ensures)
     ∙ sym (ap (λ d. armed (inCycles d) (c .before .before .before .before .before .args .due)) (c .before .before .before .instant .given .1))
 
 pub arm-spec : {M : Type 1} → statement M
 arm-spec =
     tie.close
-    (tie.spec enum-told enum-known-instant cycles-requires earliest-requires returns returns-2)
+    (tie.spec enum-told enum-known-instant cycles-requires armed-requires returns returns-2)
