@@ -1,13 +1,13 @@
 // The answer to a line.
 use crate::carried::carry_out;
-use crate::faults::Fault;
-use crate::faults::Reason;
 use crate::faults::put_fault;
-use crate::lines::Line;
-use crate::lines::read_line;
-use crate::names::Name;
 use crate::session::Session;
 use crate::setups::set_up;
+use lines::Fault;
+use lines::Line;
+use lines::Name;
+use lines::Reason;
+use lines::read_line;
 use text::next_word;
 ghost use Rattle.uart.specs.Whole.{Good};
 

@@ -2,12 +2,12 @@
 use crate::answers;
 use crate::lent::take_tx;
 use crate::lent::take_written;
-use crate::names::Name;
-use crate::output::within;
 use crate::session::Session;
 use crate::session::in_use;
 use crate::setups::low;
 use crate::setups::set_up;
+use lines::Name;
+use text::within;
 use uart::AfterDone;
 use uart::AfterRead;
 use uart::AfterWrite;
@@ -85,6 +85,5 @@ pub fn carry_out(
             uart,
             answers::put_host_pending(out, at, uart.host_pending()),
         ),
-        Name::Unknown => session,
     }
 }

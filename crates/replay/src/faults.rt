@@ -1,25 +1,7 @@
-// What makes a line no call, and the line that it answers.
+// The line that a line with a fault answers.
+use lines::Fault;
+use lines::Reason;
 use spelling::put;
-
-pub enum Reason {
-    UnknownName,
-    // The word is the call's name.
-    MissingWord,
-    ExtraWord,
-    NoNumber,
-    NoNumber32,
-    NoBit,
-    NoLength,
-    NoBytes,
-    NoUart,
-}
-
-// The word at fault stands from `start` up to, and without, `end`.
-pub struct Fault {
-    pub reason: Reason,
-    pub start: usize,
-    pub end: usize,
-}
 
 // More of a word than this is not shown.
 const SHOWN: usize = 40;

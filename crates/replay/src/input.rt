@@ -1,12 +1,12 @@
 // Standard input, line by line, in constant memory.
 use crate::answering::answer;
 use crate::faults::put_long;
-use crate::output::within;
 use crate::session::Session;
 use crate::session::begin;
 use libc::STDIN_FILENO;
 use spelling::put;
 use text::piece_at;
+use text::within;
 ghost use Rattle.uart.specs.Whole.{Good};
 
 // The output is written once it is filled so far; an answer that then follows fits behind it.

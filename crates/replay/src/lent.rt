@@ -2,12 +2,12 @@
 use crate::answers::put_refusal;
 use crate::answers::put_report;
 use crate::answers::put_taken;
-use crate::output::within;
 use crate::session::Session;
 use crate::session::in_use;
 use model::Report;
 use model::Taken;
 use spelling::put;
+use text::within;
 use uart::AfterTake;
 use uart::Uart;
 ghost use mathlib.Core.Path.{_≡_};

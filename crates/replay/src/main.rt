@@ -3,17 +3,13 @@ mod answering;
 mod answers;
 mod carried;
 mod faults;
-mod forms;
 mod input;
 mod lent;
-mod lines;
-mod names;
 mod notices;
 mod output;
 mod session;
 mod setups;
 mod usage;
-mod words;
 
 fn main() {
     if os::arg_count() > 1 {
