@@ -1,5 +1,5 @@
 -- Reading one word more of a line. Assumes nothing.
-use mathlib.Core.Path.{_≡_, refl, sym, subst}
+use mathlib.Core.Path.{_≡_, subst}
 use mathlib.Core.List.{List}
 use Prim.Native.Nat.{ℕ, _-_}
 use borrow.Author.Tests.{eq-eqb, ne-eqb}
@@ -27,7 +27,7 @@ wrong reason w = Step.Wrong (fault reason w)
 abbrev pub missing : List ℕ → Step
 missing s = wrong Reason.MissingWord (nextWord s 0)
 
--- what the next word from a place on is, or what stands for it where there is none
+-- the next word from a place on, read; where there is none, what stands for it
 abbrev pub wordIf : {A : Type 0} → Word → A → (Word → A) → A
 wordIf w none read = pick (eqb (w .start) (w .end)) none (read w)
 
@@ -36,6 +36,7 @@ wordAt s at none read = wordIf (nextWord s at) none read
 
 -- ---- laws
 
+-- there is no word, and there is one
 module _ {A : Type 0} (s : List ℕ) (at : ℕ) (w : Word) (e : w ≡ nextWord s at) (none : A) (read : Word → A) where
   pub no-word : w .start ≡ w .end → none ≡ wordAt s at none read
   unfolding wordAt

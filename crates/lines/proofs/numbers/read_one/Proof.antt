@@ -1,10 +1,10 @@
 -- `numbers::read_one` meets its contract. Assumes nothing.
-use mathlib.Core.Path.{_≡_, _∙_, ap, sym}
+use mathlib.Core.Path.{_∙_, ap, sym}
 use Prim.Native.Nat.{ℕ}
 use Rattle.numerals.specs.Numbers.{numberOf}
 use Rattle.lines.specs.declared.faults.Reason.{Reason}
 use Rattle.lines.specs.Steps.{bytesIn, missing, wrong, no-word, some-word}
-use Rattle.lines.specs.Numbers.{limitOf, numberStep, numberIn, numberAt}
+use Rattle.lines.specs.Numbers.{numberStep, numberIn, numberAt}
 use Rattle.lines.proofs.numbers.read_one.Statement.{statement}
 use Rattle.lines.proofs.numbers.read_one.Tie as tie
 
