@@ -37,6 +37,7 @@ pub enum Place {
 }
 
 // The nine stored words: uart.rs's CONFIG.
+#[repr(C)]
 pub struct Words {
     pub int_ena: u32,
     pub clkdiv: u32,
@@ -50,6 +51,7 @@ pub struct Words {
 }
 
 // What set-up fixes: sixteen offsets in the order of the places, and the reset words that are used.
+#[repr(C)]
 pub struct RegisterMap {
     pub offsets: [u32; 16],
     pub reset: Words,

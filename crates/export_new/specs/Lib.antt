@@ -1,0 +1,2 @@
+-- What set-up gives in plain numbers.
+pub mod SetsUp

@@ -1,0 +1,17 @@
+-- `core_of` meets its contract. Assumes nothing.
+use Rattle.plain.specs.Plain.{coreOf}
+use Rattle.plain.proofs.core_of.Statement.{statement}
+use Rattle.plain.proofs.core_of.Tie as tie
+
+control-of-requires : tie.Need-control-of-requires
+control-of-requires c κs = tt
+
+receiving-of-requires : tie.Need-receiving-of-requires
+receiving-of-requires c κs = tt
+
+returns : tie.Need-returns
+unfolding coreOf
+returns c = cc
+
+pub core-of-spec : {M : Type 1} → statement M
+core-of-spec = tie.close (tie.spec control-of-requires receiving-of-requires returns)

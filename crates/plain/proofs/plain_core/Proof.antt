@@ -1,0 +1,35 @@
+-- `plain_core` meets its contract. Assumes nothing.
+use borrow.Author.Needs.{needs}
+use Rattle.plain.specs.Plain.{plainCore}
+use Rattle.plain.proofs.plain_core.Statement.{statement}
+use Rattle.plain.proofs.plain_core.Tie as tie
+
+on-the-line-requires : tie.Need-on-the-line-requires
+on-the-line-requires c κs = tt
+
+plain-source-requires : tie.Need-plain-source-requires
+plain-source-requires c κs = tt
+
+plain-date-requires : tie.Need-plain-date-requires
+plain-date-requires c κs = tt
+
+plain-date-requires-2 : tie.Need-plain-date-requires-2
+plain-date-requires-2 c κs = search needs
+
+plain-date-requires-3 : tie.Need-plain-date-requires-3
+plain-date-requires-3 c κs = search needs
+
+returns : tie.Need-returns
+unfolding plainCore
+returns c = cc
+
+pub plain-core-spec : {M : Type 1} → statement M
+plain-core-spec =
+    tie.close
+    (tie.spec
+    on-the-line-requires
+    plain-source-requires
+    plain-date-requires
+    plain-date-requires-2
+    plain-date-requires-3
+    returns)

@@ -1,0 +1,2 @@
+-- What plain numbers stand for.
+pub mod Plain

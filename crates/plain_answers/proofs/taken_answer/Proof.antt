@@ -1,0 +1,15 @@
+-- `taken_answer` meets its contract. Assumes nothing.
+use Rattle.plain_answers.proofs.taken_answer.Statement.{statement}
+use Rattle.plain_answers.proofs.taken_answer.Tie as tie
+
+taken-reply-requires : tie.Need-taken-reply-requires
+taken-reply-requires c κs = tt
+
+answer-requires : tie.Need-answer-requires
+answer-requires c κs = tt
+
+returns : tie.Need-returns
+returns c = cc
+
+pub taken-answer-spec : {M : Type 1} → statement M
+taken-answer-spec = tie.close (tie.spec taken-reply-requires answer-requires returns)

@@ -1,0 +1,2 @@
+-- What an exported call answers.
+pub mod Answers

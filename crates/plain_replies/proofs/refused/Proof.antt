@@ -1,0 +1,12 @@
+-- `refused` meets its contract. Assumes nothing.
+use Rattle.plain_replies.proofs.refused.Statement.{statement}
+use Rattle.plain_replies.proofs.refused.Tie as tie
+
+number-of-requires : tie.Need-number-of-requires
+number-of-requires c κs = tt
+
+returns : tie.Need-returns
+returns c = cc
+
+pub refused-spec : {M : Type 1} → statement M
+refused-spec = tie.close (tie.spec number-of-requires returns)

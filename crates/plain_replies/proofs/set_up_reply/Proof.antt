@@ -1,0 +1,30 @@
+-- `set_up_reply` meets its contract, case by case. Assumes nothing.
+use borrow.Author.Needs.{needs}
+use Rattle.plain_replies.specs.Replies.{plainSetUp}
+use Rattle.plain_replies.proofs.set_up_reply.Statement.{statement}
+use Rattle.plain_replies.proofs.set_up_reply.Tie as tie
+
+enum-told : tie.Need-enum-told
+enum-told c = search needs
+
+carried-out-requires : tie.Need-carried-out-requires
+carried-out-requires c κs = tt
+
+enum-known-reply : tie.Need-enum-known-reply
+enum-known-reply c = search needs
+
+refused-requires : tie.Need-refused-requires
+refused-requires c κs = tt
+
+returns : tie.Need-returns
+unfolding plainSetUp
+returns c = cc
+
+returns-2 : tie.Need-returns-2
+unfolding plainSetUp
+returns-2 c = cc
+
+pub set-up-reply-spec : {M : Type 1} → statement M
+set-up-reply-spec =
+    tie.close
+    (tie.spec enum-told carried-out-requires enum-known-reply refused-requires returns returns-2)

@@ -1,0 +1,3 @@
+-- Replies and reports in plain numbers.
+pub mod Notes
+pub mod Replies

@@ -1,0 +1,138 @@
+//! The structs of the static library, field by field as crates/plain, plain_replies, plain_answers and export_new declare them.
+//! `include/wondraxu.h` has them for C; tests/layout.rs holds sizes and offsets of the two to each other.
+
+/// Slots of the bytes in flight and of their dates.
+pub(crate) const FLIGHT: usize = 129;
+/// Slots of the bytes that have left.
+pub(crate) const LEFT: usize = 1152;
+/// Slots of the host bytes that wait.
+pub(crate) const HOST: usize = 1024;
+/// Slots of the runs that date them.
+pub(crate) const RUNS: usize = 64;
+/// Slots of the receive FIFO.
+pub(crate) const RECEIVED: usize = 128;
+
+#[repr(C)]
+#[derive(Clone, Copy, Debug, PartialEq, Eq)]
+pub(crate) struct Words {
+    pub int_ena: u32,
+    pub clkdiv: u32,
+    pub conf0: u32,
+    pub conf1: u32,
+    pub clk_conf: u32,
+    pub idle_conf: u32,
+    pub rs485_conf: u32,
+    pub at_cmd_char: u32,
+    pub mem_conf: u32,
+}
+
+#[repr(C)]
+#[derive(Clone, Copy, Debug, PartialEq, Eq)]
+pub(crate) struct RegisterMap {
+    pub offsets: [u32; 16],
+    pub reset: Words,
+    pub idle_status: u32,
+    pub mem_rx_status: u32,
+}
+
+#[repr(C)]
+#[derive(Clone, Copy, Debug, PartialEq, Eq)]
+pub(crate) struct Cursor {
+    pub start: usize,
+    pub count: usize,
+}
+
+/// `at` is 0 while `set` is false.
+#[repr(C)]
+#[derive(Clone, Copy, Debug, PartialEq, Eq)]
+pub(crate) struct PlainDate {
+    pub set: bool,
+    pub at: u64,
+}
+
+/// All of a UART but the slots of its queues.
+#[repr(C)]
+#[derive(Clone, Copy, Debug, PartialEq, Eq)]
+pub(crate) struct PlainCore {
+    pub map: RegisterMap,
+    pub words: Words,
+    pub int_raw: u32,
+    pub rx_mistimed: u32,
+    pub idle_since: PlainDate,
+    pub line_free_at: u64,
+    pub period: u64,
+    pub last: u64,
+    pub wake: PlainDate,
+    pub powered_down_at: PlainDate,
+    pub timed_on: u32,
+    pub on_the_line: bool,
+    pub heard: bool,
+    pub watched: bool,
+    pub level: bool,
+    pub flight: Cursor,
+    pub tx: Cursor,
+    pub host: Cursor,
+    pub runs: Cursor,
+    pub rx: Cursor,
+    pub byte: u8,
+}
+
+#[repr(C)]
+#[derive(Clone, Copy, Debug, PartialEq, Eq)]
+pub(crate) struct PlainReply {
+    pub number: u32,
+    pub holds: bool,
+    pub value: u64,
+}
+
+#[repr(C)]
+#[derive(Clone, Copy, Debug, PartialEq, Eq)]
+pub(crate) struct PlainNotice {
+    pub what: u32,
+    pub which: u32,
+}
+
+#[repr(C)]
+#[derive(Clone, Copy, Debug, PartialEq, Eq)]
+pub(crate) struct PlainReport {
+    pub level: bool,
+    pub wake: PlainDate,
+    pub overflows: u64,
+    pub passes: u64,
+    pub noted: usize,
+    pub notices: [PlainNotice; 8],
+}
+
+#[repr(C)]
+#[derive(Clone, Copy)]
+pub(crate) struct PlainAnswer {
+    pub core: PlainCore,
+    pub reply: PlainReply,
+    pub report: PlainReport,
+}
+
+#[repr(C)]
+#[derive(Clone, Copy)]
+pub(crate) struct Sixteen {
+    pub words: [u32; 16],
+}
+
+#[repr(C)]
+#[derive(Clone, Copy)]
+pub(crate) struct PlainNew {
+    pub core: PlainCore,
+    pub reply: PlainReply,
+}
+
+/// The slots of the queues, which the calls are lent.
+#[repr(C)]
+#[derive(Clone)]
+pub(crate) struct Slots {
+    pub gone_at: [u64; FLIGHT],
+    pub flight: [u8; FLIGHT],
+    pub tx: [u8; LEFT],
+    pub host: [u8; HOST],
+    pub run_dates: [u64; RUNS],
+    pub run_counts: [u64; RUNS],
+    pub rx: [u8; RECEIVED],
+}
