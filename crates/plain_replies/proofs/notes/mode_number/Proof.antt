@@ -1,4 +1,5 @@
 -- `mode_number` meets its contract, case by case. Assumes nothing.
+use mathlib.Core.Path.{ap, sym}
 use borrow.Author.Needs.{needs}
 use Rattle.plain_replies.specs.Notes.{modeNumber}
 use Rattle.plain_replies.proofs.notes.mode_number.Statement.{statement}
@@ -39,47 +40,47 @@ enum-told-11 c = search needs
 
 returns : tie.Need-returns
 unfolding modeNumber
-returns c = cc
+returns c = sym (ap modeNumber (c .enum-told .given .1))
 
 returns-2 : tie.Need-returns-2
 unfolding modeNumber
-returns-2 c = cc
+returns-2 c = sym (ap modeNumber (c .enum-told2 .given .1))
 
 returns-3 : tie.Need-returns-3
 unfolding modeNumber
-returns-3 c = cc
+returns-3 c = sym (ap modeNumber (c .enum-told3 .given .1))
 
 returns-4 : tie.Need-returns-4
 unfolding modeNumber
-returns-4 c = cc
+returns-4 c = sym (ap modeNumber (c .enum-told4 .given .1))
 
 returns-5 : tie.Need-returns-5
 unfolding modeNumber
-returns-5 c = cc
+returns-5 c = sym (ap modeNumber (c .enum-told5 .given .1))
 
 returns-6 : tie.Need-returns-6
 unfolding modeNumber
-returns-6 c = cc
+returns-6 c = sym (ap modeNumber (c .enum-told6 .given .1))
 
 returns-7 : tie.Need-returns-7
 unfolding modeNumber
-returns-7 c = cc
+returns-7 c = sym (ap modeNumber (c .enum-told7 .given .1))
 
 returns-8 : tie.Need-returns-8
 unfolding modeNumber
-returns-8 c = cc
+returns-8 c = sym (ap modeNumber (c .enum-told8 .given .1))
 
 returns-9 : tie.Need-returns-9
 unfolding modeNumber
-returns-9 c = cc
+returns-9 c = sym (ap modeNumber (c .enum-told9 .given .1))
 
 returns-10 : tie.Need-returns-10
 unfolding modeNumber
-returns-10 c = cc
+returns-10 c = sym (ap modeNumber (c .enum-told10 .given .1))
 
 returns-11 : tie.Need-returns-11
 unfolding modeNumber
-returns-11 c = cc
+returns-11 c = sym (ap modeNumber (c .enum-told11 .given .1))
 
 pub mode-number-spec : {M : Type 1} → statement M
 mode-number-spec =
