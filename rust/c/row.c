@@ -134,7 +134,7 @@ static void overflow(void)
     printf("overflow: 1 byte written and 2 received are lost\n");
 }
 
-/* P10, and a refused call changes nothing. */
+/* P10, and a refused call changes nothing: the Rust crate's tests look at every field. */
 static void refused(void)
 {
     static const uint8_t bytes[1025];
@@ -152,7 +152,9 @@ static void refused(void)
     answer = wondraxu_uart_read(&uart, UINT64_C(1) << 59, STATUS);
     expect("read at 2^59", "number", answer.reply.number, WONDRAXU_DATE_PAST_END);
     expect("read at 2^59", "holds", answer.reply.holds, false);
-    expect("the refused calls", "unchanged", memcmp(&before, &uart, sizeof uart) == 0, true);
+    expect("the refused calls", "host_pending", wondraxu_uart_host_pending(&uart), 1024);
+    expect("the refused calls", "last", uart.core.last, before.core.last);
+    expect("the refused calls", "host", memcmp(before.slots.host, uart.slots.host, WONDRAXU_HOST) == 0, true);
     printf("refused:  1,025 host bytes answer %d, and nothing changed\n", WONDRAXU_HOST_FULL);
 }
 

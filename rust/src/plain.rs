@@ -1,5 +1,6 @@
 //! The structs of the static library, field by field as crates/plain, plain_replies, plain_answers and export_new declare them.
-//! `include/wondraxu.h` has them for C; tests/layout.rs holds sizes and offsets of the two to each other.
+//! `include/wondraxu.h` has them for C. Sizes and offsets of both are held to `c/layout.out`; `tests/fields.rs` looks at the
+//! value that each call gives to each field.
 
 /// Slots of the bytes in flight and of their dates.
 pub(crate) const FLIGHT: usize = 129;
@@ -126,7 +127,7 @@ pub(crate) struct PlainNew {
 
 /// The slots of the queues, which the calls are lent.
 #[repr(C)]
-#[derive(Clone)]
+#[derive(Clone, PartialEq, Eq)]
 pub(crate) struct Slots {
     pub gone_at: [u64; FLIGHT],
     pub flight: [u8; FLIGHT],
