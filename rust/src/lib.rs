@@ -13,7 +13,7 @@ mod tests;
 pub use refusal::Refusal;
 pub use report::{Feature, Notice, Report};
 
-use plain::{PlainAnswer, PlainCore, PlainReply, Slots, FLIGHT, HOST, LEFT, RECEIVED, RUNS};
+use plain::{PlainAnswer, PlainCore, PlainReply, Slots, LEFT};
 use std::fmt;
 
 /// The length that a buffer lent to [`Uart::take_tx`] or [`Uart::take_written`] must have at least.
@@ -49,16 +49,7 @@ impl Uart {
     pub fn new(offsets: [u32; 16], reset_words: [u32; 16]) -> Result<Uart, Refusal> {
         let new = calls::new(offsets, reset_words);
         Refusal::of(new.reply.number)?;
-        let slots = Slots {
-            gone_at: [0; FLIGHT],
-            flight: [0; FLIGHT],
-            tx: [0; LEFT],
-            host: [0; HOST],
-            run_dates: [0; RUNS],
-            run_counts: [0; RUNS],
-            rx: [0; RECEIVED],
-        };
-        Ok(Uart { core: new.core, slots })
+        Ok(Uart { core: new.core, slots: Slots::EMPTY })
     }
 
     /// The value at an offset; none where nothing can be read. From an empty FIFO 0, with a notice.

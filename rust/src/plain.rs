@@ -137,3 +137,16 @@ pub(crate) struct Slots {
     pub run_counts: [u64; RUNS],
     pub rx: [u8; RECEIVED],
 }
+
+impl Slots {
+    /// What stands in the slots of an empty queue is free.
+    pub const EMPTY: Slots = Slots {
+        gone_at: [0; FLIGHT],
+        flight: [0; FLIGHT],
+        tx: [0; LEFT],
+        host: [0; HOST],
+        run_dates: [0; RUNS],
+        run_counts: [0; RUNS],
+        rx: [0; RECEIVED],
+    };
+}
