@@ -1,9 +1,9 @@
 //! The exported calls. This is the one file with `unsafe` in it.
 //!
 //! What nothing checks, of every call here:
-//! - that the declarations below are those of the static library: no compiler reads both sides. `tests/layout.rs` compares
-//!   sizes and offsets with the C header, `tests/fields.rs` looks at the value of each field, and the comparison runs would
-//!   show a wrong order of parameters.
+//! - that the declarations below are those of the static library: no compiler reads both sides. `tests/declared.rs` compares
+//!   their text with that of the proved crates, `tests/layout.rs` sizes and offsets with C's, `tests/fields.rs` looks at the
+//!   value of each field.
 //! - what a call requires of its state: the core is one that set-up (not refused) or a call gave, and the slots are those
 //!   that the calls since then were lent, with nothing else written to them. `Uart` keeps that: its fields are private, and
 //!   only set-up and these functions write them.

@@ -10,6 +10,11 @@ mod report;
 #[cfg(test)]
 mod tests;
 
+/// The example of the crate's README, which the tests run.
+#[cfg(doctest)]
+#[doc = include_str!("../README.md")]
+struct Readme;
+
 pub use refusal::Refusal;
 pub use report::{Feature, Notice, Report};
 

@@ -20,7 +20,7 @@ pub enum Feature {
 }
 
 /// In the order of their numbers.
-const FEATURES: [Feature; 11] = [
+pub(crate) const FEATURES: [Feature; 11] = [
     Feature::Loopback,
     Feature::InvertedRx,
     Feature::Autobaud,
