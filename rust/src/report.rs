@@ -50,7 +50,7 @@ pub enum Notice {
 }
 
 impl Notice {
-    fn of(notice: PlainNotice) -> Notice {
+    pub(crate) fn of(notice: PlainNotice) -> Notice {
         match notice.what {
             1 => Notice::UartOverflow,
             2 => Notice::UartEmptyRead,

@@ -76,7 +76,8 @@ fn each_wrong_field_is_caught() {
 /// The trace begins at the set-up that was taken and ends at the call that differs.
 #[test]
 fn the_trace_is_from_the_set_up_to_the_difference() {
-    let setup = "setup 0 4 8 12 16 20 24 28 32 36 40 44 48 52 56 60 0 0 0 0 0 0x80000a 0 0 0x1c 0xc060 0x2300000 0 0 0 0xa0012 0";
+    let setup = "setup 0 4 8 12 16 20 24 28 32 36 40 44 48 52 56 60 \
+                 0 0 0 0 0 0x80000a 0 0 0x1c 0xc060 0x2300000 0 0 0 0xa0012 0";
     let doubled = setup.replacen("setup 0 4", "setup 4 4", 1);
     let mut comparison = Comparison::new(
         Wrong { port: Port::default(), from: "value=0x00000010", to: "value=0x00000000" },

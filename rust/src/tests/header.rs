@@ -1,5 +1,8 @@
 //! The C header declares the calls as the proved crates do: the same parameters in the same order.
 use super::declared::exported;
+use crate::plain::PlainNotice;
+use crate::report::FEATURES;
+use crate::{Notice, Refusal};
 
 /// A type of Rust, and a name of it, as C writes them.
 fn in_c(name: &str, of: &str) -> String {
@@ -42,30 +45,33 @@ fn the_header_declares_the_same_calls() {
     }
 }
 
-/// The lengths of the slots in the header are the crate's.
+#[track_caller]
+fn has(line: &str) {
+    assert!(include_str!("../../include/wondraxu.h").contains(line), "the header lacks: {line}");
+}
+
 #[test]
 fn the_header_has_the_same_lengths() {
     use crate::plain::{FLIGHT, HOST, LEFT, RECEIVED, RUNS};
     let lengths = [("FLIGHT", FLIGHT), ("LEFT", LEFT), ("HOST", HOST), ("RUNS", RUNS), ("RECEIVED", RECEIVED)];
     for (name, length) in lengths {
-        let line = format!("#define WONDRAXU_{name} {length} ");
-        assert!(include_str!("../../include/wondraxu.h").contains(&line), "the header lacks: {line}");
+        has(&format!("#define WONDRAXU_{name} {length} "));
     }
 }
 
-/// The names of the numbers, in order, as the crate has them.
+/// The names of the numbers, of the notices and of the modes, each with its number as the crate has it.
 #[test]
 fn the_header_has_the_same_numbers() {
-    use crate::Refusal::*;
-    let all =
-        [RepeatedOffset, DatePastEnd, DateWentBack, TransmitFull, HostFull, RunsFull, PeriodTooLong, BufferTooShort];
-    for refusal in all {
-        let line = format!("    WONDRAXU_{} = {}", upper(&format!("{refusal:?}")), refusal.number());
-        assert!(include_str!("../../include/wondraxu.h").contains(&line), "the header lacks: {line}");
+    for number in 1..=8 {
+        let refusal = Refusal::of(number).expect_err("a number above 0 is a refusal");
+        has(&format!("    WONDRAXU_{} = {number}", upper(&format!("{refusal:?}"))));
     }
-    for (number, feature) in crate::report::FEATURES.iter().enumerate() {
-        let line = format!("    WONDRAXU_{} = {number}", upper(&format!("{feature:?}")));
-        assert!(include_str!("../../include/wondraxu.h").contains(&line), "the header lacks: {line}");
+    for what in 1..=5 {
+        let notice = format!("{:?}", Notice::of(PlainNotice { what, which: 0 }));
+        has(&format!("    WONDRAXU_{} = {what}", upper(notice.split('(').next().unwrap_or(""))));
+    }
+    for (number, mode) in FEATURES.iter().enumerate() {
+        has(&format!("    WONDRAXU_{} = {number}", upper(&format!("{mode:?}"))));
     }
 }
 
