@@ -1,8 +1,9 @@
 //! The exported calls. This is the one file with `unsafe` in it.
 //!
 //! What nothing checks, of every call here:
-//! - that the declarations below are those of the static library: `tests/layout.rs` compares sizes and offsets with the C
-//!   header, and the comparison runs would show a wrong order of parameters; no compiler reads both sides.
+//! - that the declarations below are those of the static library: no compiler reads both sides. `tests/declared.rs` compares
+//!   their text with that of the proved crates, `tests/layout.rs` sizes and offsets with C's, `tests/fields.rs` looks at the
+//!   value of each field.
 //! - what a call requires of its state: the core is one that set-up (not refused) or a call gave, and the slots are those
 //!   that the calls since then were lent, with nothing else written to them. `Uart` keeps that: its fields are private, and
 //!   only set-up and these functions write them.
@@ -44,7 +45,16 @@ pub(crate) fn read(core: &PlainCore, s: &mut Slots, cycle: u64, offset: u32) -> 
     // SAFETY: the state is `Uart`'s own; each array is lent once.
     unsafe {
         wondraxu_read(
-            *core, &s.gone_at, &s.flight, &mut s.tx, &s.host, &s.run_dates, &mut s.run_counts, &mut s.rx, cycle, offset,
+            *core,
+            &s.gone_at,
+            &s.flight,
+            &mut s.tx,
+            &s.host,
+            &s.run_dates,
+            &mut s.run_counts,
+            &mut s.rx,
+            cycle,
+            offset,
         )
     }
 }
@@ -53,8 +63,17 @@ pub(crate) fn write(core: &PlainCore, s: &mut Slots, cycle: u64, offset: u32, va
     // SAFETY: the state is `Uart`'s own; each array is lent once.
     unsafe {
         wondraxu_write(
-            *core, &mut s.gone_at, &mut s.flight, &mut s.tx, &s.host, &s.run_dates, &mut s.run_counts, &mut s.rx, cycle,
-            offset, value,
+            *core,
+            &mut s.gone_at,
+            &mut s.flight,
+            &mut s.tx,
+            &s.host,
+            &s.run_dates,
+            &mut s.run_counts,
+            &mut s.rx,
+            cycle,
+            offset,
+            value,
         )
     }
 }
@@ -63,7 +82,15 @@ pub(crate) fn wake(core: &PlainCore, s: &mut Slots, cycle: u64) -> PlainAnswer {
     // SAFETY: the state is `Uart`'s own; each array is lent once.
     unsafe {
         wondraxu_wake(
-            *core, &s.gone_at, &s.flight, &mut s.tx, &s.host, &s.run_dates, &mut s.run_counts, &mut s.rx, cycle,
+            *core,
+            &s.gone_at,
+            &s.flight,
+            &mut s.tx,
+            &s.host,
+            &s.run_dates,
+            &mut s.run_counts,
+            &mut s.rx,
+            cycle,
         )
     }
 }
@@ -72,7 +99,15 @@ pub(crate) fn reset(core: &PlainCore, s: &mut Slots, cycle: u64) -> PlainAnswer 
     // SAFETY: the state is `Uart`'s own; each array is lent once.
     unsafe {
         wondraxu_reset(
-            *core, &s.gone_at, &s.flight, &mut s.tx, &s.host, &s.run_dates, &mut s.run_counts, &mut s.rx, cycle,
+            *core,
+            &s.gone_at,
+            &s.flight,
+            &mut s.tx,
+            &s.host,
+            &s.run_dates,
+            &mut s.run_counts,
+            &mut s.rx,
+            cycle,
         )
     }
 }
@@ -81,7 +116,16 @@ pub(crate) fn clock_change(core: &PlainCore, s: &mut Slots, cycle: u64, period: 
     // SAFETY: the state is `Uart`'s own; each array is lent once.
     unsafe {
         wondraxu_clock_change(
-            *core, &s.gone_at, &s.flight, &mut s.tx, &s.host, &s.run_dates, &mut s.run_counts, &mut s.rx, cycle, period,
+            *core,
+            &s.gone_at,
+            &s.flight,
+            &mut s.tx,
+            &s.host,
+            &s.run_dates,
+            &mut s.run_counts,
+            &mut s.rx,
+            cycle,
+            period,
         )
     }
 }
@@ -90,8 +134,18 @@ pub(crate) fn receive(core: &PlainCore, s: &mut Slots, cycle: u64, at: u64, byte
     // SAFETY: the state is `Uart`'s own; each array is lent once; pointer and count are one slice's, which is only read.
     unsafe {
         wondraxu_receive(
-            *core, &s.gone_at, &s.flight, &mut s.tx, &mut s.host, &mut s.run_dates, &mut s.run_counts, &mut s.rx, cycle,
-            at, bytes.as_ptr(), bytes.len(),
+            *core,
+            &s.gone_at,
+            &s.flight,
+            &mut s.tx,
+            &mut s.host,
+            &mut s.run_dates,
+            &mut s.run_counts,
+            &mut s.rx,
+            cycle,
+            at,
+            bytes.as_ptr(),
+            bytes.len(),
         )
     }
 }
@@ -100,8 +154,17 @@ pub(crate) fn take_tx(core: &PlainCore, s: &mut Slots, cycle: u64, out: &mut [u8
     // SAFETY: the state is `Uart`'s own; each array is lent once; pointer and length are one slice's, lent for the call.
     unsafe {
         wondraxu_take_tx(
-            *core, &s.gone_at, &s.flight, &mut s.tx, &s.host, &s.run_dates, &mut s.run_counts, &mut s.rx, cycle,
-            out.as_mut_ptr(), out.len(),
+            *core,
+            &s.gone_at,
+            &s.flight,
+            &mut s.tx,
+            &s.host,
+            &s.run_dates,
+            &mut s.run_counts,
+            &mut s.rx,
+            cycle,
+            out.as_mut_ptr(),
+            out.len(),
         )
     }
 }

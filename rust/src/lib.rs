@@ -7,11 +7,19 @@ mod calls;
 mod plain;
 mod refusal;
 mod report;
+#[cfg(test)]
+mod tests;
+
+/// The example of the crate's README, which the tests run.
+#[cfg(doctest)]
+#[doc = include_str!("../README.md")]
+struct Readme;
 
 pub use refusal::Refusal;
 pub use report::{Feature, Notice, Report};
 
-use plain::{PlainAnswer, PlainCore, PlainReply, Slots, FLIGHT, HOST, LEFT, RECEIVED, RUNS};
+use plain::{PlainAnswer, PlainCore, PlainReply, Slots, LEFT};
+use std::fmt;
 
 /// The length that a buffer lent to [`Uart::take_tx`] or [`Uart::take_written`] must have at least.
 pub const BUFFER: usize = LEFT;
@@ -31,6 +39,7 @@ pub type Answered<T> = Result<Answer<T>, Refusal>;
 /// One UART. Only [`Uart::new`] makes one, and only its methods change it, so that what the proved calls require of a state
 /// always holds.
 #[derive(Clone)]
+#[repr(C)] // as the C header has it
 pub struct Uart {
     core: PlainCore,
     slots: Slots,
@@ -45,16 +54,7 @@ impl Uart {
     pub fn new(offsets: [u32; 16], reset_words: [u32; 16]) -> Result<Uart, Refusal> {
         let new = calls::new(offsets, reset_words);
         Refusal::of(new.reply.number)?;
-        let slots = Slots {
-            gone_at: [0; FLIGHT],
-            flight: [0; FLIGHT],
-            tx: [0; LEFT],
-            host: [0; HOST],
-            run_dates: [0; RUNS],
-            run_counts: [0; RUNS],
-            rx: [0; RECEIVED],
-        };
-        Ok(Uart { core: new.core, slots })
+        Ok(Uart { core: new.core, slots: Slots::EMPTY })
     }
 
     /// The value at an offset; none where nothing can be read. From an empty FIFO 0, with a notice.
@@ -98,7 +98,7 @@ impl Uart {
         self.done(&answer, |_| ())
     }
 
-    /// Whether the first departure asks for a wake, so that a console shows a byte as it leaves.
+    /// Whether each departure asks for a wake, so that a console shows a byte as it leaves.
     ///
     /// # Errors
     /// A date past the end, or before the last one.
@@ -178,5 +178,20 @@ impl Uart {
         Refusal::of(answer.reply.number)?;
         self.core = answer.core;
         Ok(Answer { result: result(&answer.reply), report: Report::of(answer.report) })
+    }
+}
+
+/// What a machine may ask of a UART, and how full its queues are.
+impl fmt::Debug for Uart {
+    fn fmt(&self, f: &mut fmt::Formatter<'_>) -> fmt::Result {
+        f.debug_struct("Uart")
+            .field("last", &self.core.last)
+            .field("wake", &self.core.wake.set.then_some(self.core.wake.at))
+            .field("level", &self.core.level)
+            .field("in_flight", &self.core.flight.count)
+            .field("left", &self.core.tx.count)
+            .field("host_pending", &self.host_pending())
+            .field("received", &self.core.rx.count)
+            .finish()
     }
 }

@@ -1,5 +1,6 @@
 //! The structs of the static library, field by field as crates/plain, plain_replies, plain_answers and export_new declare them.
-//! `include/wondraxu.h` has them for C; tests/layout.rs holds sizes and offsets of the two to each other.
+//! `include/wondraxu.h` has them for C. Sizes and offsets of both are held to `c/layout.out`; `tests/fields.rs` looks at the
+//! value that each call gives to each field.
 
 /// Slots of the bytes in flight and of their dates.
 pub(crate) const FLIGHT: usize = 129;
@@ -126,7 +127,7 @@ pub(crate) struct PlainNew {
 
 /// The slots of the queues, which the calls are lent.
 #[repr(C)]
-#[derive(Clone)]
+#[derive(Clone, PartialEq, Eq)]
 pub(crate) struct Slots {
     pub gone_at: [u64; FLIGHT],
     pub flight: [u8; FLIGHT],
@@ -135,4 +136,17 @@ pub(crate) struct Slots {
     pub run_dates: [u64; RUNS],
     pub run_counts: [u64; RUNS],
     pub rx: [u8; RECEIVED],
+}
+
+impl Slots {
+    /// What stands in the slots of an empty queue is free.
+    pub const EMPTY: Slots = Slots {
+        gone_at: [0; FLIGHT],
+        flight: [0; FLIGHT],
+        tx: [0; LEFT],
+        host: [0; HOST],
+        run_dates: [0; RUNS],
+        run_counts: [0; RUNS],
+        rx: [0; RECEIVED],
+    };
 }

@@ -20,7 +20,7 @@ pub enum Feature {
 }
 
 /// In the order of their numbers.
-const FEATURES: [Feature; 11] = [
+pub(crate) const FEATURES: [Feature; 11] = [
     Feature::Loopback,
     Feature::InvertedRx,
     Feature::Autobaud,
@@ -50,7 +50,7 @@ pub enum Notice {
 }
 
 impl Notice {
-    fn of(notice: PlainNotice) -> Notice {
+    pub(crate) fn of(notice: PlainNotice) -> Notice {
         match notice.what {
             1 => Notice::UartOverflow,
             2 => Notice::UartEmptyRead,

@@ -11,7 +11,8 @@ const INT_ENA: u32 = 12;
 const INT_CLR: u32 = 16;
 const STATUS: u32 = 24;
 const CONF1: u32 = 36;
-const USAGE: &str = "usage: one-process ROUNDS    both workloads ROUNDS times on each side; prints counts, sums and nanoseconds\n";
+const USAGE: &str =
+    "usage: one-process ROUNDS    both workloads ROUNDS times on each side; prints counts, sums and nanoseconds\n";
 
 #[derive(Default, PartialEq, Eq)]
 struct Tally {
@@ -124,8 +125,7 @@ fn main() {
         std::process::exit(2);
     };
     type Work = fn(u64) -> Tally;
-    let pairs: [(&str, Work, Work); 2] =
-        [("mixed", port_mixed, published_mixed), ("bulk", port_bulk, published_bulk)];
+    let pairs: [(&str, Work, Work); 2] = [("mixed", port_mixed, published_mixed), ("bulk", port_bulk, published_bulk)];
     for (name, port, published) in pairs {
         let (ours, our_time) = timed(port, rounds);
         let (theirs, their_time) = timed(published, rounds);

@@ -73,7 +73,7 @@ pub struct Published(TheBox);
 
 impl Published {
     pub fn new() -> Published {
-        Published(TheBox::set_up(&settings()).ok().expect("set-up is taken"))
+        Published(TheBox::set_up(&settings()).expect("set-up is taken"))
     }
 }
 

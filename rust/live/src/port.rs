@@ -1,0 +1,99 @@
+//! The port behind the replay format: `wondraxu::Uart`, with each answer as its line.
+use crate::Side;
+use crate::line;
+use uart_box::calls::{Call, LONGEST_BUFFER};
+use wondraxu::{Answered, Refusal, Uart};
+
+/// What a lent buffer holds before the call, and how far past its end it is looked at.
+const LENT: u8 = 0x5A;
+const PAST: usize = 16;
+
+/// The UART in place, if one was set up, and the buffer that is lent of it.
+pub struct Port {
+    uart: Option<Uart>,
+    buffer: Vec<u8>,
+}
+
+impl Default for Port {
+    fn default() -> Port {
+        Port { uart: None, buffer: vec![LENT; LONGEST_BUFFER as usize + PAST] }
+    }
+}
+
+impl Side for Port {
+    fn call(&mut self, call: &Call, out: &mut Vec<u8>) {
+        if let Call::Setup(setup) = call {
+            return self.set_up(setup.offsets, setup.reset_words, out);
+        }
+        let Some(uart) = &mut self.uart else {
+            return line::no_uart(out);
+        };
+        match *call {
+            Call::Read { now, offset } => dated(out, uart.read(now, offset), line::value),
+            Call::Write { now, offset, value } => dated(out, uart.write(now, offset, value), line::accepted),
+            Call::Receive { now, at, ref bytes } => dated(out, uart.receive(now, at, bytes), line::done),
+            Call::Wake { now } => dated(out, uart.wake(now), line::done),
+            Call::Watch { now, watched } => dated(out, uart.watch(now, watched), line::done),
+            Call::Reset { now } => dated(out, uart.reset(now), line::done),
+            Call::PowerDown { now } => dated(out, uart.power_down(now), line::done),
+            Call::Clock { now, period } => dated(out, uart.clock_change(now, period), line::done),
+            Call::TakeTx { now, length } => {
+                let taken = uart.take_tx(now, &mut self.buffer[..length]);
+                let buffer = &self.buffer;
+                dated(out, taken, |out, count| line::handed_out(out, &buffer[..count], kept(&buffer[count..])));
+                self.restore(taken.map(|done| done.result), out);
+            }
+            Call::TakeWritten { length } => {
+                let taken = uart.take_written(&mut self.buffer[..length]);
+                match taken {
+                    Ok(count) => line::taken(out, &self.buffer[..count], kept(&self.buffer[count..])),
+                    Err(refusal) => line::refused(out, refusal),
+                }
+                self.restore(taken, out);
+            }
+            Call::HasLeft => line::has_left(out, uart.has_left()),
+            Call::HostPending => line::host_pending(out, uart.host_pending()),
+            Call::Setup(_) => {}
+        }
+    }
+}
+
+impl Port {
+    /// A refused set-up leaves the UART before in place.
+    fn set_up(&mut self, offsets: [u32; 16], reset_words: [u32; 16], out: &mut Vec<u8>) {
+        match Uart::new(offsets, reset_words) {
+            Ok(uart) => {
+                self.uart = Some(uart);
+                out.extend_from_slice(b"0\n");
+            }
+            Err(refusal) => line::refused(out, refusal),
+        }
+    }
+
+    /// The buffer as it was before the call. A refused call must have left it so.
+    fn restore(&mut self, taken: Result<usize, Refusal>, out: &mut Vec<u8>) {
+        match taken {
+            Ok(count) => self.buffer[..count].fill(LENT),
+            Err(_) if kept(&self.buffer) => {}
+            Err(_) => {
+                out.extend_from_slice(b"a refused call wrote to the lent buffer\n");
+                self.buffer.fill(LENT);
+            }
+        }
+    }
+}
+
+fn kept(rest: &[u8]) -> bool {
+    rest.iter().all(|&byte| byte == LENT)
+}
+
+fn dated<T>(out: &mut Vec<u8>, answered: Answered<T>, result: impl FnOnce(&mut Vec<u8>, T)) {
+    match answered {
+        Ok(answer) => {
+            out.extend_from_slice(b"0 ");
+            result(out, answer.result);
+            line::report(out, &answer.report);
+        }
+        Err(refusal) => line::refused(out, refusal),
+    }
+}
