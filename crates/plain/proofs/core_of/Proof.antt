@@ -11,7 +11,7 @@ receiving-of-requires c κs = tt
 
 returns : tie.Need-returns
 unfolding coreOf
-returns c = cc
+returns c = rw (c .receiving-of .ensures, c .before .control-of .ensures)
 
 pub core-of-spec : {M : Type 1} → statement M
 core-of-spec = tie.close (tie.spec control-of-requires receiving-of-requires returns)

@@ -9,7 +9,7 @@ date-of-requires : tie.Need-date-of-requires
 date-of-requires c κs = tt
 
 returns : tie.Need-returns
-returns c = cc
+returns c = rw (c .date-of .ensures, c .before .source-of .ensures)
 
 pub line-of-spec : {M : Type 1} → statement M
 line-of-spec = tie.close (tie.spec source-of-requires date-of-requires returns)

@@ -21,7 +21,8 @@ plain-date-requires-3 c κs = search needs
 
 returns : tie.Need-returns
 unfolding plainCore
-returns c = cc
+returns c =
+    rw (c .plain-date3 .ensures, c .before .plain-date2 .ensures, c .before .before .plain-date .ensures, c .before .before .before .plain-source .ensures, c .before .before .before .before .before .before .before .before .before .on-the-line .ensures)
 
 pub plain-core-spec : {M : Type 1} → statement M
 plain-core-spec =

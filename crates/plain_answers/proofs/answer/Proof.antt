@@ -9,7 +9,7 @@ plain-report-requires : tie.Need-plain-report-requires
 plain-report-requires c κs = tt
 
 returns : tie.Need-returns
-returns c = cc
+returns c = rw (c .plain-report .ensures, c .before .plain-core .ensures)
 
 pub answer-spec : {M : Type 1} → statement M
 answer-spec = tie.close (tie.spec plain-core-requires plain-report-requires returns)

@@ -9,7 +9,7 @@ answer-requires : tie.Need-answer-requires
 answer-requires c κs = tt
 
 returns : tie.Need-returns
-returns c = cc
+returns c = rw (c .answer .ensures, c .before .done-reply .ensures)
 
 pub done-answer-spec : {M : Type 1} → statement M
 done-answer-spec = tie.close (tie.spec done-reply-requires answer-requires returns)

@@ -9,7 +9,7 @@ answer-requires : tie.Need-answer-requires
 answer-requires c κs = tt
 
 returns : tie.Need-returns
-returns c = cc
+returns c = rw (c .answer .ensures, c .before .read-reply .ensures)
 
 pub read-answer-spec : {M : Type 1} → statement M
 read-answer-spec = tie.close (tie.spec read-reply-requires answer-requires returns)

@@ -9,7 +9,7 @@ answer-requires : tie.Need-answer-requires
 answer-requires c κs = tt
 
 returns : tie.Need-returns
-returns c = cc
+returns c = rw (c .answer .ensures, c .before .taken-reply .ensures)
 
 pub taken-answer-spec : {M : Type 1} → statement M
 taken-answer-spec = tie.close (tie.spec taken-reply-requires answer-requires returns)

@@ -1,4 +1,5 @@
 -- `done_reply` meets its contract, case by case. Assumes nothing.
+use mathlib.Core.Path.{ap, sym, _∙_}
 use borrow.Author.Needs.{needs}
 use Rattle.plain_replies.specs.Replies.{plainDone}
 use Rattle.plain_replies.proofs.done_reply.Statement.{statement}
@@ -18,11 +19,11 @@ refused-requires c κs = tt
 
 returns : tie.Need-returns
 unfolding plainDone
-returns c = cc
+returns c = c .carried-out .ensures ∙ sym (ap plainDone (c .before .enum-told .given .1))
 
 returns-2 : tie.Need-returns-2
 unfolding plainDone
-returns-2 c = cc
+returns-2 c = c .refused .ensures ∙ sym (ap plainDone (c .before .before .reply .given .1))
 
 pub done-reply-spec : {M : Type 1} → statement M
 done-reply-spec =

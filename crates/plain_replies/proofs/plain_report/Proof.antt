@@ -11,7 +11,7 @@ plain-date-requires c κs = tt
 
 returns : tie.Need-returns
 unfolding plainReport
-returns c = cc
+returns c = rw (c .plain-date .ensures, c .before .plain-notices .ensures)
 
 pub plain-report-spec : {M : Type 1} → statement M
 plain-report-spec = tie.close (tie.spec plain-notices-requires plain-date-requires returns)

@@ -1,4 +1,5 @@
 -- `read_reply` meets its contract, case by case. Assumes nothing.
+use mathlib.Core.Path.{ap, sym, _∙_}
 use borrow.Author.Needs.{needs}
 use Rattle.plain_replies.specs.Replies.{plainRead}
 use Rattle.plain_replies.proofs.read_reply.Statement.{statement}
@@ -27,15 +28,15 @@ refused-requires c κs = tt
 
 returns : tie.Need-returns
 unfolding plainRead
-returns c = cc
+returns c = c .carried-out .ensures ∙ sym (ap plainRead (c .before .before .reply .given .1))
 
 returns-2 : tie.Need-returns-2
 unfolding plainRead
-returns-2 c = cc
+returns-2 c = c .carried-out2 .ensures ∙ sym (ap plainRead (c .before .enum-told .given .1))
 
 returns-3 : tie.Need-returns-3
 unfolding plainRead
-returns-3 c = cc
+returns-3 c = c .refused .ensures ∙ sym (ap plainRead (c .before .before .reply2 .given .1))
 
 pub read-reply-spec : {M : Type 1} → statement M
 read-reply-spec =

@@ -6,7 +6,7 @@ number-of-requires : tie.Need-number-of-requires
 number-of-requires c κs = tt
 
 returns : tie.Need-returns
-returns c = cc
+returns c = rw (c .number-of .ensures)
 
 pub refused-spec : {M : Type 1} → statement M
 refused-spec = tie.close (tie.spec number-of-requires returns)

@@ -1,4 +1,5 @@
 -- `set_up_reply` meets its contract, case by case. Assumes nothing.
+use mathlib.Core.Path.{ap, sym, _∙_}
 use borrow.Author.Needs.{needs}
 use Rattle.plain_replies.specs.Replies.{plainSetUp}
 use Rattle.plain_replies.proofs.set_up_reply.Statement.{statement}
@@ -18,11 +19,11 @@ refused-requires c κs = tt
 
 returns : tie.Need-returns
 unfolding plainSetUp
-returns c = cc
+returns c = c .carried-out .ensures ∙ sym (ap plainSetUp (c .before .enum-told .given .1))
 
 returns-2 : tie.Need-returns-2
 unfolding plainSetUp
-returns-2 c = cc
+returns-2 c = c .refused .ensures ∙ sym (ap plainSetUp (c .before .before .reply .given .1))
 
 pub set-up-reply-spec : {M : Type 1} → statement M
 set-up-reply-spec =

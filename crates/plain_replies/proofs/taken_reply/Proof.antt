@@ -1,4 +1,5 @@
 -- `taken_reply` meets its contract, case by case. Assumes nothing.
+use mathlib.Core.Path.{ap, sym, _∙_}
 use borrow.Author.Needs.{needs}
 use Rattle.plain_replies.specs.Replies.{plainTaken}
 use Rattle.plain_replies.proofs.taken_reply.Statement.{statement}
@@ -18,11 +19,11 @@ refused-requires c κs = tt
 
 returns : tie.Need-returns
 unfolding plainTaken
-returns c = cc
+returns c = c .carried-out .ensures ∙ sym (ap plainTaken (c .before .before .reply .given .1))
 
 returns-2 : tie.Need-returns-2
 unfolding plainTaken
-returns-2 c = cc
+returns-2 c = c .refused .ensures ∙ sym (ap plainTaken (c .before .before .reply2 .given .1))
 
 pub taken-reply-spec : {M : Type 1} → statement M
 taken-reply-spec =

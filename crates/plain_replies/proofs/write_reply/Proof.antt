@@ -1,4 +1,5 @@
 -- `write_reply` meets its contract, case by case. Assumes nothing.
+use mathlib.Core.Path.{ap, sym, _∙_}
 use borrow.Author.Needs.{needs}
 use Rattle.plain_replies.specs.Replies.{plainWrite}
 use Rattle.plain_replies.proofs.write_reply.Statement.{statement}
@@ -24,15 +25,15 @@ refused-requires c κs = tt
 
 returns : tie.Need-returns
 unfolding plainWrite
-returns c = cc
+returns c = c .carried-out .ensures ∙ sym (ap plainWrite (c .before .enum-told .given .1))
 
 returns-2 : tie.Need-returns-2
 unfolding plainWrite
-returns-2 c = cc
+returns-2 c = c .carried-out2 .ensures ∙ sym (ap plainWrite (c .before .enum-told2 .given .1))
 
 returns-3 : tie.Need-returns-3
 unfolding plainWrite
-returns-3 c = cc
+returns-3 c = c .refused .ensures ∙ sym (ap plainWrite (c .before .before .reply .given .1))
 
 pub write-reply-spec : {M : Type 1} → statement M
 write-reply-spec =

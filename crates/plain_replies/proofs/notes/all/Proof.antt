@@ -54,7 +54,17 @@ plain-notice-requires-8 c κs = search needs
 
 returns : tie.Need-returns
 unfolding plainAll
-returns c = cc
+returns c =
+    rw (
+      c .plain-notice8 .ensures,
+      c .before .before .plain-notice7 .ensures,
+      c .before .before .before .before .plain-notice6 .ensures,
+      c .before .before .before .before .before .before .plain-notice5 .ensures,
+      c .before .before .before .before .before .before .before .before .plain-notice4 .ensures,
+      c .before .before .before .before .before .before .before .before .before .before .plain-notice3 .ensures,
+      c .before .before .before .before .before .before .before .before .before .before .before .before .plain-notice2 .ensures,
+      c .before .before .before .before .before .before .before .before .before .before .before .before .before .before .plain-notice .ensures,
+    )
 
 pub all-spec : {M : Type 1} → statement M
 all-spec =

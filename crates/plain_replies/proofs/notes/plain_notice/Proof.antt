@@ -1,4 +1,5 @@
 -- `plain_notice` meets its contract, case by case. Assumes nothing.
+use mathlib.Core.Path.{ap, sym}
 use borrow.Author.Needs.{needs}
 use Rattle.plain_replies.specs.Notes.{plainUnsupported}
 use Rattle.plain_replies.proofs.notes.plain_notice.Statement.{statement}
@@ -24,23 +25,23 @@ mode-number-requires c κs = tt
 
 returns : tie.Need-returns
 unfolding plainUnsupported
-returns c = cc
+returns c = sym (ap plainUnsupported (c .enum-told .given .1))
 
 returns-2 : tie.Need-returns-2
 unfolding plainUnsupported
-returns-2 c = cc
+returns-2 c = sym (ap plainUnsupported (c .enum-told2 .given .1))
 
 returns-3 : tie.Need-returns-3
 unfolding plainUnsupported
-returns-3 c = cc
+returns-3 c = sym (ap plainUnsupported (c .before .what .given .1))
 
 returns-4 : tie.Need-returns-4
 unfolding plainUnsupported
-returns-4 c = cc
+returns-4 c = sym (ap plainUnsupported (c .before .what2 .given .1))
 
 returns-5 : tie.Need-returns-5
 unfolding plainUnsupported
-returns-5 c = cc
+returns-5 c = rw (c .mode-number .ensures) (sym (ap plainUnsupported (c .before .before .what3 .given .1)))
 
 pub plain-notice-spec : {M : Type 1} → statement M
 plain-notice-spec =
