@@ -1,14 +1,12 @@
 -- A reset's work: settled from the end of a power-down, cleared, leveled and armed. Assumes nothing.
 use mathlib.Core.Path.{_≡_, refl, sym, ap, subst, _∙_}
-use Prim.Native.Nat.{ℕ, _≤_}
+use Prim.Native.Nat.{ℕ}
 use lib.ListN.{length}
 use Rattle.model.specs.State.{withPoweredDownAt}
 use Rattle.model.specs.Settle
 use Rattle.model.specs.Arm.{arm}
-use Rattle.model.specs.Tests.{periodLimit}
-use Rattle.model.specs.Calls.{afterSettling, settledAt, quiet, cleared, resetWork}
+use Rattle.model.specs.Calls.{settledAt, quiet, cleared, resetWork}
 use Rattle.model.specs.declared.Date.{Date}
-use Rattle.model.specs.declared.Done.{Done}
 use Rattle.queue.specs.Cursors.{Held}
 use Rattle.device.specs.Holds.{Arrays, abs, Ok}
 use Rattle.settle.specs.Settles.{Settles}

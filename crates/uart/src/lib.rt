@@ -3,8 +3,6 @@
 use calls::power_down;
 use calls::watch;
 use device::Core;
-use handover::take_tx;
-use handover::take_written;
 use model::Done;
 use model::Read;
 use model::Report;
