@@ -14,7 +14,7 @@ use Rattle.model.specs.declared.Report.{Report}
 use Rattle.model.specs.declared.Done.{Done}
 use Rattle.device.specs.Holds.{Arrays, abs, Ok}
 use Rattle.settle.specs.Settles.{Settles}
-use Rattle.settle.specs.Arms.{ArmsAny}
+use Rattle.arming.specs.Arms.{ArmsAny}
 use Rattle.device.specs.declared.Core.{Core}
 use Rattle.calls.specs.Answers.{DoneWith, Works, carried, turned-away, done-armed, doneCore, refusedCore}
 use Rattle.calls.specs.declared.answers.DoneCore.{DoneCore}

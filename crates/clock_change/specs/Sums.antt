@@ -20,9 +20,9 @@ use Rattle.calls.specs.declared.answers.DoneCore.{DoneCore}
 use Rattle.model.specs.Ends.Through.{overflowsAmong, ran}
 use Rattle.model.specs.Ends.NothingDue.{settle-passes}
 use Rattle.model.specs.declared.Found.{Found}
-use Rattle.reception.specs.Rounds.{lost-adds, lost-low}
+use Rattle.rounds.specs.Rounds.{lost-adds, lost-low}
 use Rattle.settle.specs.Settles.{Settles}
-use Rattle.settle.specs.Arms.{ArmsAny}
+use Rattle.arming.specs.Arms.{ArmsAny}
 use Rattle.device.specs.Holds.{Arrays, abs, Ok}
 use Rattle.device.specs.declared.Core.{Core}
 

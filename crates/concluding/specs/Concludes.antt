@@ -6,7 +6,7 @@ use Rattle.model.specs.Settle
 use Rattle.model.specs.Arm
 use Rattle.queue.specs.Cursors.{Held}
 use Rattle.device.specs.Holds.{Arrays, abs, Shape}
-use Rattle.settle.specs.Arms.{Ready, ArmsAny}
+use Rattle.arming.specs.Arms.{Ready, ArmsAny}
 use Rattle.device.specs.declared.Core.{Core}
 use Rattle.calls.specs.Changes.{leveledCore, leveled-abs, shape-of}
 

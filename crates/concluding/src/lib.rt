@@ -1,11 +1,10 @@
 // How a write and a reset end: levels, interrupt and wake.
 use calls::levels;
 use device::Core;
-use settle::arming;
 ghost use mathlib.Core.Path.{_≡_};
 ghost use lib.ListN.{length};
 ghost use Rattle.queue.specs.Cursors.{Held};
-ghost use Rattle.settle.specs.Arms.{Ready};
+ghost use Rattle.arming.specs.Arms.{Ready};
 ghost use Rattle.concluding.specs.Concludes.{ConcludesAny};
 
 // Levels are raised, the interrupt is driven, and the next wake is armed.

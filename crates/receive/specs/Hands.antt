@@ -13,7 +13,7 @@ use Rattle.queue.specs.Laws.{push-held}
 use Rattle.queue.specs.declared.Cursor.{Cursor}
 use Rattle.copies.specs.Append.{storedFrom, stored-length, append-elems}
 use Rattle.device.specs.Holds.{Arrays, abs, Shape}
-use Rattle.settle.specs.Arms.{Ready, ArmsAny}
+use Rattle.arming.specs.Arms.{Ready, ArmsAny}
 use Rattle.device.specs.declared.Core.{Core}
 use Rattle.runs.specs.Joins.{RoomFor, Joins}
 

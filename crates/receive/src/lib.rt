@@ -5,7 +5,6 @@ use calls::settled_at;
 use device::Core;
 use refusals::Checked;
 use refusals::Waiting;
-use settle::arming;
 ghost use mathlib.Core.Path.{_≡_};
 ghost use Prim.Native.Nat.{_<_};
 ghost use lib.ListN.{length};

@@ -10,7 +10,7 @@ use Rattle.model.specs.declared.Date.{Date}
 use Rattle.queue.specs.Cursors.{Held}
 use Rattle.device.specs.Holds.{Arrays, abs, Ok}
 use Rattle.settle.specs.Settles.{Settles}
-use Rattle.settle.specs.Arms.{Ready}
+use Rattle.arming.specs.Arms.{Ready}
 use Rattle.device.specs.declared.Core.{Core}
 use Rattle.calls.specs.Answers.{Works, after, doneCore}
 use Rattle.calls.specs.Changes.{withControlOf, clearedCore, cleared-abs, cleared-shape, put-down-ok, ready}

@@ -1,4 +1,5 @@
 // The runs of waiting host bytes.
+use model::Date;
 use queue::Cursor;
 ghost use mathlib.Core.Path.{_≡_};
 ghost use Prim.Native.Nat.{_+_, _≤_, _<_};
@@ -6,9 +7,22 @@ ghost use lib.ListN.{length, getD};
 ghost use Rattle.model.specs.Calls.{lastDate};
 ghost use Rattle.queue.specs.Cursors.{Held};
 ghost use Rattle.runs.specs.Joins.{Joins, joins as Joins·joins, RoomFor};
+ghost use Rattle.runs.specs.Waits.{waitingAt};
 ghost use mathlib.Core.List.{List};
 ghost use Prim.Native.Nat.{ℕ};
 ghost use Rattle.device.specs.Holds.{runsOf};
+
+// The date of the first run, if a host byte waits.
+pub fn waiting(host: usize, runs: usize, date: u64) -> Date
+    ensures { λ r. ⌜ r ≡ waitingAt host runs date ⌝ }
+{
+    if 0 < host {
+        if 0 < runs {
+            return Date::At(date);
+        }
+    }
+    Date::None
+}
 
 // The date of the last run, in subcycles; 0 where none waits.
 pub fn last_date(runs: Cursor, run_dates: &[u64; 64]) -> u64

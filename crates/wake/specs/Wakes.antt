@@ -4,7 +4,7 @@ use Prim.Native.Nat.{ℕ}
 use Rattle.model.specs.Calls.{settledAt, wakeWork}
 use Rattle.device.specs.Holds.{Arrays, abs, Ok}
 use Rattle.settle.specs.Settles.{Settles}
-use Rattle.settle.specs.Arms.{ArmsAny}
+use Rattle.arming.specs.Arms.{ArmsAny}
 use Rattle.device.specs.declared.Core.{Core}
 use Rattle.calls.specs.Answers.{Works, doneCore}
 use Rattle.calls.specs.Changes.{calledCore, called-ok}

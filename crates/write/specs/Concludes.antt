@@ -15,7 +15,7 @@ use Rattle.model.specs.declared.Write.{Write}
 use Rattle.queue.specs.Cursors.{Held}
 use Rattle.device.specs.Holds.{Arrays, abs, Shape}
 use Rattle.settle.specs.Settles.{Settles}
-use Rattle.settle.specs.Arms.{Ready}
+use Rattle.arming.specs.Arms.{Ready}
 use Rattle.device.specs.declared.Core.{Core}
 use Rattle.calls.specs.Answers.{Accesses, Works, after, reportOf}
 use Rattle.concluding.specs.Concludes as Concluding

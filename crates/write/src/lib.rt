@@ -21,7 +21,7 @@ ghost use Rattle.model.specs.Calls.{write as Calls·write};
 ghost use Rattle.queue.specs.Cursors.{Held};
 ghost use Rattle.refusals.specs.Refusals.{verdict};
 ghost use Rattle.device.specs.Holds.{abs, Ok};
-ghost use Rattle.settle.specs.Arms.{Ready};
+ghost use Rattle.arming.specs.Arms.{Ready};
 ghost use Rattle.device.specs.Wholes.{arrays};
 ghost use Rattle.calls.specs.Answers.{Works, Answers};
 ghost use Rattle.write.specs.Structs.{writeCore, refusedWrite};

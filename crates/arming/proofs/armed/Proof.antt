@@ -1,11 +1,11 @@
--- `arming::armed` meets its contract: each instant is the definition's. Assumes nothing.
+-- `armed` meets its contract: each instant is the definition's. Assumes nothing.
 use mathlib.Core.Path.{sym, subst, ap, _∙_}
 use Rattle.model.specs.Arm.{firstGone}
-use Rattle.settle.specs.Arms.{armed-by}
+use Rattle.arming.specs.Arms.{armed-by}
 use native.Mathlib.Omega.{arith}
 use borrow.Author.Needs.{needs}
-use Rattle.settle.proofs.arming.armed.Statement.{statement}
-use Rattle.settle.proofs.arming.armed.Tie as tie
+use Rattle.arming.proofs.armed.Statement.{statement}
+use Rattle.arming.proofs.armed.Tie as tie
 
 settings-requires : tie.Need-settings-requires
 settings-requires c κs = search needs

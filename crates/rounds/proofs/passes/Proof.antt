@@ -1,4 +1,4 @@
--- `passes::passes` meets its contract: in any state with such a receive side, what the definition runs from where the loop
+-- `passes` meets its contract: in any state with such a receive side, what the definition runs from where the loop
 -- stands is what is left of what it runs from the start. The measure is how many passes are left. Assumes nothing.
 use borrow.Author.Needs.{needs}
 use native.Mathlib.Omega.{arith}
@@ -8,10 +8,10 @@ use borrow.Author.Tests.{not-true, not-false}
 use Rattle.model.specs.State.{Uart}
 use Rattle.model.specs.Settle
 use Rattle.model.specs.Ends.Through.{Ran}
 use Rattle.reception.specs.Receives.{Fit, with}
-use Rattle.reception.specs.Rounds.{behind, blank, few-passes, lost-low, ran-first, ran-more, ran-end}
-use Rattle.reception.proofs.passes.Statement.{statement}
-use Rattle.reception.proofs.passes.Tie as tie
+use Rattle.rounds.specs.Rounds.{behind, blank, few-passes, lost-low, ran-first, ran-more, ran-end}
+use Rattle.rounds.proofs.passes.Statement.{statement}
+use Rattle.rounds.proofs.passes.Tie as tie
 
 abbrev Inv-loop : tie.InvT-loop
 Inv-loop settings date host run-dates run-counts₀ rx₀ at₀ passes₀ overflows₀ run-counts rx at passes overflows =

@@ -24,7 +24,7 @@ use Rattle.instants.specs.Instants.{belowThreshold, goneBelow, nextLanding, ins
 use Rattle.frames.specs.Applied.{waiting, mark}
 use Rattle.control.specs.declared.Below.{Below}
 use Rattle.device.specs.Holds.{Arrays, sentAt, flightOf, abs, Shape}
-use Rattle.reception.specs.Receives.{waitingAt}
+use Rattle.runs.specs.Waits.{waitingAt}
 use Rattle.reception.specs.Carries.{waiting-of, mark-of}
 use Rattle.device.specs.declared.Core.{Core}
 

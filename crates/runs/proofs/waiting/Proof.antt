@@ -1,9 +1,9 @@
--- `passes::waiting` meets its contract, by the tests on the way. Assumes nothing.
+-- `waiting` meets its contract, by the tests on the way. Assumes nothing.
 use borrow.Author.Tests.{lt-ltb, le-ltb}
 use Rattle.model.specs.Numbers.{choose}
-use Rattle.reception.specs.Receives.{waitingAt}
-use Rattle.reception.proofs.waiting.Statement.{statement}
-use Rattle.reception.proofs.waiting.Tie as tie
+use Rattle.runs.specs.Waits.{waitingAt}
+use Rattle.runs.proofs.waiting.Statement.{statement}
+use Rattle.runs.proofs.waiting.Tie as tie
 
 returns : tie.Need-returns
 unfolding waitingAt choose

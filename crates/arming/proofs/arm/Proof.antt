@@ -1,11 +1,11 @@
--- `arming::arm` meets its contract. Assumes nothing.
+-- `arm` meets its contract. Assumes nothing.
 use mathlib.Core.Path.{sym, subst, ap, _∙_}
 use lib.ListN.{getD}
-use Rattle.settle.specs.Arms.{arms, Arms}
+use Rattle.arming.specs.Arms.{arms, Arms}
 use native.Mathlib.Omega.{arith}
 use borrow.Author.Needs.{needs}
-use Rattle.settle.proofs.arming.arm.Statement.{statement}
-use Rattle.settle.proofs.arming.arm.Tie as tie
+use Rattle.arming.proofs.arm.Statement.{statement}
+use Rattle.arming.proofs.arm.Tie as tie
 
 mul-run-date : tie.Need-mul-run-date
 mul-run-date c = search needs

@@ -1,10 +1,10 @@
--- `arming::last_gone` meets its contract, by the test on the count. Assumes nothing.
+-- `last_gone` meets its contract, by the test on the count. Assumes nothing.
 use native.Mathlib.Omega.{arith}
-use Rattle.settle.specs.Arms.{last-in, last-none}
+use Rattle.arming.specs.Arms.{last-in, last-none}
 use native.Mathlib.Omega.{arith}
 use borrow.Author.Needs.{needs}
-use Rattle.settle.proofs.arming.last_gone.Statement.{statement}
-use Rattle.settle.proofs.arming.last_gone.Tie as tie
+use Rattle.arming.proofs.last_gone.Statement.{statement}
+use Rattle.arming.proofs.last_gone.Tie as tie
 
 sub-nth-gone : tie.Need-sub-nth-gone
 sub-nth-gone c = search needs

@@ -1,11 +1,11 @@
--- `arming::gone_below` meets its contract, by cases. Assumes nothing.
+-- `gone_below` meets its contract, by cases. Assumes nothing.
 use mathlib.Core.Path.{ap, sym, _∙_}
 use Rattle.instants.specs.Instants.{goneBelow}
 use Rattle.device.specs.Holds.{flightOf}
 use native.Mathlib.Omega.{arith}
 use borrow.Author.Needs.{needs}
-use Rattle.settle.proofs.arming.gone_below.Statement.{statement}
-use Rattle.settle.proofs.arming.gone_below.Tie as tie
+use Rattle.arming.proofs.gone_below.Statement.{statement}
+use Rattle.arming.proofs.gone_below.Tie as tie
 
 enum-told : tie.Need-enum-told
 enum-told c = search needs

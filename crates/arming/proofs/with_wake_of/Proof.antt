@@ -1,7 +1,7 @@
--- `arming::with_wake_of` meets its contract, field by field. Assumes nothing.
+-- `with_wake_of` meets its contract, field by field. Assumes nothing.
 use borrow.Author.Needs.{needs}
-use Rattle.settle.proofs.arming.with_wake_of.Statement.{statement}
-use Rattle.settle.proofs.arming.with_wake_of.Tie as tie
+use Rattle.arming.proofs.with_wake_of.Statement.{statement}
+use Rattle.arming.proofs.with_wake_of.Tie as tie
 
 with-wake-requires : tie.Need-with-wake-requires
 with-wake-requires c κs = search needs

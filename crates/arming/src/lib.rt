@@ -13,7 +13,7 @@ ghost use Rattle.model.specs.Arm.{nthGone, lastGone};
 ghost use Rattle.instants.specs.Instants.{goneBelow};
 ghost use Rattle.queue.specs.Cursors.{Held};
 ghost use Rattle.device.specs.Holds.{flightOf};
-ghost use Rattle.settle.specs.Arms.{Ready, Armed, ArmsAny, withWakeOf};
+ghost use Rattle.arming.specs.Arms.{Ready, Armed, ArmsAny, withWakeOf};
 
 // When the n-th byte in flight has gone.
 fn nth_gone(gone_at: &[u64; 129], flight: Cursor, n: usize) -> Date
@@ -77,7 +77,7 @@ fn armed(core: Core, gone_at: &[u64; 129], run_date: u64) -> Date
     let receiving = core.receiving;
     let settings = timing::settings(words, control.period);
     let last = last_gone(gone_at, core.flight);
-    let waits = reception::waiting(core.host.count, core.runs.count, run_date);
+    let waits = runs::waiting(core.host.count, core.runs.count, run_date);
     let landing = instants::arming::next_landing(settings.byte_time, receiving, waits, line);
     let comes = control::idle::timeout_at(settings, line);
     let timeout = instants::arming::only_if(settings.rx_tout_en, comes);

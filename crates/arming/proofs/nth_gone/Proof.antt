@@ -1,12 +1,12 @@
--- `arming::nth_gone` meets its contract, by the test on the count. Assumes nothing.
+-- `nth_gone` meets its contract, by the test on the count. Assumes nothing.
 use mathlib.Core.Path.{ap, _∙_}
 use lib.ListN.{getD}
 use Rattle.model.specs.declared.Date.{Date}
-use Rattle.settle.specs.Arms.{gone-in, gone-out}
+use Rattle.arming.specs.Arms.{gone-in, gone-out}
 use native.Mathlib.Omega.{arith}
 use borrow.Author.Needs.{needs}
-use Rattle.settle.proofs.arming.nth_gone.Statement.{statement}
-use Rattle.settle.proofs.arming.nth_gone.Tie as tie
+use Rattle.arming.proofs.nth_gone.Statement.{statement}
+use Rattle.arming.proofs.nth_gone.Tie as tie
 
 nth-requires : tie.Need-nth-requires
 nth-requires c κs = search needs
