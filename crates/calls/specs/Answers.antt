@@ -27,7 +27,7 @@ use Rattle.notices.specs.Reports.{reported, report-of}
 use Rattle.notices.specs.declared.Notices.{Notices}
 use Rattle.device.specs.Holds.{Arrays, abs, Shape, Ok}
 use Rattle.settle.specs.Settles.{Settles}
-use Rattle.settle.specs.Arms.{Arms}
+use Rattle.arming.specs.Arms.{Arms}
 use Rattle.device.specs.declared.Core.{Core}
 use Rattle.calls.specs.declared.answers.DoneCore.{DoneCore}
 

@@ -22,7 +22,7 @@ use Rattle.queue.specs.Laws.{elems-length, elems-none}
 use Rattle.instants.specs.Levels
 use Rattle.device.specs.Holds.{Arrays, sentAt, abs, Shape, Ok}
 use Rattle.settle.specs.Settles.{control-after}
-use Rattle.settle.specs.Arms.{Ready}
+use Rattle.arming.specs.Arms.{Ready}
 use Rattle.device.specs.declared.Core.{Core}
 
 abbrev pub withControlOf : Control → Core → Core

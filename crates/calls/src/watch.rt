@@ -3,13 +3,12 @@ use crate::answers;
 use crate::answers::DoneCore;
 use device::Core;
 use refusals::Checked;
-use settle::arming;
 ghost use mathlib.Core.Path.{_≡_};
 ghost use lib.ListN.{length};
 ghost use Rattle.model.specs.Calls.{watch as Calls·watch};
 ghost use Rattle.queue.specs.Cursors.{Held};
 ghost use Rattle.device.specs.Holds.{Arrays, Ok};
-ghost use Rattle.settle.specs.Arms.{Ready};
+ghost use Rattle.arming.specs.Arms.{Ready};
 ghost use Rattle.calls.specs.Changes.{watchedCore};
 ghost use Rattle.calls.specs.Answers.{DoneWith};
 

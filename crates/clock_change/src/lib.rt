@@ -5,7 +5,6 @@ use calls::settled_at;
 use clock::Clock;
 use device::Core;
 use refusals::Checked;
-use settle::arming;
 use settle::settling;
 ghost use mathlib.Core.Path.{_≡_};
 ghost use Prim.Native.Nat.{_<_, _≤_};

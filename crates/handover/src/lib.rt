@@ -1,4 +1,2 @@
-// Bytes handed out as sent, and as written. Carried over from inkemu's uart.rs and changed: they go into a lent buffer.
-pub mod take_tx;
-pub mod take_written;
+// Bytes handed out into a lent buffer: what take_tx and take_written give back. Carried over from inkemu's uart.rs and changed.
 pub mod taking;

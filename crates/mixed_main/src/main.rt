@@ -2,7 +2,6 @@
 // with one, an interrupt handler reads it, and a console takes what was sent. compare/programs/src/bin/workload.rs does the
 // same on the published Rust.
 use device::Core;
-use handover::take_tx;
 use libc::STDOUT_FILENO;
 use model::Read;
 use model::SetUp;

@@ -1,3 +1,3 @@
 -- What the contracts of `receive` say, and the laws of it.
-pub mod Joins
+pub mod Hands
 pub mod Receives

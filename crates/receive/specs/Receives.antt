@@ -3,33 +3,34 @@ use mathlib.Core.Path.{_≡_, refl, sym, ap, subst, _∙_}
 use mathlib.Core.Bool.{false}
 use mathlib.Core.List.{List, [], _∷_, _++_}
 use mathlib.Core.Logic.{⊎-elim}
+use mathlib.Core.Option.{Option, none}
 use Prim.Native.Nat.{ℕ, _+_, _-_, _≤_, _<_}
 use native.Mathlib.Omega.{arith}
 use borrow.Author.Tests.{ltb-false}
 use lib.ListN.{length, take, getD}
-use Rattle.model.specs.State
-use Rattle.model.specs.State.{Run, withHost}
+use Rattle.model.specs.State.{Run}
 use Rattle.model.specs.Settle
-use Rattle.model.specs.Arm.{arm}
-use Rattle.model.specs.Calls.{afterSettling, dated, settledAt, quiet, lastDate, hostDate, joined, handOver}
-use Rattle.model.specs.Tests.{hostFull, runsFull}
+use Rattle.model.specs.Calls
+use Rattle.model.specs.Calls.{unless, dated, settledAt, quiet, lastDate, hostDate, handOver, receiveWork}
+use Rattle.model.specs.Tests.{dateEnd, hostFull, runsFull}
+use Rattle.model.specs.Keeps.Dated.{not-refused}
 use Rattle.model.specs.Limits.{sum, runCounts}
 use Rattle.model.specs.Keeps.Kept.{Kept, settle-keeps, fewer-waiting, fewer-runs, last-run}
 use Rattle.model.specs.Keeps.EachCall.{room-before}
 use Rattle.model.specs.declared.Done.{Done}
-use Rattle.notices.specs.Notices.{noted}
+use Rattle.model.specs.declared.Refusal.{Refusal}
 use Rattle.refusals.specs.Refusals.{receiving}
+use Rattle.refusals.specs.Calls.{receive-tests}
 use Rattle.queue.specs.Slots.{side}
-use Rattle.queue.specs.Cursors.{slotOf, lastOf, pushedBy}
-use Rattle.queue.specs.Laws.{elems-length, elems-last, push-held}
-use Rattle.copies.specs.Append.{storedFrom, stored-length, append-elems}
-use Rattle.queue.specs.declared.Cursor.{Cursor}
-use Rattle.device.specs.Holds.{Arrays, runAt, runsOf, abs, Shape, Ok}
+use Rattle.queue.specs.Cursors.{slotOf, lastOf}
+use Rattle.queue.specs.Laws.{elems-length, elems-last}
+use Rattle.device.specs.Holds.{Arrays, runAt, runsOf, abs, Ok}
 use Rattle.settle.specs.Settles.{Settles}
-use Rattle.settle.specs.Arms.{Arms}
 use Rattle.device.specs.declared.Core.{Core}
-use Rattle.calls.specs.Answers.{Works, reportOf, after}
-use Rattle.receive.specs.Joins.{RoomFor, Joins, last-some}
+use Rattle.calls.specs.Answers.{Works, after, in-time, doneCore}
+use Rattle.calls.specs.declared.answers.DoneCore.{DoneCore}
+use Rattle.runs.specs.Joins.{RoomFor, last-some}
+use Rattle.receive.specs.Hands.{waitingArrays, Takes, HandsAny}
 
 -- tests 5 and 6 do not refuse so many bytes for a date
 pub record Room (c : Core) (a : Arrays) (date n : ℕ) : Type 0 where
@@ -86,77 +87,56 @@ module _ (cycle date k : ℕ) (c : Core) (a : Arrays) {c₁ : Core} {a₁ : Arra
     fits = λ pos. omega (arith, count-low c₁ a₁ (s .ok) pos, host-room);
   }
 
--- ---- the state once the bytes wait
+-- ---- what a hand-over asks, after the settling
 
-abbrev pub waitingCore : Core → Cursor → Cursor → Core
-waitingCore c host runs = record {
-  map = c .map;
-  control = c .control;
-  receiving = c .receiving;
-  byte = c .byte;
-  flight = c .flight;
-  tx = c .tx;
-  host = host;
-  runs = runs;
-  rx = c .rx;
-}
+pub takes : (cycle date : ℕ) (bs : List ℕ) {c : Core} {a : Arrays} {d : ℕ} → Room c a date (length bs) → {c₁ : Core} {a₁ : Arrays} {n o : ℕ}
+    → Settles (settledAt cycle (abs c a)) c₁ a₁ n o → d ≡ date → Takes c₁ (a₁ .goneAt) (a₁ .host) (a₁ .runDates) (a₁ .runCounts) d (length bs)
+takes cycle date bs {c} {a} room {c₁} {a₁} s e =
+    let k = s .ok .shape in
+    subst (λ (x : ℕ). Takes c₁ (a₁ .goneAt) (a₁ .host) (a₁ .runDates) (a₁ .runCounts) x (length bs)) (sym e)
+    (record {
+      ready = record { flight = k .flight; slots = k .goneAtSlots; period = s .ok .within .periodHigh };
+      host = k .host;
+      hostSlots = k .hostSlots;
+      runs = k .runs;
+      dateSlots = k .runDateSlots;
+      countSlots = k .runCountSlots;
+      room = λ h. host-room cycle date (length bs) c a s room h;
+      runsRoom = λ h. runs-room cycle date (length bs) c a s room h;
+    })
 
-abbrev pub waitingArrays : Arrays → List ℕ → List ℕ → List ℕ → Arrays
-waitingArrays a host dates counts =
-    record { goneAt = a .goneAt; flight = a .flight; tx = a .tx; host = host; runDates = dates; runCounts = counts; rx = a .rx }
-
-handed : (date : ℕ) (bs : List ℕ) (u : State.Uart ℕ ℕ) → 1 ≤ length bs → handOver date bs u ≡ arm (withHost (u .host ++ bs) (joined date (length bs) (u .hostRuns)) u)
-unfolding handOver
-handed date [] u h = absurd (omega arith)
-handed date (b ∷ bs) u h = refl
-
-module _ (date : ℕ) (bs : List ℕ) (c : Core) (a : Arrays) (k : Shape c a) (room : c .host .count + length bs ≤ 1024)
-    {hosts′ : List ℕ} (stored : hosts′ ≡ storedFrom 1024 (a .host) (c .host .start + c .host .count) bs)
-    {runs′ : Cursor} {dates′ counts′ : List ℕ} (j : Joins date (length bs) (c .runs) (a .runDates) (a .runCounts) runs′ dates′ counts′) where
-  abbrev pub nextCore : Core
-  nextCore = waitingCore c (pushedBy (length bs) (c .host)) runs′
-
-  abbrev pub nextArrays : Arrays
-  nextArrays = waitingArrays a hosts′ dates′ counts′
-
-  pub waits-shape : Shape nextCore nextArrays
-  waits-shape = record {
-    flight = k .flight;
-    tx = k .tx;
-    host = push-held 1024 (c .host) (k .host) (length bs) room;
-    runs = j .held;
-    rx = k .rx;
-    goneAtSlots = k .goneAtSlots;
-    flightSlots = k .flightSlots;
-    txSlots = k .txSlots;
-    hostSlots = ap length stored ∙ stored-length 1024 (a .host) _ bs ∙ k .hostSlots;
-    runDateSlots = j .dateSlots;
-    runCountSlots = j .countSlots;
-    rxSlots = k .rxSlots;
-  }
-
-  waits-abs : abs nextCore nextArrays ≡ withHost (abs c a .host ++ bs) (joined date (length bs) (abs c a .hostRuns)) (abs c a)
-  waits-abs = rw (stored, append-elems 0 1024 bs (a .host) (c .host) (k .hostSlots) (k .host) room, j .same)
-
-  -- settled, put behind the others, and armed
-  pub received : {t : Settle.Settled ℕ ℕ} {n o : ℕ} {c₂ : Core} → Settles t c a n o → 1 ≤ length bs → Arms nextCore nextArrays c₂
-      → Works (λ x. x) (afterSettling t (λ s. quiet Done.Done (handOver date bs s))) c₂ nextArrays Done.Done (reportOf c₂ n o (noted []))
-  unfolding quiet
-  received s h armed =
-      after (λ x. x) s _
-      (record { shape = armed .shape; replies = refl; notes = refl; state = armed .same ∙ ap arm waits-abs ∙ sym (handed date bs (abs c a) h) })
-
--- an empty hand-over
-pub received-none : (date : ℕ) (bs : List ℕ) {t : Settle.Settled ℕ ℕ} {c : Core} {a : Arrays} {n o : ℕ} → Settles t c a n o → length bs ≡ 0
-    → Works (λ x. x) (afterSettling t (λ s. quiet Done.Done (handOver date bs s))) c a Done.Done (reportOf c n o (noted []))
-unfolding quiet handOver
-received-none date [] s e = after (λ x. x) s _ (record { shape = s .ok .shape; replies = refl; notes = refl; state = refl })
-received-none date (b ∷ bs) s e = absurd (omega arith)
+-- settled, and handed over
+pub received : (cycle at : ℕ) (bs : List ℕ) {c : Core} {a : Arrays} → Ok c a → {c₁ : Core} {a₁ : Arrays} {n o d : ℕ} {c₂ : Core} {hosts′ dates′ counts′ : List ℕ} {r : DoneCore}
+    → Settles (settledAt cycle (abs c a)) c₁ a₁ n o → d ≡ hostDate cycle at
+    → HandsAny d bs c₁ (a₁ .goneAt) (a₁ .host) (a₁ .runDates) (a₁ .runCounts) c₂ hosts′ dates′ counts′ → r ≡ doneCore c₂ n o
+    → Works (λ x. x) (receiveWork cycle at bs (abs c a)) (r .core) (waitingArrays a₁ hosts′ dates′ counts′) (r .reply) (r .report)
+unfolding receiveWork quiet
+received cycle at bs {c} {a} _ {c₁} {a₁} {c₂ = c₂} {hosts′} {dates′} {counts′} s e hands same =
+    let k = hands a₁ refl refl refl refl (s .ok .shape) in
+    subst (λ (x : DoneCore). Works (λ w. w) (receiveWork cycle at bs (abs c a)) (x .core) (waitingArrays a₁ hosts′ dates′ counts′) (x .reply) (x .report)) (sym same)
+    (after (λ x. x) s _
+    (record { shape = k .shape; replies = refl; notes = refl; state = k .same ∙ ap (λ (x : ℕ). handOver x bs (abs c₁ a₁)) e }))
 
 -- ---- the tests, from the numbers that the code reads
 
-pub tested : (cycle at : ℕ) (bs : List ℕ) (c : Core) (a : Arrays) {last date : ℕ} → last ≡ lastDate (abs c a .hostRuns) → date ≡ hostDate cycle at
+tested : (cycle at : ℕ) (bs : List ℕ) (c : Core) (a : Arrays) {last date : ℕ} → last ≡ lastDate (abs c a .hostRuns) → date ≡ hostDate cycle at
     → receiving cycle (c .control .last) (record { bytes = c .host .count; runs = c .runs .count; «last_date» = last }) (length bs) date
     ≡ receiving cycle (c .control .last)
     (record { bytes = length (abs c a .host); runs = length (abs c a .hostRuns); «last_date» = lastDate (abs c a .hostRuns) }) (length bs) (hostDate cycle at)
 tested cycle at bs c a el ed = rw (el, ed, elems-length (slotOf (a .host) 0) 1024 (c .host), elems-length (runAt (a .runDates) (a .runCounts)) 64 (c .runs))
+
+module _ (cycle at : ℕ) (bs : List ℕ) {c : Core} {a : Arrays} (ok : Ok c a) {last date : ℕ} (el : last ≡ lastDate (abs c a .hostRuns)) (ed : date ≡ hostDate cycle at) where
+  abbrev pub checked : Option Refusal
+  checked = receiving cycle (c .control .last) (record { bytes = c .host .count; runs = c .runs .count; «last_date» = last }) (length bs) date
+
+  pub receive-checks : Calls.receive cycle at bs (abs c a) ≡ unless checked Done.Refused (receiveWork cycle at bs) (abs c a)
+  receive-checks =
+      receive-tests cycle (abs c a) at bs
+      ∙ ap (λ (t : Option Refusal). unless t Done.Refused (receiveWork cycle at bs) (abs c a)) (sym (tested cycle at bs c a el ed))
+
+  pub left-room : checked ≡ none → Ok c a × (cycle < dateEnd) × Room c a (hostDate cycle at) (length bs)
+  unfolding receiving
+  left-room e =
+      let tests = in-time cycle (c .control .last) _ (sym (tested cycle at bs c a el ed) ∙ e) in
+      let five = not-refused _ _ _ (tests .1) in
+      (ok, tests .0, record { host = five .0; runs = not-refused _ _ none (five .1) .0 })

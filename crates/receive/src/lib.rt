@@ -1,13 +1,10 @@
 // receive: settle, put the bytes behind the host bytes that wait, and arm. An empty one arms no wake.
-mod runs;
-
 use calls::answers;
 use calls::answers::DoneCore;
 use calls::settled_at;
 use device::Core;
 use refusals::Checked;
 use refusals::Waiting;
-use settle::arming;
 ghost use mathlib.Core.Path.{_≡_};
 ghost use Prim.Native.Nat.{_<_};
 ghost use lib.ListN.{length};
@@ -16,6 +13,7 @@ ghost use Rattle.model.specs.Calls.{receive as Calls·receive, receiveWork, hos
 ghost use Rattle.device.specs.Holds.{abs, Ok};
 ghost use Rattle.device.specs.Wholes.{arrays};
 ghost use Rattle.calls.specs.Answers.{Works, DoneWith};
+ghost use Rattle.receive.specs.Hands.{Takes, HandsAny};
 ghost use Rattle.receive.specs.Receives.{Room};
 
 // The bytes' date: no earlier than now. In subcycles.
@@ -23,6 +21,30 @@ fn host_date(cycle: u64, at: u64) -> u64
     ensures { λ r. ⌜ r ≡ hostDate cycle at ⌝ }
 {
     dates::subcycles(dates::later(at, cycle))
+}
+
+// The bytes wait behind the others, and the wake is armed; none changes nothing.
+fn handed<'a, 'b>(
+    mut core: Core,
+    gone_at: &'a [u64; 129],
+    host: &'a mut [u8; 1024],
+    run_dates: &'a mut [u64; 64],
+    run_counts: &'a mut [u64; 64],
+    date: u64,
+    bytes: &'b [u8],
+) -> Core
+    requires { ⌜ Takes core (now «gone_at») (now host) (now «run_dates») (now «run_counts») date (length (now bytes)) ⌝ }
+    ensures { λ r. ⌜ HandsAny date (now (bytes .entry)) core (now («gone_at» .entry)) (now (host .entry)) (now («run_dates» .entry)) (now («run_counts» .entry)) r (now (host .exit)) (now («run_dates» .exit)) (now («run_counts» .exit)) ⌝ }
+{
+    let n = bytes.len();
+    if n == 0 {
+        return core;
+    }
+    let waiting = copies::append(core.host, 1024, host, bytes);
+    let runs = runs::joined(core.runs, run_dates, run_counts, date, n as u64);
+    core.host = waiting;
+    core.runs = runs;
+    arming::arm(core, gone_at, run_dates)
 }
 
 fn received<'a, 'b>(
@@ -56,23 +78,16 @@ fn received<'a, 'b>(
         rx,
         cycle,
     );
-    let n = bytes.len();
-    if n == 0 {
-        return answers::done(t.core, t.passes, t.overflows);
-    }
-    let mut settled = t.core;
-    let waiting = copies::append(settled.host, 1024, host, bytes);
-    let runs = runs::joined(
-        settled.runs,
+    let next = handed(
+        t.core,
+        gone_at,
+        host,
         run_dates,
         run_counts,
         host_date(cycle, at),
-        n as u64,
+        bytes,
     );
-    settled.host = waiting;
-    settled.runs = runs;
-    let armed = arming::arm(settled, gone_at, run_dates);
-    answers::done(armed, t.passes, t.overflows)
+    answers::done(next, t.passes, t.overflows)
 }
 
 pub fn receive<'a, 'b>(

@@ -5,7 +5,7 @@ use mathlib.Core.Bool.{Bool, true, false, false≢true}
 use mathlib.Core.Option.{Option}
 use mathlib.Core.List.{List, [], _∷_, _++_, append-nil}
 use mathlib.Core.Logic.{⊎-elim}
-use Prim.Native.Nat.{ℕ, _+_, _-_, _<_, _≤_}
+use Prim.Native.Nat.{ℕ, _-_, _<_, _≤_}
 use native.Mathlib.Omega.{arith}
 use borrow.Author.Tests.{lt-ltb, le-ltb}
 use lib.Dec.{leb}
@@ -32,7 +32,8 @@ use Rattle.control.specs.declared.Move.{Move}
 use Rattle.frames.specs.Moves.{move}
 use Rattle.frames.specs.Applied.{waiting, mark, lineByte, subject, marked, isStored, storedInto, dropIf, popRunIf, applied, pass-applied}
 use Rattle.device.specs.Holds.{runAt, hostOf, runsOf, rxOf, onTheLine}
-use Rattle.reception.specs.Receives.{num, spent, waitingAt, Fit, with, Passes}
+use Rattle.runs.specs.Waits.{waitingAt}
+use Rattle.reception.specs.Receives.{num, spent, Fit, with, Passes}
 use Rattle.reception.specs.Allows.{isOn, isSet, Allows, allows}
 use Rattle.reception.specs.declared.Reception.{Reception}
 

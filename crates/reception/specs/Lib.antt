@@ -2,4 +2,3 @@
 pub mod Receives
 pub mod Allows
 pub mod Carries
-pub mod Rounds

@@ -1,17 +1,15 @@
--- The receive side as it stands in the slots, and what a pass and all passes do to it: in any state that has such a receive
--- side they are the definition's. Assumes nothing.
+-- The receive side as it stands in the slots, and what a pass does to it: in any state that has such a receive side it is the
+-- definition's. Assumes nothing.
 use mathlib.Core.Path.{_≡_}
 use mathlib.Core.Bool.{Bool, true, false}
 use mathlib.Core.List.{List}
 use Prim.Native.Nat.{ℕ}
-use lib.Dec.{ltb, leb}
+use lib.Dec.{leb}
 use lib.ListN.{length}
 use Rattle.model.specs.State
 use Rattle.model.specs.State.{withLine}
-use Rattle.model.specs.Numbers.{choose}
 use Rattle.model.specs.Settle
-use Rattle.model.specs.Settle.{Pass, Settled, pass}
-use Rattle.model.specs.declared.Date.{Date}
+use Rattle.model.specs.Settle.{Pass}
 use Rattle.model.specs.declared.Settings.{Settings}
 use Rattle.model.specs.declared.Found.{Found}
 use Rattle.queue.specs.Cursors.{Held}
@@ -28,10 +26,6 @@ num false = 0
 unfoldable pub spent : Bool → ℕ → Bool
 spent true n = leb n 1
 spent false n = false
-
--- the date of the first run, where host bytes and runs wait
-unfoldable pub waitingAt : ℕ → ℕ → ℕ → Date
-waitingAt host runs date = choose (ltb 0 host) (choose (ltb 0 runs) (Date.At date) Date.None) Date.None
 
 -- ---- the receive side
 
@@ -63,11 +57,4 @@ module _ (s : Settings) (date : ℕ) (at : Reception) (hosts dates counts rxs : 
   pub record Passes (found : Found) : Type 0 where
     pub fit : Fit at′ hosts dates counts′ rxs′
     pub one : (u : State.Uart ℕ ℕ)
-        → _≡_ {A = Pass ℕ ℕ} (pass s date (with at hosts dates counts rxs u)) (record { found = found; state = with at′ hosts dates counts′ rxs′ u })
-
-  -- all passes: the receive side that they leave, how many there were, and the bytes lost with UartRxOverflow
-  pub record Ends (n o : ℕ) : Type 0 where
-    pub fit : Fit at′ hosts dates counts′ rxs′
-    pub all : (u : State.Uart ℕ ℕ)
-        → _≡_ {A = Settled ℕ ℕ} (Settle.passes s date (with at hosts dates counts rxs u))
-        (record { state = with at′ hosts dates counts′ rxs′ u; passes = n; overflows = o })
+        → _≡_ {A = Pass ℕ ℕ} (Settle.pass s date (with at hosts dates counts rxs u)) (record { found = found; state = with at′ hosts dates counts′ rxs′ u })

@@ -1,6 +1,5 @@
-// The receive line, pass by pass: control decides on numbers and marks, and the bytes follow.
+// A pass over the receive line: control decides on numbers and marks, and the bytes follow.
 use control::Receiving;
-use model::Date;
 use model::Found;
 use model::Line;
 use model::Settings;
@@ -8,7 +7,7 @@ use queue::Cursor;
 ghost use mathlib.Core.Path.{_≡_};
 ghost use Prim.Native.Nat.{_-_};
 ghost use Rattle.model.specs.Numbers.{choose};
-ghost use Rattle.reception.specs.Receives.{num, spent, waitingAt, Fit, Passes, Ends};
+ghost use Rattle.reception.specs.Receives.{num, spent, Fit, Passes};
 
 // What a pass changes beside the arrays.
 pub struct Reception {
@@ -23,13 +22,6 @@ pub struct Reception {
 pub struct Passed {
     pub reception: Reception,
     pub found: Found,
-}
-
-// The line after its passes, how many were made, and the bytes lost with UartRxOverflow.
-pub struct Ended {
-    pub reception: Reception,
-    pub passes: u64,
-    pub overflows: u64,
 }
 
 fn chosen(yes: bool, new: u8, old: u8) -> u8
@@ -56,18 +48,6 @@ fn is_spent(yes: bool, n: u64) -> bool
     if yes { n <= 1 } else { false }
 }
 
-// The date of the first run, if a host byte waits.
-pub fn waiting(host: usize, runs: usize, date: u64) -> Date
-    ensures { λ r. ⌜ r ≡ waitingAt host runs date ⌝ }
-{
-    if 0 < host {
-        if 0 < runs {
-            return Date::At(date);
-        }
-    }
-    Date::None
-}
-
 // One pass. A byte that starts comes off the host's queue, and a stored one goes to the back of the receive FIFO. Both stores
 // are made in every pass, of what stood there where nothing moves, so that the loop has no branch for them.
 pub fn pass<'a>(
@@ -90,7 +70,7 @@ pub fn pass<'a>(
     let next = at.rx.back(128);
     let receiving = at.receiving;
     let line = at.line;
-    let waits = waiting(at.host.count, at.runs.count, run_date);
+    let waits = runs::waiting(at.host.count, at.runs.count, run_date);
     let m = passing::pass(settings, at.rx.count, date, waits, receiving, line);
     let found = m.found;
     let stored = frames::finds::is_stored(found);
@@ -109,40 +89,4 @@ pub fn pass<'a>(
         rx: at.rx.pushed_if(stored),
     };
     Passed { reception, found }
-}
-
-// Pass by pass, to the first that finds nothing due.
-pub fn passes<'a>(
-    from: Reception,
-    settings: Settings,
-    date: u64,
-    host: &'a [u8; 1024],
-    run_dates: &'a [u64; 64],
-    run_counts: &'a mut [u64; 64],
-    rx: &'a mut [u8; 128],
-) -> Ended
-    requires { ⌜ Fit from (now host) (now «run_dates») (now «run_counts») (now rx) ⌝ }
-    ensures { λ r. ⌜ Ends settings date from (now (host .entry)) (now («run_dates» .entry)) (now («run_counts» .entry)) (now (rx .entry))
-        (r .reception) (now («run_counts» .exit)) (now (rx .exit)) (r .passes) (r .overflows) ⌝ }
-{
-    let mut at = from;
-    let mut passes: u64 = 0;
-    let mut overflows: u64 = 0;
-    loop {
-        let p = pass(at, settings, date, host, run_dates, run_counts, rx);
-        let found = p.found;
-        let reception = p.reception;
-        at = reception;
-        passes = passes + 1;
-        overflows = overflows + frames::finds::lost(found);
-        let more = frames::finds::goes_on(found);
-        if !more {
-            break;
-        }
-    }
-    Ended {
-        reception: at,
-        passes,
-        overflows,
-    }
 }

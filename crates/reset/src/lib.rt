@@ -1,7 +1,6 @@
 // reset: it ends a power-down, settles, and clears what uart.rs's `reset` clears.
 use calls::answers;
 use calls::answers::DoneCore;
-use calls::levels;
 use calls::power_down;
 use calls::settled_at;
 use device::Core;
@@ -10,7 +9,6 @@ use model::Line;
 use model::Source;
 use queue::Cursor;
 use refusals::Checked;
-use settle::arming;
 ghost use mathlib.Core.Path.{_≡_};
 ghost use Prim.Native.Nat.{_<_};
 ghost use Rattle.model.specs.Tests.{dateEnd};
@@ -79,9 +77,8 @@ fn restarted<'a>(
         cycle,
     );
     let cleared = cleared(t.core);
-    let leveled = levels::leveled(cleared);
-    let armed = arming::arm(leveled, gone_at, run_dates);
-    answers::done(armed, t.passes, t.overflows)
+    let restarted = concluding::concluded(cleared, gone_at, run_dates);
+    answers::done(restarted, t.passes, t.overflows)
 }
 
 pub fn reset<'a>(

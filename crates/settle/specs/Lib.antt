@@ -1,3 +1,2 @@
--- What a settling and its arming do to the held UART.
+-- What a settling does to the held UART.
 pub mod Settles
-pub mod Arms

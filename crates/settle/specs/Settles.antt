@@ -23,7 +23,8 @@ use Rattle.instants.specs.Levels
 use Rattle.instants.specs.Levels.{levels-line, drive-line}
 use Rattle.device.specs.Holds.{Arrays, sentAt, flightOf, txOf, abs, Ok}
 use Rattle.device.specs.Leaves.{Leaves}
-use Rattle.reception.specs.Receives.{Fit, with, Ends}
+use Rattle.reception.specs.Receives.{Fit, with}
+use Rattle.rounds.specs.Ends.{Ends}
 use Rattle.device.specs.declared.Core.{Core}
 use Rattle.reception.specs.declared.Reception.{Reception}
 

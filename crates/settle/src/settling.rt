@@ -91,7 +91,7 @@ pub fn settled<'a>(
     let before = control.line;
     let line = instants::settling::tx_done(core.flight.count, sent.flight.count, before);
     let from = reception(core, line);
-    let ended = reception::passes(from, settings, date, host, run_dates, run_counts, rx);
+    let ended = rounds::passes(from, settings, date, host, run_dates, run_counts, rx);
     let at = ended.reception;
     let last = at.line;
     let leveled = instants::settling::levels(last, words.conf1, at.rx.count, sent.flight.count);

@@ -1,10 +1,11 @@
--- What set-up makes of a core. Assumes nothing.
+-- What set-up makes: a core, and its answer. Assumes nothing.
 use Prim.Native.Nat.{ℕ}
 use mathlib.Core.List.{List}
-use Rattle.model.specs.SetUp.{mapOf, newControl}
+use Rattle.model.specs.SetUp.{mapOf, newControl, setUpReply}
 use Rattle.queue.specs.Cursors.{empty}
 use Rattle.control.specs.declared.Receiving.{Receiving}
 use Rattle.device.specs.declared.Core.{Core}
+use Rattle.setup.specs.declared.NewParts.{NewParts}
 
 -- a core with nothing in its queues
 abbrev pub newCore : List ℕ → List ℕ → Core
@@ -19,3 +20,7 @@ newCore offsets resets = record {
   runs = empty;
   rx = empty;
 }
+
+-- refused where two offsets are equal
+abbrev pub newParts : List ℕ → List ℕ → NewParts
+newParts offsets resets = record { core = newCore offsets resets; reply = setUpReply offsets }

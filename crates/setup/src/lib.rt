@@ -6,13 +6,14 @@ use model::Control;
 use model::Date;
 use model::Line;
 use model::RegisterMap;
+use model::SetUp;
 use model::Source;
 use model::Words;
 use queue::Cursor;
 ghost use mathlib.Core.Path.{_≡_};
 ghost use Rattle.model.specs.Numbers.{without};
 ghost use Rattle.model.specs.SetUp.{wordsAmong, fifoCounts, mapOf, newControl};
-ghost use Rattle.setup.specs.NewCore.{newCore};
+ghost use Rattle.setup.specs.NewCore.{newCore, newParts};
 
 // STATUS bits 0-9, RXFIFO_CNT, and 16-25, TXFIFO_CNT.
 const FIFO_COUNTS: u32 = 0x03FF03FF;
@@ -96,4 +97,18 @@ pub fn new_core(offsets: [u32; 16], resets: [u32; 16]) -> Core
         runs: none,
         rx: none,
     }
+}
+
+// A new core, and what set-up answers.
+pub struct NewParts {
+    pub core: Core,
+    pub reply: SetUp,
+}
+
+pub fn set_up(offsets: [u32; 16], resets: [u32; 16]) -> NewParts
+    ensures { λ r. ⌜ r ≡ newParts offsets resets ⌝ }
+{
+    let core = new_core(offsets, resets);
+    let reply = refusals::set_up_reply(offsets);
+    NewParts { core, reply }
 }

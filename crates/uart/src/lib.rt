@@ -3,8 +3,6 @@
 use calls::power_down;
 use calls::watch;
 use device::Core;
-use handover::take_tx;
-use handover::take_written;
 use model::Done;
 use model::Read;
 use model::Report;
@@ -84,7 +82,8 @@ impl Uart {
     pub fn new(offsets: [u32; 16], resets: [u32; 16]) -> NewUart
         ensures { λ r. ⌜ SetsUp offsets resets (r .uart) (r .reply) ⌝ }
     {
-        let core = setup::new_core(offsets, resets);
+        let made = setup::set_up(offsets, resets);
+        let core = made.core;
         let gone_at = [0u64; 129];
         let flight = [0u8; 129];
         let tx = [0u8; 1152];
@@ -102,7 +101,7 @@ impl Uart {
             run_counts,
             rx,
         };
-        let reply = refusals::set_up_reply(offsets);
+        let reply = made.reply;
         NewUart { uart, reply }
     }
 

@@ -4,7 +4,6 @@ use calls::answers::DoneCore;
 use calls::settled_at;
 use device::Core;
 use refusals::Checked;
-use settle::arming;
 ghost use mathlib.Core.Path.{_≡_};
 ghost use Prim.Native.Nat.{_<_};
 ghost use Rattle.model.specs.Tests.{dateEnd};

@@ -1,6 +1,5 @@
 // write: settle, then the write at a place, then levels, interrupt and wake.
 
-use calls::levels;
 use calls::settled_at;
 use device::Core;
 use model::Place;
@@ -11,21 +10,22 @@ use notices::Notices;
 use notices::reports;
 use refusals::Checked;
 use registers::places;
-use settle::arming;
 use writing::Put;
 use writing::sending;
 ghost use mathlib.Core.Path.{_≡_};
-ghost use Prim.Native.Nat.{_<_, _%_};
+ghost use Prim.Native.Nat.{_<_, _≤_, _%_};
 ghost use lib.ListN.{length};
-ghost use Rattle.model.specs.Tests.{dateEnd};
+ghost use Rattle.model.specs.Tests.{dateEnd, periodLimit};
 ghost use Rattle.model.specs.Replies.{writeNumber};
-ghost use Rattle.model.specs.Calls.{write as Calls·write, writePlaced, writeWork, send as Calls·send, sendWork};
+ghost use Rattle.model.specs.Calls.{write as Calls·write};
 ghost use Rattle.queue.specs.Cursors.{Held};
+ghost use Rattle.refusals.specs.Refusals.{verdict};
 ghost use Rattle.device.specs.Holds.{abs, Ok};
-ghost use Rattle.settle.specs.Arms.{Ready};
+ghost use Rattle.arming.specs.Arms.{Ready};
 ghost use Rattle.device.specs.Wholes.{arrays};
 ghost use Rattle.calls.specs.Answers.{Works, Answers};
 ghost use Rattle.write.specs.Structs.{writeCore, refusedWrite};
+ghost use Rattle.write.specs.ByPlace.{isFifo, testsAt, workAt, PutsAny};
 ghost use Rattle.write.specs.Concludes.{ConcludesAny};
 
 #[repr(C)]
@@ -59,6 +59,68 @@ fn refused(core: Core, refusal: Refusal) -> WriteCore
     }
 }
 
+fn is_fifo(place: Place) -> bool
+    ensures { λ r. ⌜ r ≡ isFifo place ⌝ }
+{
+    match place {
+        Place::Fifo => true,
+        Place::IntRaw
+        | Place::IntSt
+        | Place::IntEna
+        | Place::IntClr
+        | Place::Clkdiv
+        | Place::Status
+        | Place::FsmStatus
+        | Place::Conf0
+        | Place::Conf1
+        | Place::ClkConf
+        | Place::IdleConf
+        | Place::Rs485Conf
+        | Place::AtCmdChar
+        | Place::MemConf
+        | Place::MemRxStatus
+        | Place::Unknown => false,
+    }
+}
+
+fn low_byte(value: u32) -> u8
+    ensures { λ r. ⌜ r ≡ value % 256 ⌝ }
+{
+    (value & 0xFF) as u8
+}
+
+// A write to FIFO has one test more.
+fn tests_at(fifo: bool, cycle: u64, last: u64, left: usize, flying: usize) -> Checked
+    ensures { λ r. ⌜ verdict r ≡ testsAt fifo cycle last left flying ⌝ }
+{
+    if fifo {
+        refusals::send_refusal(cycle, last, left, flying)
+    } else {
+        refusals::date_refusal(cycle, last)
+    }
+}
+
+// FIFO sends a byte, and any other place takes the word.
+fn put_at<'a>(
+    core: Core,
+    gone_at: &'a mut [u64; 129],
+    flight: &'a mut [u8; 129],
+    cycle: u64,
+    fifo: bool,
+    byte: u8,
+    place: Place,
+    value: u32,
+) -> Put
+    requires { ⌜ Held 129 (core .flight) × (length (now «gone_at») ≡ 129) × (length (now flight) ≡ 129) × (core .control .period ≤ periodLimit) ⌝ }
+    ensures { λ r. ⌜ PutsAny fifo cycle byte place value core (now («gone_at» .entry)) (now (flight .entry)) r (now («gone_at» .exit)) (now (flight .exit)) ⌝ }
+{
+    if fifo {
+        sending::send_byte(core, gone_at, flight, cycle, byte)
+    } else {
+        writing::write_place(core, place, value)
+    }
+}
+
 // Every write raises levels, drives the interrupt and arms, accepted or not.
 fn concluded<'a>(
     put: Put,
@@ -72,89 +134,12 @@ fn concluded<'a>(
 {
     let reply = put.reply;
     let notices = put.notices;
-    let leveled = levels::leveled(put.core);
-    let armed = arming::arm(leveled, gone_at, run_dates);
-    answered(armed, reply, passes, overflows, notices)
+    let core = concluding::concluded(put.core, gone_at, run_dates);
+    answered(core, reply, passes, overflows, notices)
 }
 
 fn write_settled<'a>(
     core: Core,
-    gone_at: &'a [u64; 129],
-    flight: &'a [u8; 129],
-    tx: &'a mut [u8; 1152],
-    host: &'a [u8; 1024],
-    run_dates: &'a [u64; 64],
-    run_counts: &'a mut [u64; 64],
-    rx: &'a mut [u8; 128],
-    cycle: u64,
-    place: Place,
-    value: u32,
-) -> WriteCore
-    requires { ⌜ Ok core (arrays (now «gone_at») (now flight) (now tx) (now host) (now «run_dates») (now «run_counts») (now rx)) × (cycle < dateEnd) ⌝ }
-    ensures { λ r. ⌜ Works (λ x. x)
-        (writeWork cycle place value (abs core (arrays (now («gone_at» .entry)) (now (flight .entry)) (now (tx .entry)) (now (host .entry)) (now («run_dates» .entry)) (now («run_counts» .entry)) (now (rx .entry)))))
-        (r .core)
-        (arrays (now («gone_at» .entry)) (now (flight .entry)) (now (tx .exit)) (now (host .entry)) (now («run_dates» .entry)) (now («run_counts» .exit)) (now (rx .exit)))
-        (r .reply) (r .report) ⌝ }
-{
-    let t = settled_at::settled_at(
-        core,
-        gone_at,
-        flight,
-        tx,
-        host,
-        run_dates,
-        run_counts,
-        rx,
-        cycle,
-    );
-    let settled = t.core;
-    let put = writing::write_place(settled, place, value);
-    concluded(put, gone_at, run_dates, t.passes, t.overflows)
-}
-
-fn write_placed<'a>(
-    core: Core,
-    gone_at: &'a [u64; 129],
-    flight: &'a [u8; 129],
-    tx: &'a mut [u8; 1152],
-    host: &'a [u8; 1024],
-    run_dates: &'a [u64; 64],
-    run_counts: &'a mut [u64; 64],
-    rx: &'a mut [u8; 128],
-    cycle: u64,
-    place: Place,
-    value: u32,
-) -> WriteCore
-    requires { ⌜ Ok core (arrays (now «gone_at») (now flight) (now tx) (now host) (now «run_dates») (now «run_counts») (now rx)) ⌝ }
-    ensures { λ r. ⌜ Answers (λ x. x) writeNumber (writePlaced cycle place value (abs core (arrays (now («gone_at» .entry)) (now (flight .entry)) (now (tx .entry)) (now (host .entry)) (now («run_dates» .entry)) (now («run_counts» .entry)) (now (rx .entry))))) core
-        (arrays (now («gone_at» .entry)) (now (flight .entry)) (now (tx .entry)) (now (host .entry)) (now («run_dates» .entry)) (now («run_counts» .entry)) (now (rx .entry)))
-        (r .core)
-        (arrays (now («gone_at» .entry)) (now (flight .entry)) (now (tx .exit)) (now (host .entry)) (now («run_dates» .entry)) (now («run_counts» .exit)) (now (rx .exit)))
-        (r .reply) (r .report) ⌝ }
-{
-    let control = core.control;
-    let tests = refusals::date_refusal(cycle, control.last);
-    match tests {
-        Checked::Refused(refusal) => refused(core, refusal),
-        Checked::Passed => write_settled(
-            core,
-            gone_at,
-            flight,
-            tx,
-            host,
-            run_dates,
-            run_counts,
-            rx,
-            cycle,
-            place,
-            value,
-        ),
-    }
-}
-
-fn send_settled<'a>(
-    core: Core,
     gone_at: &'a mut [u64; 129],
     flight: &'a mut [u8; 129],
     tx: &'a mut [u8; 1152],
@@ -163,11 +148,14 @@ fn send_settled<'a>(
     run_counts: &'a mut [u64; 64],
     rx: &'a mut [u8; 128],
     cycle: u64,
+    fifo: bool,
     byte: u8,
+    place: Place,
+    value: u32,
 ) -> WriteCore
     requires { ⌜ Ok core (arrays (now «gone_at») (now flight) (now tx) (now host) (now «run_dates») (now «run_counts») (now rx)) × (cycle < dateEnd) ⌝ }
     ensures { λ r. ⌜ Works (λ x. x)
-        (sendWork cycle byte (abs core (arrays (now («gone_at» .entry)) (now (flight .entry)) (now (tx .entry)) (now (host .entry)) (now («run_dates» .entry)) (now («run_counts» .entry)) (now (rx .entry)))))
+        (workAt fifo cycle byte place value (abs core (arrays (now («gone_at» .entry)) (now (flight .entry)) (now (tx .entry)) (now (host .entry)) (now («run_dates» .entry)) (now («run_counts» .entry)) (now (rx .entry)))))
         (r .core)
         (arrays (now («gone_at» .exit)) (now (flight .exit)) (now (tx .exit)) (now (host .entry)) (now («run_dates» .entry)) (now («run_counts» .exit)) (now (rx .exit)))
         (r .reply) (r .report) ⌝ }
@@ -183,54 +171,8 @@ fn send_settled<'a>(
         rx,
         cycle,
     );
-    let settled = t.core;
-    let put = sending::send_byte(settled, gone_at, flight, cycle, byte);
+    let put = put_at(t.core, gone_at, flight, cycle, fifo, byte, place, value);
     concluded(put, gone_at, run_dates, t.passes, t.overflows)
-}
-
-// A write to FIFO.
-fn send<'a>(
-    core: Core,
-    gone_at: &'a mut [u64; 129],
-    flight: &'a mut [u8; 129],
-    tx: &'a mut [u8; 1152],
-    host: &'a [u8; 1024],
-    run_dates: &'a [u64; 64],
-    run_counts: &'a mut [u64; 64],
-    rx: &'a mut [u8; 128],
-    cycle: u64,
-    byte: u8,
-) -> WriteCore
-    requires { ⌜ Ok core (arrays (now «gone_at») (now flight) (now tx) (now host) (now «run_dates») (now «run_counts») (now rx)) ⌝ }
-    ensures { λ r. ⌜ Answers (λ x. x) writeNumber (Calls·send cycle byte (abs core (arrays (now («gone_at» .entry)) (now (flight .entry)) (now (tx .entry)) (now (host .entry)) (now («run_dates» .entry)) (now («run_counts» .entry)) (now (rx .entry))))) core
-        (arrays (now («gone_at» .entry)) (now (flight .entry)) (now (tx .entry)) (now (host .entry)) (now («run_dates» .entry)) (now («run_counts» .entry)) (now (rx .entry)))
-        (r .core)
-        (arrays (now («gone_at» .exit)) (now (flight .exit)) (now (tx .exit)) (now (host .entry)) (now («run_dates» .entry)) (now («run_counts» .exit)) (now (rx .exit)))
-        (r .reply) (r .report) ⌝ }
-{
-    let control = core.control;
-    let tests = refusals::send_refusal(cycle, control.last, core.tx.count, core.flight.count);
-    match tests {
-        Checked::Refused(refusal) => refused(core, refusal),
-        Checked::Passed => send_settled(
-            core,
-            gone_at,
-            flight,
-            tx,
-            host,
-            run_dates,
-            run_counts,
-            rx,
-            cycle,
-            byte,
-        ),
-    }
-}
-
-fn low_byte(value: u32) -> u8
-    ensures { λ r. ⌜ r ≡ value % 256 ⌝ }
-{
-    (value & 0xFF) as u8
 }
 
 pub fn write<'a>(
@@ -256,8 +198,12 @@ pub fn write<'a>(
     let map = core.map;
     let offsets = map.offsets;
     let place = places::place_of(offsets, offset);
-    match place {
-        Place::Fifo => send(
+    let fifo = is_fifo(place);
+    let control = core.control;
+    let tests = tests_at(fifo, cycle, control.last, core.tx.count, core.flight.count);
+    match tests {
+        Checked::Refused(refusal) => refused(core, refusal),
+        Checked::Passed => write_settled(
             core,
             gone_at,
             flight,
@@ -267,33 +213,8 @@ pub fn write<'a>(
             run_counts,
             rx,
             cycle,
+            fifo,
             low_byte(value),
-        ),
-        Place::IntRaw
-        | Place::IntSt
-        | Place::IntEna
-        | Place::IntClr
-        | Place::Clkdiv
-        | Place::Status
-        | Place::FsmStatus
-        | Place::Conf0
-        | Place::Conf1
-        | Place::ClkConf
-        | Place::IdleConf
-        | Place::Rs485Conf
-        | Place::AtCmdChar
-        | Place::MemConf
-        | Place::MemRxStatus
-        | Place::Unknown => write_placed(
-            core,
-            gone_at,
-            flight,
-            tx,
-            host,
-            run_dates,
-            run_counts,
-            rx,
-            cycle,
             place,
             value,
         ),

@@ -4,7 +4,6 @@ use device::Core;
 use model::Date;
 use model::Write;
 use registers::words;
-use settle::arming;
 ghost use mathlib.Core.Path.{_≡_};
 ghost use Prim.Native.Nat.{ℕ, _≤_};
 ghost use mathlib.Core.List.{List};

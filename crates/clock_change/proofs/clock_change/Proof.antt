@@ -1,13 +1,11 @@
 -- `clock_change` meets its contract: refused as the tests say, or carried out. Assumes nothing.
-use mathlib.Core.Path.{refl}
 use mathlib.Core.Option.{none}
-use Rattle.model.specs.Calls.{clockWork, afterSettling, quiet}
+use Rattle.model.specs.Calls.{clockChange, clockWork}
 use Rattle.model.specs.Keeps.EachCall.{clockChange-within}
-use Rattle.model.specs.Replies.{doneNumber}
-use Rattle.model.specs.declared.Done.{Done}
 use Rattle.refusals.specs.Calls.{clock-tests}
 use Rattle.refusals.specs.Refusals.{clocking}
-use Rattle.calls.specs.Answers.{carried, turned-away, passes, refuses, in-time}
+use Rattle.calls.specs.Answers.{passes, refuses, in-time}
+use Rattle.calls.specs.Done.{done-carried, done-refused, clock-zero}
 use borrow.Author.Tests.{ltb-false}
 use Rattle.model.specs.Tests.{periodTooLong}
 use Rattle.model.specs.Keeps.Dated.{not-refused}
@@ -36,18 +34,16 @@ returns : tie.Need-returns
 returns c =
     let start = c .before .before .before .before .before .before in
     let o = start .args in
-    rw (c .refused .ensures)
-    (turned-away (λ x. x) doneNumber Done.Refused (clockWork (o .cycle) (o .period)) _ _ (clock-tests (o .cycle) _ (o .period))
-    (refuses (c .before .before .before .before .clock-refusal .ensures) (c .before .before .tests .given .1)) (start .pre))
+    done-refused (clockChange (o .cycle) (o .period)) (clockWork (o .cycle) (o .period)) (start .pre) (clock-tests (o .cycle) _ (o .period))
+    (refuses (c .before .before .before .before .clock-refusal .ensures) (c .before .before .tests .given .1)) (c .refused .ensures)
 
 returns-2 : tie.Need-returns-2
-unfolding clockWork afterSettling quiet doneNumber
 returns-2 c =
     let start = c .before .before .before .before .before .before .before .before in
     let o = start .args in
-    let tests = passes (c .before .before .before .before .before .before .clock-refusal .ensures) (c .before .before .before .before .enum-told .given .1) in
-    carried (λ x. x) doneNumber Done.Refused (clockWork (o .cycle) (o .period)) _ _ (clock-tests (o .cycle) _ (o .period)) tests
-    (clockChange-within (o .cycle) (o .period) _ (start .pre .within)) refl (c .reclocked .ensures)
+    done-carried (clockChange (o .cycle) (o .period)) (clockWork (o .cycle) (o .period)) (start .pre) (clock-tests (o .cycle) _ (o .period))
+    (passes (c .before .before .before .before .before .before .clock-refusal .ensures) (c .before .before .before .before .enum-told .given .1))
+    (clockChange-within (o .cycle) (o .period) _ (start .pre .within)) (clock-zero (o .cycle) _ (o .period)) (c .reclocked .ensures)
 
 pub clock-change-spec : {M : Type 1} → statement M
 clock-change-spec =

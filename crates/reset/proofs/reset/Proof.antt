@@ -1,13 +1,11 @@
 -- `reset` meets its contract: refused as the tests say, or carried out. Assumes nothing.
-use mathlib.Core.Path.{refl}
 use mathlib.Core.Option.{none}
-use Rattle.model.specs.Calls.{resetWork, afterSettling, quiet}
+use Rattle.model.specs.Calls.{reset, resetWork}
 use Rattle.model.specs.Keeps.EachCall.{reset-within}
-use Rattle.model.specs.Replies.{doneNumber}
-use Rattle.model.specs.declared.Done.{Done}
 use Rattle.refusals.specs.Calls.{reset-tests}
 use Rattle.refusals.specs.Refusals.{datesOnly}
-use Rattle.calls.specs.Answers.{carried, turned-away, passes, refuses, in-time}
+use Rattle.calls.specs.Answers.{passes, refuses, in-time}
+use Rattle.calls.specs.Done.{done-carried, done-refused, reset-zero}
 use Rattle.reset.proofs.reset.Statement.{statement}
 use Rattle.reset.proofs.reset.Tie as tie
 
@@ -31,18 +29,16 @@ returns : tie.Need-returns
 returns c =
     let start = c .before .before .before .before .before .before in
     let o = start .args in
-    rw (c .refused .ensures)
-    (turned-away (λ x. x) doneNumber Done.Refused (resetWork (o .cycle)) _ _ (reset-tests (o .cycle) _)
-    (refuses (c .before .before .before .before .date-refusal .ensures) (c .before .before .tests .given .1)) (start .pre))
+    done-refused (reset (o .cycle)) (resetWork (o .cycle)) (start .pre) (reset-tests (o .cycle) _)
+    (refuses (c .before .before .before .before .date-refusal .ensures) (c .before .before .tests .given .1)) (c .refused .ensures)
 
 returns-2 : tie.Need-returns-2
-unfolding resetWork afterSettling quiet doneNumber
 returns-2 c =
     let start = c .before .before .before .before .before .before .before .before in
     let o = start .args in
-    let tests = passes (c .before .before .before .before .before .before .date-refusal .ensures) (c .before .before .before .before .enum-told .given .1) in
-    carried (λ x. x) doneNumber Done.Refused (resetWork (o .cycle)) _ _ (reset-tests (o .cycle) _) tests
-    (reset-within (o .cycle) _ (start .pre .within)) refl (c .restarted .ensures)
+    done-carried (reset (o .cycle)) (resetWork (o .cycle)) (start .pre) (reset-tests (o .cycle) _)
+    (passes (c .before .before .before .before .before .before .date-refusal .ensures) (c .before .before .before .before .enum-told .given .1))
+    (reset-within (o .cycle) _ (start .pre .within)) (reset-zero (o .cycle) _) (c .restarted .ensures)
 
 pub reset-spec : {M : Type 1} → statement M
 reset-spec =

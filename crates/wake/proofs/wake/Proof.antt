@@ -1,13 +1,11 @@
 -- `wake` meets its contract: refused as the tests say, or carried out. Assumes nothing.
-use mathlib.Core.Path.{refl}
 use mathlib.Core.Option.{none}
-use Rattle.model.specs.Calls.{wakeWork, afterSettling, quiet}
+use Rattle.model.specs.Calls.{wake, wakeWork}
 use Rattle.model.specs.Keeps.EachCall.{wake-within}
-use Rattle.model.specs.Replies.{doneNumber}
-use Rattle.model.specs.declared.Done.{Done}
 use Rattle.refusals.specs.Calls.{wake-tests}
 use Rattle.refusals.specs.Refusals.{datesOnly}
-use Rattle.calls.specs.Answers.{carried, turned-away, passes, refuses, in-time}
+use Rattle.calls.specs.Answers.{passes, refuses, in-time}
+use Rattle.calls.specs.Done.{done-carried, done-refused, wake-zero}
 use Rattle.wake.proofs.wake.Statement.{statement}
 use Rattle.wake.proofs.wake.Tie as tie
 
@@ -34,17 +32,16 @@ returns : tie.Need-returns
 returns c =
     let start = c .before .before .before .before .before .before in
     let o = start .args in
-    rw (c .refused .ensures)
-    (turned-away (λ x. x) doneNumber Done.Refused (wakeWork (o .cycle)) _ _ (wake-tests (o .cycle) _)
-    (refuses (c .before .before .before .before .date-refusal .ensures) (c .before .before .tests .given .1)) (start .pre))
+    done-refused (wake (o .cycle)) (wakeWork (o .cycle)) (start .pre) (wake-tests (o .cycle) _)
+    (refuses (c .before .before .before .before .date-refusal .ensures) (c .before .before .tests .given .1)) (c .refused .ensures)
 
 returns-2 : tie.Need-returns-2
-unfolding wakeWork afterSettling quiet doneNumber
 returns-2 c =
     let start = c .before .before .before .before .before .before .before .before in
     let o = start .args in
-    let tests = passes (c .before .before .before .before .before .before .date-refusal .ensures) (c .before .before .before .before .enum-told .given .1) in
-    carried (λ x. x) doneNumber Done.Refused (wakeWork (o .cycle)) _ _ (wake-tests (o .cycle) _) tests (wake-within (o .cycle) _ (start .pre .within)) refl (c .woken .ensures)
+    done-carried (wake (o .cycle)) (wakeWork (o .cycle)) (start .pre) (wake-tests (o .cycle) _)
+    (passes (c .before .before .before .before .before .before .date-refusal .ensures) (c .before .before .before .before .enum-told .given .1))
+    (wake-within (o .cycle) _ (start .pre .within)) (wake-zero (o .cycle) _) (c .woken .ensures)
 
 pub wake-spec : {M : Type 1} → statement M
 wake-spec =

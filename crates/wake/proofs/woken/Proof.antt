@@ -1,8 +1,6 @@
 -- `woken` meets its contract: settled from the cleared Deadline, and armed. Assumes nothing.
-use mathlib.Core.Path.{refl}
-use Rattle.model.specs.Calls.{wakeWork}
-use Rattle.calls.specs.Changes.{called-ok, ready}
-use Rattle.calls.specs.Answers.{done-armed}
+use Rattle.calls.specs.Changes.{ready}
+use Rattle.wake.specs.Wakes.{from-ok, woken}
 use Rattle.wake.proofs.woken.Statement.{statement}
 use Rattle.wake.proofs.woken.Tie as tie
 
@@ -12,7 +10,7 @@ called-requires c κs = tt
 settled-at-requires : tie.Need-settled-at-requires
 settled-at-requires c κs =
     let start = c .before .before .before .before in
-    rw (c .before .before .before .called .ensures) (called-ok _ _ _ (start .pre .0), start .pre .1)
+    (from-ok (start .args .cycle) (start .pre .0) (c .before .before .before .called .ensures), start .pre .1)
 
 arm-requires : tie.Need-arm-requires
 arm-requires c κs =
@@ -23,10 +21,10 @@ done-requires : tie.Need-done-requires
 done-requires c κs = tt
 
 returns : tie.Need-returns
-unfolding wakeWork
 returns c =
-    let settled = rw (c .before .before .before .before .before .before .before .called .ensures) at (c .before .before .before .settled-at .ensures) in
-    rw (c .done .ensures) (done-armed settled (c .before .arm .ensures _ refl refl (settled .ok .shape)))
+    let start = c .before .before .before .before .before .before .before .before in
+    woken (start .args .cycle) (start .pre .0) (c .before .before .before .before .before .before .before .called .ensures)
+    (c .before .before .before .settled-at .ensures) (c .before .arm .ensures) (c .done .ensures)
 
 pub woken-spec : {M : Type 1} → statement M
 woken-spec =

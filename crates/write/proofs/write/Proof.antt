@@ -1,54 +1,66 @@
--- `write` meets its contract: FIFO takes the low byte, and every other place the word. Assumes nothing.
+-- `write` meets its contract: refused as the tests of its place say, or carried out. Assumes nothing.
 use mathlib.Core.Path.{refl}
-use mathlib.Core.List.{[], _∷_}
-use Rattle.model.specs.Calls.{writeAt}
-use Rattle.registers.proofs.Tags.{place-keys}
-use Rattle.write.specs.Concludes.{Placed, fifo-write, other-write, same-answers}
-use borrow.Author.Needs.{needs}
+use Rattle.calls.specs.Answers.{passes, refuses}
+use Rattle.write.specs.ByPlace.{tests-in-time, write-carried, write-refused}
 use Rattle.write.proofs.write.Statement.{statement}
 use Rattle.write.proofs.write.Tie as tie
 
 place-of-requires : tie.Need-place-of-requires
 place-of-requires c κs = tt
 
+is-fifo-requires : tie.Need-is-fifo-requires
+is-fifo-requires c κs = tt
+
+tests-at-requires : tie.Need-tests-at-requires
+tests-at-requires c κs = tt
+
+enum-known-tests : tie.Need-enum-known-tests
+enum-known-tests c = c .match .keys1
+
+refused-requires : tie.Need-refused-requires
+refused-requires c κs = tt
+
 enum-told : tie.Need-enum-told
-enum-told c = search needs
+enum-told c = c .match .keys2
 
 low-byte-requires : tie.Need-low-byte-requires
 low-byte-requires c κs = tt
 
-send-requires : tie.Need-send-requires
-send-requires c κs = search needs
-
-write-placed-requires : tie.Need-write-placed-requires
-write-placed-requires c κs = search needs
+write-settled-requires : tie.Need-write-settled-requires
+write-settled-requires c κs =
+    let start = c .before .before .before .before .before .before .before .before .before .before .before .before .before .before in
+    let tests = passes (c .before .before .before .before .before .before .before .before .tests-at .ensures) (c .before .before .before .before .before .before .enum-told .given .1) in
+    (start .pre, tests-in-time _ (start .args .cycle) _ _ _ tests)
 
 returns : tie.Need-returns
 returns c =
-    let o = c .before .before .before .before .before .before .before .before .before .before .before .before .args in
-    let at = c .before .before .before .before .before .before .before .enum-told .given .1 in
-    same-answers (fifo-write (o .cycle) (o .offset) (o .value) _ (c .before .before .before .before .before .before .before .before .before .place-of .ensures) at)
-    (rw (c .before .low-byte .ensures) at (c .send .ensures))
+    let start = c .before .before .before .before .before .before .before .before .before .before in
+    let o = start .args in
+    write-refused (o .cycle) (o .offset) (o .value) (start .pre) (c .before .before .before .before .before .before .before .place-of .ensures)
+    (c .before .before .before .before .before .before .is-fifo .ensures) refl
+    (refuses (c .before .before .before .before .tests-at .ensures) (c .before .before .tests .given .1)) (c .refused .ensures)
 
 returns-2 : tie.Need-returns-2
-unfolding writeAt
 returns-2 c =
-    let o = c .before .before .before .before .before .before .before .before .before .before .args in
-    let at = c .before .before .before .before .before .before .before .place-of in
-    same-answers
-    (other-write (o .cycle) (o .offset) (o .value) _ (at .ensures)
-    (place-keys (Placed (o .cycle) (o .value)) 1 (2 ∷ 3 ∷ 4 ∷ 5 ∷ 6 ∷ 7 ∷ 8 ∷ 9 ∷ 10 ∷ 11 ∷ 12 ∷ 13 ∷ 14 ∷ 15 ∷ 16 ∷ []) (at .result)
-    (λ _. refl, (λ _. refl, (λ _. refl, (λ _. refl, (λ _. refl, (λ _. refl, (λ _. refl, (λ _. refl, (λ _. refl, (λ _. refl, (λ _. refl, (λ _. refl, (λ _. refl, (λ _. refl, (λ _. refl, (λ _. refl, tt)))))))))))))))) (c .before .before .before .before .before .before .match .keys2)))
-    (c .write-placed .ensures)
+    let start = c .before .before .before .before .before .before .before .before .before .before .before .before .before .before .before in
+    let o = start .args in
+    write-carried (o .cycle) (o .offset) (o .value) (start .pre)
+    (c .before .before .before .before .before .before .before .before .before .before .before .before .place-of .ensures)
+    (c .before .before .before .before .before .before .before .before .before .before .before .is-fifo .ensures) (c .before .low-byte .ensures)
+    (passes (c .before .before .before .before .before .before .before .before .before .tests-at .ensures) (c .before .before .before .before .before .before .before .enum-told .given .1))
+    (c .write-settled .ensures)
 
 pub write-spec : {M : Type 1} → statement M
 write-spec =
     tie.close
     (tie.spec
     place-of-requires
+    is-fifo-requires
+    tests-at-requires
+    enum-known-tests
+    refused-requires
     enum-told
     low-byte-requires
-    send-requires
-    write-placed-requires
+    write-settled-requires
     returns
     returns-2)

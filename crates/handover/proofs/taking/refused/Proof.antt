@@ -1,10 +1,9 @@
 -- `taking::refused` meets its contract. Assumes nothing.
-use borrow.Author.Needs.{needs}
 use Rattle.handover.proofs.taking.refused.Statement.{statement}
 use Rattle.handover.proofs.taking.refused.Tie as tie
 
 no-report-requires : tie.Need-no-report-requires
-no-report-requires c κs = search needs
+no-report-requires c κs = tt
 
 returns : tie.Need-returns
 returns c = rw (c .no-report .ensures)

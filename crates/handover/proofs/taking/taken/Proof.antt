@@ -1,13 +1,12 @@
 -- `taking::taken` meets its contract. Assumes nothing.
-use borrow.Author.Needs.{needs}
 use Rattle.handover.proofs.taking.taken.Statement.{statement}
 use Rattle.handover.proofs.taking.taken.Tie as tie
 
 none-requires : tie.Need-none-requires
-none-requires c κs = search needs
+none-requires c κs = tt
 
 report-requires : tie.Need-report-requires
-report-requires c κs = search needs
+report-requires c κs = tt
 
 returns : tie.Need-returns
 returns c = rw (c .report .ensures, c .before .none .ensures)

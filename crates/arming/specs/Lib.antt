@@ -1,0 +1,2 @@
+-- What arming does to the held UART.
+pub mod Arms

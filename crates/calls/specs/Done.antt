@@ -1,0 +1,57 @@
+-- A call that settles and answers no more than a number: refused by its tests, or carried out. Assumes nothing.
+use mathlib.Core.Path.{_≡_, refl, sym, subst}
+use mathlib.Core.List.{List}
+use mathlib.Core.Option.{Option, none, some}
+use Prim.Native.Nat.{ℕ}
+use Rattle.model.specs.State
+use Rattle.model.specs.Settle
+use Rattle.model.specs.Arm.{arm}
+use Rattle.model.specs.Replies.{doneNumber}
+use Rattle.model.specs.Limits.{Within}
+use Rattle.model.specs.Calls.{Outcome, unless, afterSettling, quiet, wakeWork, resetWork, clockWork, receiveWork}
+use Rattle.model.specs.declared.Refusal.{Refusal}
+use Rattle.model.specs.declared.Report.{Report}
+use Rattle.model.specs.declared.Done.{Done}
+use Rattle.device.specs.Holds.{Arrays, abs, Ok}
+use Rattle.settle.specs.Settles.{Settles}
+use Rattle.arming.specs.Arms.{ArmsAny}
+use Rattle.device.specs.declared.Core.{Core}
+use Rattle.calls.specs.Answers.{DoneWith, Works, carried, turned-away, done-armed, doneCore, refusedCore}
+use Rattle.calls.specs.declared.answers.DoneCore.{DoneCore}
+
+module _ (call work : State.Uart ℕ ℕ → Outcome Done ℕ ℕ) {tests : Option Refusal} {c : Core} {a : Arrays} (ok : Ok c a)
+    (e : call (abs c a) ≡ unless tests Done.Refused work (abs c a)) where
+  pub done-carried : {c′ : Core} {a′ : Arrays} {reply : Done} {report : Report} → tests ≡ none → Within (call (abs c a) .state)
+      → doneNumber (work (abs c a) .reply) ≡ 0 → Works (λ x. x) (work (abs c a)) c′ a′ reply report → DoneWith call c a c′ a′ reply report
+  done-carried t w z k = carried (λ x. x) doneNumber Done.Refused work c a e t w z k
+
+  pub done-refused : {q : Refusal} {r : DoneCore} → tests ≡ some q → r ≡ refusedCore c q → DoneWith call c a (r .core) a (r .reply) (r .report)
+  done-refused t same =
+      subst (λ (x : DoneCore). DoneWith call c a (x .core) a (x .reply) (x .report)) (sym same)
+      (turned-away (λ x. x) doneNumber Done.Refused work c a e t ok)
+
+-- settled and armed
+pub armed-done : {t : Settle.Settled ℕ ℕ} {c₁ : Core} {a₁ : Arrays} {n o : ℕ} {c₂ : Core} {r : DoneCore} → Settles t c₁ a₁ n o → ArmsAny c₁ (a₁ .goneAt) (a₁ .runDates) c₂
+    → r ≡ doneCore c₂ n o → Works (λ x. x) (afterSettling t (λ s. quiet Done.Done (arm s))) (r .core) a₁ (r .reply) (r .report)
+armed-done {t} {a₁ = a₁} s arms same =
+    subst (λ (x : DoneCore). Works (λ w. w) (afterSettling t (λ s. quiet Done.Done (arm s))) (x .core) a₁ (x .reply) (x .report)) (sym same)
+    (done-armed s (arms a₁ refl refl (s .ok .shape)))
+
+-- ---- the number of a call that is carried out is 0
+
+module _ (cycle : ℕ) (u : State.Uart ℕ ℕ) where
+  pub wake-zero : doneNumber (wakeWork cycle u .reply) ≡ 0
+  unfolding wakeWork afterSettling quiet doneNumber
+  wake-zero = refl
+
+  pub reset-zero : doneNumber (resetWork cycle u .reply) ≡ 0
+  unfolding resetWork afterSettling quiet doneNumber
+  reset-zero = refl
+
+  pub clock-zero : (period : ℕ) → doneNumber (clockWork cycle period u .reply) ≡ 0
+  unfolding clockWork afterSettling quiet doneNumber
+  clock-zero period = refl
+
+  pub receive-zero : (at : ℕ) (bs : List ℕ) → doneNumber (receiveWork cycle at bs u .reply) ≡ 0
+  unfolding receiveWork afterSettling quiet doneNumber
+  receive-zero at bs = refl

@@ -1,0 +1,2 @@
+-- What the contract of `concluded` says.
+pub mod Concludes

@@ -1,0 +1,3 @@
+-- What the contracts of the runs say, and the laws of them.
+pub mod Joins
+pub mod Waits
