@@ -1,7 +1,7 @@
 -- `arming::next_landing` meets its contract, by cases on what is on the line. Assumes nothing.
-use Rattle.instants.specs.Instants.{nextLanding}
-use Rattle.instants.proofs.arming.next_landing.Statement.{statement}
-use Rattle.instants.proofs.arming.next_landing.Tie as tie
+use Rattle.upcoming.specs.Instants.{nextLanding}
+use Rattle.upcoming.proofs.next_landing.Statement.{statement}
+use Rattle.upcoming.proofs.next_landing.Tie as tie
 
 enum-told : tie.Need-enum-told
 enum-told c = c .match .keys1

@@ -1,7 +1,7 @@
 -- `arming::next_start` meets its contract, case by case. Assumes nothing.
-use Rattle.instants.specs.Instants.{nextStart}
-use Rattle.instants.proofs.arming.next_start.Statement.{statement}
-use Rattle.instants.proofs.arming.next_start.Tie as tie
+use Rattle.upcoming.specs.Instants.{nextStart}
+use Rattle.upcoming.proofs.next_start.Statement.{statement}
+use Rattle.upcoming.proofs.next_start.Tie as tie
 
 enum-told : tie.Need-enum-told
 enum-told c = c .match .keys1

@@ -2,10 +2,10 @@
 use borrow.Author.Tests.{lt-ltb, le-ltb}
 use Rattle.model.specs.Numbers.{choose}
 use Rattle.model.specs.Settle.{emptyThreshold}
-use Rattle.instants.specs.Instants.{belowThreshold}
+use Rattle.upcoming.specs.Instants.{belowThreshold}
 use borrow.Author.Needs.{needs}
-use Rattle.instants.proofs.arming.below_threshold.Statement.{statement}
-use Rattle.instants.proofs.arming.below_threshold.Tie as tie
+use Rattle.upcoming.proofs.below_threshold.Statement.{statement}
+use Rattle.upcoming.proofs.below_threshold.Tie as tie
 
 txfifo-empty-thrhd-requires : tie.Need-txfifo-empty-thrhd-requires
 txfifo-empty-thrhd-requires c κs = tt

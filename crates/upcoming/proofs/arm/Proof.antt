@@ -1,7 +1,7 @@
 -- `arming::arm` meets its contract: each instant in turn. Assumes nothing.
 use Rattle.model.specs.Arm.{armAll}
-use Rattle.instants.proofs.arming.arm.Statement.{statement}
-use Rattle.instants.proofs.arming.arm.Tie as tie
+use Rattle.upcoming.proofs.arm.Statement.{statement}
+use Rattle.upcoming.proofs.arm.Tie as tie
 
 arm-requires : tie.Need-arm-requires
 arm-requires c κs = tt

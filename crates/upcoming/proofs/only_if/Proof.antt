@@ -1,7 +1,7 @@
 -- `arming::only_if` meets its contract, by the test. Assumes nothing.
 use Rattle.model.specs.Numbers.{onlyIf}
-use Rattle.instants.proofs.arming.only_if.Statement.{statement}
-use Rattle.instants.proofs.arming.only_if.Tie as tie
+use Rattle.upcoming.proofs.only_if.Statement.{statement}
+use Rattle.upcoming.proofs.only_if.Tie as tie
 
 returns : tie.Need-returns
 unfolding onlyIf

@@ -1,4 +1,5 @@
-// When the UART next has something to do. Dates in subcycles, the wake in cycles.
+// When the UART next has something to do, on numbers and marks. Dates in subcycles, the wake in cycles. Carried over from
+// inkemu's uart.rs and changed.
 use control::Below;
 use control::Receiving;
 use control::idle;
@@ -9,7 +10,7 @@ ghost use mathlib.Core.List.{[], _∷_};
 ghost use Rattle.model.specs.Numbers.{onlyIf};
 ghost use Rattle.model.specs.Settle.{emptyThreshold};
 ghost use Rattle.model.specs.Arm.{armAll};
-ghost use Rattle.instants.specs.Instants.{belowThreshold, nextStart, nextLanding};
+ghost use Rattle.upcoming.specs.Instants.{belowThreshold, nextStart, nextLanding};
 
 // A date that asks for a wake only where the test passes.
 pub fn only_if(test: bool, date: Date) -> Date
