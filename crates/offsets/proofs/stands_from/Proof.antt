@@ -5,9 +5,9 @@ use native.Mathlib.Omega.{arith}
 use lib.ListN.{length, drop}
 use borrow.Author.Needs.{needs}
 use Rattle.model.specs.Tests.{among}
-use Rattle.refusals.specs.Offsets.{among-found, among-passed, among-end}
-use Rattle.refusals.proofs.stands_from.Statement.{statement}
-use Rattle.refusals.proofs.stands_from.Tie as tie
+use Rattle.offsets.specs.Offsets.{among-found, among-passed, among-end}
+use Rattle.offsets.proofs.stands_from.Statement.{statement}
+use Rattle.offsets.proofs.stands_from.Tie as tie
 
 abbrev Inv-loop : tie.InvT-loop
 Inv-loop from offset offsets at₀ at = (at ≤ 16) × (length offsets ≡ 16) × (among offset (drop at offsets) ≡ among offset (drop from offsets))

@@ -1,4 +1,4 @@
--- `notices::stored_notices` meets its contract, by the places that give a notice and the list of those that give none. Assumes nothing.
+-- `stored_notices` meets its contract, by the places that give a notice and the list of those that give none. Assumes nothing.
 use mathlib.Core.Path.{_≡_, refl, sym, ap, _∙_}
 use mathlib.Core.Bool.{not}
 use mathlib.Core.List.{[], _∷_}
@@ -7,10 +7,10 @@ use borrow.Author.Needs.{needs}
 use Rattle.model.specs.Registers.{noteIf, storedNotes}
 use Rattle.model.specs.declared.Feature.{Feature}
 use Rattle.model.specs.declared.Unsupported.{Unsupported}
 use Rattle.notices.specs.Notices.{noted}
 use Rattle.registers.proofs.Tags.{place-keys}
-use Rattle.notices.proofs.stored_notices.Statement.{statement}
-use Rattle.notices.proofs.stored_notices.Tie as tie
+use Rattle.word_notices.proofs.stored_notices.Statement.{statement}
+use Rattle.word_notices.proofs.stored_notices.Tie as tie
 
 enum-told : tie.Need-enum-told
 enum-told c = search needs

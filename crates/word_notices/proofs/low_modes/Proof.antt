@@ -1,12 +1,12 @@
--- `notices::low_modes` meets its contract: the tests stand in the order of the bits. Assumes nothing.
+-- `low_modes` meets its contract: the tests stand in the order of the bits. Assumes nothing.
 use mathlib.Core.Path.{ap, _∙_}
 use Prim.Native.Nat.{ℕ}
 use borrow.Author.Needs.{needs}
 use Rattle.model.specs.Numbers.{bit}
 use Rattle.model.specs.declared.Feature.{Feature}
-use Rattle.notices.specs.Notices.{modeIf}
-use Rattle.notices.proofs.low_modes.Statement.{statement}
-use Rattle.notices.proofs.low_modes.Tie as tie
+use Rattle.word_notices.specs.Modes.{modeIf}
+use Rattle.word_notices.proofs.low_modes.Statement.{statement}
+use Rattle.word_notices.proofs.low_modes.Tie as tie
 
 none-requires : tie.Need-none-requires
 none-requires c κs = search needs

@@ -5,9 +5,9 @@ use native.Mathlib.Omega.{arith}
 use lib.ListN.{length, drop}
 use borrow.Author.Needs.{needs}
 use Rattle.model.specs.Tests.{repeated}
-use Rattle.refusals.specs.Offsets.{repeated-found, repeated-passed, repeated-end}
-use Rattle.refusals.proofs.repeated.Statement.{statement}
-use Rattle.refusals.proofs.repeated.Tie as tie
+use Rattle.offsets.specs.Offsets.{repeated-found, repeated-passed, repeated-end}
+use Rattle.offsets.proofs.repeated.Statement.{statement}
+use Rattle.offsets.proofs.repeated.Tie as tie
 
 abbrev Inv-loop : tie.InvT-loop
 Inv-loop offsets at₀ at = (at ≤ 16) × (length offsets ≡ 16) × (repeated (drop at offsets) ≡ repeated offsets)

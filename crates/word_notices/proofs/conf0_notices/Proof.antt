@@ -1,14 +1,13 @@
--- `notices::conf0_notices` meets its contract: the tests stand in the order of the bits. Assumes nothing.
+-- `conf0_notices` meets its contract: the tests stand in the order of the bits. Assumes nothing.
 use mathlib.Core.Path.{ap, ap₂, _∙_}
 use Prim.Native.Nat.{ℕ}
 use lib.Dec.{eqb}
 use borrow.Author.Needs.{needs}
 use Rattle.model.specs.Numbers.{bit}
 use Rattle.model.specs.declared.Feature.{Feature}
-use Rattle.notices.specs.NoticeLaws.{conf0-noted}
-use Rattle.notices.specs.Notices.{modeIf}
-use Rattle.notices.proofs.conf0_notices.Statement.{statement}
-use Rattle.notices.proofs.conf0_notices.Tie as tie
+use Rattle.word_notices.specs.Modes.{modeIf, conf0-noted}
+use Rattle.word_notices.proofs.conf0_notices.Statement.{statement}
+use Rattle.word_notices.proofs.conf0_notices.Tie as tie
 
 stop-bit-num-requires : tie.Need-stop-bit-num-requires
 stop-bit-num-requires c κs = search needs

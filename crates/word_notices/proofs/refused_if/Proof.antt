@@ -1,12 +1,12 @@
--- `notices::refused_if` meets its contract. Assumes nothing.
+-- `refused_if` meets its contract. Assumes nothing.
 use mathlib.Core.Path.{ap, _∙_}
 use native.Mathlib.Omega.{arith}
 use mathlib.Core.List.{[]}
 use borrow.Author.Needs.{needs}
 use Rattle.notices.specs.NoticeLaws.{added-if-noted}
 use Rattle.notices.specs.Notices.{addedIf}
-use Rattle.notices.proofs.refused_if.Statement.{statement}
-use Rattle.notices.proofs.refused_if.Tie as tie
+use Rattle.word_notices.proofs.refused_if.Statement.{statement}
+use Rattle.word_notices.proofs.refused_if.Tie as tie
 
 none-requires : tie.Need-none-requires
 none-requires c κs = search needs
