@@ -20,7 +20,7 @@ use Rattle.model.specs.declared.Settings.{Settings}
 use Rattle.queue.specs.Cursors.{Held, slotOf, nthOf}
 use Rattle.queue.specs.Laws.{elems-length, elems-nth}
 use Rattle.queue.specs.declared.Cursor.{Cursor}
-use Rattle.instants.specs.Instants.{belowThreshold, goneBelow, nextLanding, instants-are}
+use Rattle.upcoming.specs.Instants.{belowThreshold, goneBelow, nextLanding, instants-are}
 use Rattle.frames.specs.Applied.{waiting, mark}
 use Rattle.control.specs.declared.Below.{Below}
 use Rattle.device.specs.Holds.{Arrays, sentAt, flightOf, abs, Shape}

@@ -10,7 +10,7 @@ ghost use Prim.Native.Nat.{ℕ};
 ghost use lib.ListN.{length};
 ghost use Rattle.model.specs.State.{withWake};
 ghost use Rattle.model.specs.Arm.{nthGone, lastGone};
-ghost use Rattle.instants.specs.Instants.{goneBelow};
+ghost use Rattle.upcoming.specs.Instants.{goneBelow};
 ghost use Rattle.queue.specs.Cursors.{Held};
 ghost use Rattle.device.specs.Holds.{flightOf};
 ghost use Rattle.arming.specs.Arms.{Ready, Armed, ArmsAny, withWakeOf};
@@ -78,15 +78,15 @@ fn armed(core: Core, gone_at: &[u64; 129], run_date: u64) -> Date
     let settings = timing::settings(words, control.period);
     let last = last_gone(gone_at, core.flight);
     let waits = runs::waiting(core.host.count, core.runs.count, run_date);
-    let landing = instants::arming::next_landing(settings.byte_time, receiving, waits, line);
+    let landing = upcoming::next_landing(settings.byte_time, receiving, waits, line);
     let comes = control::idle::timeout_at(settings, line);
-    let timeout = instants::arming::only_if(settings.rx_tout_en, comes);
-    let which = instants::arming::below_threshold(words.conf1, core.flight.count);
+    let timeout = upcoming::only_if(settings.rx_tout_en, comes);
+    let which = upcoming::below_threshold(words.conf1, core.flight.count);
     let below = gone_below(gone_at, core.flight, which);
     let gone = nth_gone(gone_at, core.flight, 0);
-    let first = instants::arming::only_if(control.watched, gone);
+    let first = upcoming::only_if(control.watched, gone);
     let due = control.wake;
-    instants::arming::arm(due, last, landing, timeout, below, first)
+    upcoming::arm(due, last, landing, timeout, below, first)
 }
 
 pub fn with_wake_of(mut core: Core, wake: Date) -> Core

@@ -1,5 +1,5 @@
 // A call, put out anew in one form, so that neither spacing nor the spelling of a number carries anything over.
-use lines::Name;
+use names::Name;
 use spelling::put;
 use spelling::put_bytes;
 use spelling::put_decimal;

@@ -3,9 +3,9 @@ use crate::calls::low;
 use crate::calls::put_call;
 use crate::output::flush;
 use lines::Line;
-use lines::Name;
 use lines::read_line;
 use model::SetUp;
+use names::Name;
 use spelling::put;
 use spelling::put_decimal;
 

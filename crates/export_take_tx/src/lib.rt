@@ -33,7 +33,7 @@ pub extern "C" fn wondraxu_take_tx<'a, 'b>(
         core r ⌝ }
 {
     let from = plain::core_of(core);
-    let done = handover::take_tx::take_tx(
+    let done = take_tx::take_tx(
         from,
         gone_at,
         flight,

@@ -26,6 +26,6 @@ pub extern "C" fn wondraxu_take_written<'a>(
         → Plainly plainTaken (λ c c′ reply report. TakesWith (takeWritten (now (out .entry))) c a c′ a reply report (now (out .exit))) core r) ⌝ }
 {
     let from = plain::core_of(core);
-    let done = handover::take_written::take_written(from, flight, tx, out);
+    let done = take_written::take_written(from, flight, tx, out);
     plain_answers::taken_answer(done)
 }

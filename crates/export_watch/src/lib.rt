@@ -6,7 +6,7 @@ ghost use lib.ListN.{length};
 ghost use Rattle.model.specs.Calls.{watch};
 ghost use Rattle.queue.specs.Cursors.{Held};
 ghost use Rattle.device.specs.Holds.{Arrays, Ok};
-ghost use Rattle.settle.specs.Arms.{Ready};
+ghost use Rattle.arming.specs.Arms.{Ready};
 ghost use Rattle.calls.specs.Answers.{DoneWith};
 ghost use Rattle.plain.specs.Plain.{coreOf};
 ghost use Rattle.plain_replies.specs.Replies.{plainDone};

@@ -1,3 +1,2 @@
--- Levels and instants of numbers and marks.
+-- Levels of numbers and marks.
 pub mod Levels
-pub mod Instants

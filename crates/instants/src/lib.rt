@@ -1,4 +1,3 @@
-// What a settling leaves of levels and interrupt, and which instant comes next, on numbers and marks. Carried over from
-// inkemu's uart.rs and changed.
-pub mod arming;
+// What holds at the instant of a settling, on numbers and marks: how far it goes, and what it leaves of levels and interrupt.
+// Carried over from inkemu's uart.rs and changed.
 pub mod settling;

@@ -7,14 +7,15 @@ use Rattle.text.specs.Same.{sameBytes}
 use Rattle.text.specs.Digits.{digitValue}
 use Rattle.numerals.specs.Numbers.{allDigits, valueAfter, atMost, numberAfter, numberIn, begins0x, numberOf}
 use Rattle.numerals.specs.Hexes.{pairValue, spelled, pairsRead, pairsStored}
-use Rattle.lines.specs.declared.faults.Reason.{Reason}
-use Rattle.lines.specs.declared.names.Name.{Name}
-use Rattle.lines.specs.declared.lines.Line.{Line}
-use Rattle.lines.specs.Names.{letters, named}
-use Rattle.lines.specs.Forms.{formOf}
-use Rattle.lines.specs.Steps.{wordAt}
-use Rattle.lines.specs.Numbers.{numberAt, numbersFrom}
-use Rattle.lines.specs.Last.{bitAt, bytesAt, bytesKept}
+use Rattle.steps.specs.declared.faults.Reason.{Reason}
+use Rattle.names.specs.declared.Name.{Name}
+use Rattle.lines.specs.declared.Line.{Line}
+use Rattle.names.specs.Names.{letters, named}
+use Rattle.forms.specs.Forms.{formOf}
+use Rattle.steps.specs.Steps.{wordAt}
+use Rattle.steps.specs.One.{numberAt}
+use Rattle.numbers.specs.Numbers.{numbersFrom}
+use Rattle.last_word.specs.Last.{bitAt, bytesAt, bytesKept}
 use Rattle.lines.specs.Lines.{endAt, onCall, lineOf, numbersOf, bytesAfter}
 
 -- "watch 5 1"

@@ -10,17 +10,17 @@ use lib.ListN.{length, getD, drop}
 use Rattle.text.specs.Pick.{pick}
 use Rattle.text.specs.Words.{nextWord}
 use Rattle.text.specs.declared.words.Word.{Word}
-use Rattle.lines.specs.declared.faults.Reason.{Reason}
-use Rattle.lines.specs.declared.names.Name.{Name}
-use Rattle.lines.specs.declared.names.Named.{Named}
-use Rattle.lines.specs.declared.numbers.Step.{Step}
-use Rattle.lines.specs.declared.lines.Line.{Line}
-use Rattle.lines.specs.Names.{nameOf}
-use Rattle.lines.specs.Forms.{formOf, count-fits}
-use Rattle.lines.specs.Steps.{bytesIn, fault, wordAt, no-word, some-word}
-use Rattle.lines.specs.Numbers.{numbersAt, numbers-few}
-use Rattle.lines.specs.Stored.{stored, stored-front}
-use Rattle.lines.specs.Last.{lastAt, lastKept}
+use Rattle.steps.specs.declared.faults.Reason.{Reason}
+use Rattle.names.specs.declared.Name.{Name}
+use Rattle.names.specs.declared.Named.{Named}
+use Rattle.steps.specs.declared.steps.Step.{Step}
+use Rattle.lines.specs.declared.Line.{Line}
+use Rattle.names.specs.Names.{nameOf}
+use Rattle.forms.specs.Forms.{formOf, count-fits}
+use Rattle.steps.specs.Steps.{bytesIn, fault, wordAt, no-word, some-word}
+use Rattle.numbers.specs.Numbers.{numbersAt, numbers-few}
+use Rattle.numbers.specs.Stored.{stored, stored-front}
+use Rattle.last_word.specs.Last.{lastAt, lastKept}
 
 -- no word is left, and the call has its last one
 abbrev pub extra : Word → Line

@@ -174,8 +174,8 @@ fn byte_read<'a>(
     }
 }
 
-// The interrupt: what is raised, one byte where one is held, and what was raised is cleared.
-fn interrupt<'a>(
+// The interrupt begins: what is raised.
+fn raised<'a>(
     from: Tally,
     gone_at: &'a mut [u64; 129],
     flight: &'a mut [u8; 129],
@@ -185,7 +185,7 @@ fn interrupt<'a>(
     run_counts: &'a mut [u64; 64],
     rx: &'a mut [u8; 128],
     cycle: u64,
-) -> Tally
+) -> Look
     requires { ⌜ Ok (from .core) (arrays (now «gone_at») (now flight) (now tx) (now host) (now «run_dates») (now «run_counts») (now rx)) ⌝ }
     ensures { λ r. ⌜ Ok (r .core) (arrays (now («gone_at» .exit)) (now (flight .exit)) (now (tx .exit)) (now (host .exit)) (now («run_dates» .exit)) (now («run_counts» .exit)) (now (rx .exit))) ⌝ }
 {
@@ -201,7 +201,7 @@ fn interrupt<'a>(
         cycle,
     );
     let core = woken.core;
-    let raised = looked(
+    looked(
         Tally {
             core,
             sum: from.sum,
@@ -215,13 +215,26 @@ fn interrupt<'a>(
         rx,
         cycle,
         bench::INT_ST,
-    );
-    let told = raised.core;
+    )
+}
+
+// One byte is read where one is held.
+fn emptied<'a>(
+    from: Tally,
+    gone_at: &'a mut [u64; 129],
+    flight: &'a mut [u8; 129],
+    tx: &'a mut [u8; 1152],
+    host: &'a mut [u8; 1024],
+    run_dates: &'a mut [u64; 64],
+    run_counts: &'a mut [u64; 64],
+    rx: &'a mut [u8; 128],
+    cycle: u64,
+) -> Tally
+    requires { ⌜ Ok (from .core) (arrays (now «gone_at») (now flight) (now tx) (now host) (now «run_dates») (now «run_counts») (now rx)) ⌝ }
+    ensures { λ r. ⌜ Ok (r .core) (arrays (now («gone_at» .exit)) (now (flight .exit)) (now (tx .exit)) (now (host .exit)) (now («run_dates» .exit)) (now («run_counts» .exit)) (now (rx .exit))) ⌝ }
+{
     let status = looked(
-        Tally {
-            core: told,
-            sum: raised.sum,
-        },
+        from,
         gone_at,
         flight,
         tx,
@@ -232,8 +245,51 @@ fn interrupt<'a>(
         cycle,
         bench::STATUS,
     );
-    let read = byte_read(
+    byte_read(
         status,
+        gone_at,
+        flight,
+        tx,
+        host,
+        run_dates,
+        run_counts,
+        rx,
+        cycle,
+    )
+}
+
+// The interrupt: what is raised, one byte where one is held, and what was raised is cleared.
+fn interrupt<'a>(
+    from: Tally,
+    gone_at: &'a mut [u64; 129],
+    flight: &'a mut [u8; 129],
+    tx: &'a mut [u8; 1152],
+    host: &'a mut [u8; 1024],
+    run_dates: &'a mut [u64; 64],
+    run_counts: &'a mut [u64; 64],
+    rx: &'a mut [u8; 128],
+    cycle: u64,
+) -> Tally
+    requires { ⌜ Ok (from .core) (arrays (now «gone_at») (now flight) (now tx) (now host) (now «run_dates») (now «run_counts») (now rx)) ⌝ }
+    ensures { λ r. ⌜ Ok (r .core) (arrays (now («gone_at» .exit)) (now (flight .exit)) (now (tx .exit)) (now (host .exit)) (now («run_dates» .exit)) (now («run_counts» .exit)) (now (rx .exit))) ⌝ }
+{
+    let told = raised(
+        from,
+        gone_at,
+        flight,
+        tx,
+        host,
+        run_dates,
+        run_counts,
+        rx,
+        cycle,
+    );
+    let core = told.core;
+    let read = emptied(
+        Tally {
+            core,
+            sum: told.sum,
+        },
         gone_at,
         flight,
         tx,
@@ -254,7 +310,7 @@ fn interrupt<'a>(
         rx,
         cycle,
         bench::INT_CLR,
-        raised.value,
+        told.value,
     );
     let next = cleared.core;
     Tally {
@@ -340,6 +396,52 @@ fn shown<'a>(
     Tally { core, sum }
 }
 
+// A row comes, and the handler reads it.
+fn answered<'a>(
+    from: Tally,
+    gone_at: &'a mut [u64; 129],
+    flight: &'a mut [u8; 129],
+    tx: &'a mut [u8; 1152],
+    host: &'a mut [u8; 1024],
+    run_dates: &'a mut [u64; 64],
+    run_counts: &'a mut [u64; 64],
+    rx: &'a mut [u8; 128],
+    base: u64,
+) -> Tally
+    requires { ⌜ Ok (from .core) (arrays (now «gone_at») (now flight) (now tx) (now host) (now «run_dates») (now «run_counts») (now rx)) × (base ≤ 90000000) ⌝ }
+    ensures { λ r. ⌜ Ok (r .core) (arrays (now («gone_at» .exit)) (now (flight .exit)) (now (tx .exit)) (now (host .exit)) (now («run_dates» .exit)) (now («run_counts» .exit)) (now (rx .exit))) ⌝ }
+{
+    let row = *b"basket 7, row 12";
+    let given = receive::receive(
+        from.core,
+        gone_at,
+        flight,
+        tx,
+        host,
+        run_dates,
+        run_counts,
+        rx,
+        base + 200,
+        base + 300,
+        &row,
+    );
+    let core = given.core;
+    handled(
+        Tally {
+            core,
+            sum: from.sum,
+        },
+        gone_at,
+        flight,
+        tx,
+        host,
+        run_dates,
+        run_counts,
+        rx,
+        base + 300,
+    )
+}
+
 // A row is sent, one comes, the handler reads it, and the console takes what was sent.
 fn round<'a>(
     from: Tally,
@@ -366,9 +468,8 @@ fn round<'a>(
         rx,
         base,
     );
-    let row = *b"basket 7, row 12";
-    let given = receive::receive(
-        sent.core,
+    let read = answered(
+        sent,
         gone_at,
         flight,
         tx,
@@ -376,27 +477,10 @@ fn round<'a>(
         run_dates,
         run_counts,
         rx,
-        base + 200,
-        base + 300,
-        &row,
-    );
-    let core = given.core;
-    let answered = handled(
-        Tally {
-            core,
-            sum: sent.sum,
-        },
-        gone_at,
-        flight,
-        tx,
-        host,
-        run_dates,
-        run_counts,
-        rx,
-        base + 300,
+        base,
     );
     shown(
-        answered,
+        read,
         gone_at,
         flight,
         tx,

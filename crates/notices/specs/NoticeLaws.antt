@@ -5,19 +5,17 @@ use Prim.Native.Nat.{ℕ, suc, _+_, _-_, _<_, _≤_}
 use native.Mathlib.Omega.{arith}
 use mathlib.Core.Bool.{Bool, true, false}
 use mathlib.Core.List.{List, [], _∷_, _++_, map, append-assoc, append-nil}
-use lib.Dec.{eqb}
 use lib.ListN.{length, set, replicate, length-append}
 use borrow.Author.Tests.{lt-ltb}
-use Rattle.model.specs.Numbers.{choose, bit, field}
+use Rattle.model.specs.Numbers.{choose}
 use Rattle.model.specs.Laws.Choose.{choose-true}
 use Rattle.model.specs.Replies.{notices, noticePlaces, unused}
-use Rattle.model.specs.Registers.{noteIf, conf0Notes, sourceNotes}
+use Rattle.model.specs.Registers.{noteIf, sourceNotes}
 use Rattle.model.specs.declared.Notice.{Notice}
 use Rattle.model.specs.declared.Source.{Source}
-use Rattle.model.specs.declared.Feature.{Feature}
 use Rattle.model.specs.declared.Unsupported.{Unsupported}
-use Rattle.model.specs.declared.Unsupported.the-variants.{UartEmptyRead, UartReceiveClock, UartFeature}
-use Rattle.notices.specs.Notices.{noted, added, addedIf, lowModes, highModes}
+use Rattle.model.specs.declared.Unsupported.the-variants.{UartEmptyRead, UartReceiveClock}
+use Rattle.notices.specs.Notices.{noted, added, addedIf}
 use Rattle.notices.specs.declared.Notices.{Notices}
 
 notice : Unsupported → Notice
@@ -84,25 +82,6 @@ filled-noted (m ∷ ms) ns h =
     ∙ ap noted (append-assoc ns one (marked ms) ∙ ap (λ l. ns ++ l) (note-append (m .test) (m .what) (marked ms)))
 
 -- ---- the notices of registers
-
-mode : Bool → Feature → Mark
-mode t f = record { test = t; what = UartFeature f }
-
--- the modes of CONF0 in the order of their bits, then a stop code of 0
-pub conf0-noted : (v : ℕ) → highModes v (lowModes v (noted [])) ≡ noted (conf0Notes v)
-unfolding filled marked mode conf0Notes
-conf0-noted v =
-    filled-noted
-    (mode (bit 8 v) Feature.TxBreak
-    ∷ mode (bit 14 v) Feature.Loopback
-    ∷ mode (bit 15 v) Feature.TxFlowControl
-    ∷ mode (bit 16 v) Feature.Irda
-    ∷ mode (bit 19 v) Feature.InvertedRx
-    ∷ mode (bit 22 v) Feature.InvertedTx
-    ∷ mode (bit 27 v) Feature.Autobaud
-    ∷ mode (eqb (field 4 2 v) 0) Feature.NoStopBit
-    ∷ [])
-    [] (omega arith)
 
 source-short : (notice : ℕ → Unsupported) (s : Source) → length (sourceNotes notice s) < noticePlaces
 unfolding sourceNotes

@@ -2,20 +2,14 @@
 // Which access notes what is carried over from inkemu's uart.rs and changed.
 pub mod reports;
 
-use model::Feature;
 use model::Notice;
-use model::Place;
 use model::Source;
 use model::Unsupported;
 ghost use mathlib.Core.Path.{_≡_};
-ghost use Prim.Native.Nat.{ℕ, _<_};
+ghost use Prim.Native.Nat.{ℕ};
 ghost use mathlib.Core.List.{[], _∷_};
-ghost use Rattle.model.specs.Numbers.{bit};
-ghost use Rattle.model.specs.Registers.{noteIf, conf0Notes, storedNotes, sourceNotes};
-ghost use Rattle.notices.specs.Notices.{added, addedIf, noted, lowModes};
-
-// MEM_CONF's RX_SIZE and TX_SIZE at one block each.
-const ONE_BLOCK_EACH: u32 = 9;
+ghost use Rattle.model.specs.Registers.{sourceNotes};
+ghost use Rattle.notices.specs.Notices.{added, addedIf, noted};
 
 // The first `count` of these are notes of the call.
 pub struct Notices {
@@ -49,19 +43,11 @@ impl Notices {
         }
     }
 
-    fn noted_if(self, test: bool, what: Unsupported) -> Notices
+    // One more where the test passes.
+    pub fn noted_if(self, test: bool, what: Unsupported) -> Notices
         ensures { λ r. ⌜ r ≡ addedIf test what self ⌝ }
     {
         if test { self.noted(what) } else { self }
-    }
-
-    // A mode of CONF0 that is refused by name where its bit is set.
-    fn refused_mode(self, conf0: u32, n: u32, mode: Feature) -> Notices
-        requires { ⌜ n < 32 ⌝ }
-        ensures { λ r. ⌜ r ≡ addedIf (bit n conf0) (Unsupported.UartFeature mode) self ⌝ }
-    {
-        let set = (conf0 >> n) & 1 == 1;
-        self.noted_if(set, Unsupported::UartFeature(mode))
     }
 
     // A read of FIFO found it empty.
@@ -77,13 +63,6 @@ fn one(what: Unsupported) -> Notices
     ensures { λ r. ⌜ r ≡ noted (what ∷ []) ⌝ }
 {
     none().noted(what)
-}
-
-// One mode alone, refused by name where it is set.
-fn refused_if(test: bool, mode: Feature) -> Notices
-    ensures { λ r. ⌜ r ≡ noted (noteIf test (Unsupported.UartFeature mode) []) ⌝ }
-{
-    none().noted_if(test, Unsupported::UartFeature(mode))
 }
 
 // A FIFO write that is dropped.
@@ -120,54 +99,4 @@ pub fn receive_clock_notices(source: Source) -> Notices
         Unsupported::UartReceiveClock(0),
         Unsupported::UartReceiveClock(2),
     )
-}
-
-// The first four modes of CONF0 that are refused by name, in the order of their bits.
-fn low_modes(value: u32) -> Notices
-    ensures { λ r. ⌜ r ≡ lowModes value (noted []) ⌝ }
-{
-    none().refused_mode(value, 8, Feature::TxBreak)
-        .refused_mode(value, 14, Feature::Loopback)
-        .refused_mode(value, 15, Feature::TxFlowControl)
-        .refused_mode(value, 16, Feature::Irda)
-}
-
-// The other three behind them, and then a stop code of 0.
-fn conf0_notices(value: u32) -> Notices
-    ensures { λ r. ⌜ r ≡ noted (conf0Notes value) ⌝ }
-{
-    let no_stop_bit = fields::stop_bit_num(value) == 0;
-    low_modes(value)
-        .refused_mode(value, 19, Feature::InvertedRx)
-        .refused_mode(value, 22, Feature::InvertedTx)
-        .refused_mode(value, 27, Feature::Autobaud)
-        .noted_if(no_stop_bit, Unsupported::UartFeature(Feature::NoStopBit))
-}
-
-// What a stored word gives: CONF1's RX_FLOW_EN, an RS485_CONF other than 0, FIFO sizes other than one block each.
-pub fn stored_notices(place: Place, value: u32) -> Notices
-    ensures { λ r. ⌜ r ≡ noted (storedNotes place value) ⌝ }
-{
-    match place {
-        Place::Conf0 => conf0_notices(value),
-        Place::Conf1 => refused_if(fields::rx_flow_en(value), Feature::RxFlowControl),
-        Place::Rs485Conf => refused_if(value != 0, Feature::Rs485),
-        Place::MemConf => refused_if(
-            fields::fifo_sizes(value) != ONE_BLOCK_EACH,
-            Feature::FifoSize,
-        ),
-        Place::Fifo
-        | Place::IntRaw
-        | Place::IntSt
-        | Place::IntEna
-        | Place::IntClr
-        | Place::Clkdiv
-        | Place::Status
-        | Place::FsmStatus
-        | Place::ClkConf
-        | Place::IdleConf
-        | Place::AtCmdChar
-        | Place::MemRxStatus
-        | Place::Unknown => none(),
-    }
 }

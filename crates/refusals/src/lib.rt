@@ -2,11 +2,9 @@
 // that could pass 64 bits. The Rust has no such limits.
 use model::Refusal;
 use model::SetUp;
+use offsets::repeated;
 ghost use mathlib.Core.Path.{_≡_};
-ghost use Prim.Native.Nat.{_≤_};
-ghost use lib.ListN.{drop};
 ghost use Rattle.model.specs.SetUp.{setUpReply};
-ghost use Rattle.model.specs.Tests.{among, repeated as Tests·repeated};
 ghost use Rattle.model.specs.Tests.{pastEnd, wentBack, transmitFull, hostFull};
 ghost use Rattle.model.specs.Tests.{runsFull, periodTooLong, bufferTooShort, refuseIf};
 ghost use Rattle.refusals.specs.Refusals.{verdict, dates, datesOnly, sending};
@@ -34,36 +32,7 @@ pub enum Checked {
     Refused(Refusal),
 }
 
-// Whether an offset stands again from a place on.
-fn stands_from(offsets: [u32; 16], from: usize, offset: u32) -> bool
-    requires { ⌜ from ≤ 16 ⌝ }
-    ensures { λ r. ⌜ r ≡ among offset (drop from offsets) ⌝ }
-{
-    let mut at = from;
-    while at < 16 {
-        if offsets[at] == offset {
-            return true;
-        }
-        at += 1;
-    }
-    false
-}
-
-// 1: two of the sixteen offsets are equal.
-fn repeated(offsets: [u32; 16]) -> bool
-    ensures { λ r. ⌜ r ≡ Tests·repeated offsets ⌝ }
-{
-    let mut at: usize = 0;
-    while at < 16 {
-        if stands_from(offsets, at + 1, offsets[at]) {
-            return true;
-        }
-        at += 1;
-    }
-    false
-}
-
-// What set-up answers.
+// What set-up answers: 1 where two of the sixteen offsets are equal.
 pub fn set_up_reply(offsets: [u32; 16]) -> SetUp
     ensures { λ r. ⌜ r ≡ setUpReply offsets ⌝ }
 {

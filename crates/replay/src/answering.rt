@@ -3,11 +3,11 @@ use crate::carried::carry_out;
 use crate::faults::put_fault;
 use crate::session::Session;
 use crate::setups::set_up;
-use lines::Fault;
 use lines::Line;
-use lines::Name;
-use lines::Reason;
 use lines::read_line;
+use names::Name;
+use steps::Fault;
+use steps::Reason;
 use text::next_word;
 ghost use Rattle.uart.specs.Whole.{Good};
 

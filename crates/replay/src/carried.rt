@@ -6,7 +6,7 @@ use crate::session::Session;
 use crate::session::in_use;
 use crate::setups::low;
 use crate::setups::set_up;
-use lines::Name;
+use names::Name;
 use text::within;
 use uart::AfterDone;
 use uart::AfterRead;

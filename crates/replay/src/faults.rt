@@ -1,7 +1,7 @@
 // The line that a line with a fault answers.
-use lines::Fault;
-use lines::Reason;
 use spelling::put;
+use steps::Fault;
+use steps::Reason;
 
 // More of a word than this is not shown.
 const SHOWN: usize = 40;

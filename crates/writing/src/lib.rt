@@ -43,7 +43,7 @@ fn stored(mut core: Core, place: Place, value: u32) -> Put
     control.words = words;
     core.control = control;
     let reply = accepted(put.accepted);
-    let notices = notices::stored_notices(place, value);
+    let notices = word_notices::stored_notices(place, value);
     Put {
         core,
         reply,

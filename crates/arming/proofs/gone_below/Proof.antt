@@ -1,6 +1,6 @@
 -- `gone_below` meets its contract, by cases. Assumes nothing.
 use mathlib.Core.Path.{ap, sym, _∙_}
-use Rattle.instants.specs.Instants.{goneBelow}
+use Rattle.upcoming.specs.Instants.{goneBelow}
 use Rattle.device.specs.Holds.{flightOf}
 use native.Mathlib.Omega.{arith}
 use borrow.Author.Needs.{needs}

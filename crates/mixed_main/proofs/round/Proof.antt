@@ -7,26 +7,11 @@ use Rattle.mixed_main.proofs.round.Tie as tie
 row-sent-requires : tie.Need-row-sent-requires
 row-sent-requires c κs = search needs
 
-add-receive : tie.Need-add-receive
-add-receive c = search needs
-
-add-receive-2 : tie.Need-add-receive-2
-add-receive-2 c = search needs
-
-slice-aggregate-receive : tie.Need-slice-aggregate-receive
-slice-aggregate-receive c = search needs
-
-receive-requires : tie.Need-receive-requires
-receive-requires c κs = search needs
-
-add-handled : tie.Need-add-handled
-add-handled c = omega (arith, c .before .before .before .before .before .before .before .before .before .before .before .before .before .before .before .before .before .before .before .before .before .before .before .before .before .before .before .pre .1)
-
-handled-requires : tie.Need-handled-requires
-handled-requires c κs = (c .before .before .before .before .before .before .before .before .receive .ensures .ok, omega (arith, c .before .before .before .before .before .before .before .before .before .before .before .before .before .before .before .before .before .before .before .before .before .before .before .before .before .before .before .pre .1))
+answered-requires : tie.Need-answered-requires
+answered-requires c κs = search needs
 
 add-shown : tie.Need-add-shown
-add-shown c = omega (arith, c .before .before .before .before .before .before .before .before .before .before .before .before .before .before .before .before .before .before .before .before .before .before .before .before .before .before .before .before .before .before .before .before .before .before .before .pre .1)
+add-shown c = omega (arith, c .before .before .before .before .before .before .before .before .before .before .before .before .before .before .before .before .before .before .before .before .before .before .before .pre .1)
 
 shown-requires : tie.Need-shown-requires
 shown-requires c κs = search needs
@@ -35,16 +20,4 @@ returns : tie.Need-returns
 returns c = search needs
 
 pub round-spec : {M : Type 1} → statement M
-round-spec =
-    tie.close
-    (tie.spec
-    row-sent-requires
-    add-receive
-    add-receive-2
-    slice-aggregate-receive
-    receive-requires
-    add-handled
-    handled-requires
-    add-shown
-    shown-requires
-    returns)
+round-spec = tie.close (tie.spec row-sent-requires answered-requires add-shown shown-requires returns)

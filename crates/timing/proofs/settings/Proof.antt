@@ -28,7 +28,15 @@ dis-rx-dat-ovf-requires c κs = tt
 returns : tie.Need-returns
 unfolding settings
 returns c =
-    cc
+    rw (
+      c .before .before .before .before .before .before .byte-time .ensures,
+      c .before .before .before .before .before .timeout-time .ensures,
+      c .before .before .before .before .unmodelled-source .ensures,
+      c .before .before .before .rx-sclk-en .ensures,
+      c .before .before .rx-tout-en .ensures,
+      c .before .rxfifo-rst .ensures,
+      c .dis-rx-dat-ovf .ensures,
+    )
 
 pub settings-spec : {M : Type 1} → statement M
 settings-spec =

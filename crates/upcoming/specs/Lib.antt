@@ -1,0 +1,2 @@
+-- Instants of numbers and marks.
+pub mod Instants
