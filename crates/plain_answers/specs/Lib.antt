@@ -1,2 +1,3 @@
 -- What an exported call answers.
 pub mod Answers
+pub mod Kept
