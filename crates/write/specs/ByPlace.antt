@@ -24,7 +24,7 @@ use Rattle.device.specs.Holds.{Arrays, abs, Shape, Ok}
 use Rattle.device.specs.declared.Core.{Core}
 use Rattle.calls.specs.Answers.{Accesses, Works, Answers, carried, turned-away, in-time}
 use Rattle.calls.specs.Queues.{flyingIn}
-use Rattle.writing.specs.Sends.{SendsAny, send-checks, send-period}
+use Rattle.sending.specs.Sends.{SendsAny, send-checks, send-period}
 use Rattle.writing.specs.Writes.{write-period}
 use Rattle.writing.specs.declared.Put.{Put}
 use Rattle.write.specs.Structs.{refusedWrite}

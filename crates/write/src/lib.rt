@@ -11,7 +11,6 @@ use notices::reports;
 use refusals::Checked;
 use registers::places;
 use writing::Put;
-use writing::sending;
 ghost use mathlib.Core.Path.{_≡_};
 ghost use Prim.Native.Nat.{_<_, _≤_, _%_};
 ghost use lib.ListN.{length};

@@ -1,3 +1,2 @@
 -- What the contracts of `writing` say, and the laws of it.
 pub mod Writes
-pub mod Sends

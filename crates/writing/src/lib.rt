@@ -1,6 +1,4 @@
 // What a write at a place other than FIFO does once the UART is settled.
-pub mod sending;
-
 use device::Core;
 use model::Place;
 use model::Write;

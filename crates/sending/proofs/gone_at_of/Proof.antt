@@ -1,7 +1,7 @@
--- `sending::gone_at_of` meets its contract. Assumes nothing.
+-- `gone_at_of` meets its contract. Assumes nothing.
 use borrow.Author.Needs.{needs}
-use Rattle.writing.proofs.sending.gone_at_of.Statement.{statement}
-use Rattle.writing.proofs.sending.gone_at_of.Tie as tie
+use Rattle.sending.proofs.gone_at_of.Statement.{statement}
+use Rattle.sending.proofs.gone_at_of.Tie as tie
 
 last-gone-requires : tie.Need-last-gone-requires
 last-gone-requires c κs = search needs

@@ -1,12 +1,12 @@
--- `sending::send_byte` meets its contract: dropped, or put at the back with its date. Assumes nothing.
+-- `send_byte` meets its contract: dropped, or put at the back with its date. Assumes nothing.
 use mathlib.Core.Path.{ap, _∙_}
 use Rattle.notices.specs.Notices.{noted}
 use Rattle.model.specs.Registers.{sourceNotes}
 use Rattle.model.specs.declared.Unsupported.{Unsupported}
-use Rattle.writing.specs.Sends.{drops-any, sends-any}
+use Rattle.sending.specs.Sends.{drops-any, sends-any}
 use borrow.Author.Needs.{needs}
-use Rattle.writing.proofs.sending.send_byte.Statement.{statement}
-use Rattle.writing.proofs.sending.send_byte.Tie as tie
+use Rattle.sending.proofs.send_byte.Statement.{statement}
+use Rattle.sending.proofs.send_byte.Tie as tie
 
 fifo-full-requires : tie.Need-fifo-full-requires
 fifo-full-requires c κs = tt

@@ -1,8 +1,8 @@
--- `sending::starts_at` meets its contract, by cases on the last date. Assumes nothing.
+-- `starts_at` meets its contract, by cases on the last date. Assumes nothing.
 use Rattle.model.specs.Registers.{startsAt}
 use borrow.Author.Needs.{needs}
-use Rattle.writing.proofs.sending.starts_at.Statement.{statement}
-use Rattle.writing.proofs.sending.starts_at.Tie as tie
+use Rattle.sending.proofs.starts_at.Statement.{statement}
+use Rattle.sending.proofs.starts_at.Tie as tie
 
 enum-told : tie.Need-enum-told
 enum-told c = search needs

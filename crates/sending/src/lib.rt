@@ -1,9 +1,9 @@
 // uart.rs's `send`: a byte written to FIFO joins those in flight, once the UART is settled.
-use crate::Put;
 use device::Core;
 use model::Date;
 use model::Write;
 use registers::words;
+use writing::Put;
 ghost use mathlib.Core.Path.{_≡_};
 ghost use Prim.Native.Nat.{ℕ, _≤_};
 ghost use mathlib.Core.List.{List};
@@ -12,7 +12,7 @@ ghost use Rattle.model.specs.Registers.{startsAt};
 ghost use Rattle.model.specs.Tests.{periodLimit};
 ghost use Rattle.queue.specs.Cursors.{Held};
 ghost use Rattle.device.specs.Holds.{flightOf};
-ghost use Rattle.writing.specs.Sends.{goneAtOf, SendsAny};
+ghost use Rattle.sending.specs.Sends.{goneAtOf, SendsAny};
 
 // When a byte starts: after the last one in flight, and not before now. In subcycles.
 fn starts_at(date: u64, last: Date) -> u64
