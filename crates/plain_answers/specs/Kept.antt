@@ -16,8 +16,8 @@ use Rattle.device.specs.Holds.{Arrays, abs}
 use Rattle.calls.specs.Answers.{Answers}
 
 -- the definition's call keeps it
-abbrev pub Keeps : {X : Type 0} → (State.Uart ℕ ℕ → Outcome X ℕ ℕ) → Type 0
-Keeps call = (u : State.Uart ℕ ℕ) → call u .state .map ≡ u .map
+pub record Keeps {X : Type 0} (call : State.Uart ℕ ℕ → Outcome X ℕ ℕ) : Type 0 where
+  pub keeps : (u : State.Uart ℕ ℕ) → call u .state .map ≡ u .map
 
 module _ (c : Request) (u : State.Uart ℕ ℕ) where
   from-step : {s : Step ℕ ℕ ℕ} → step c u ≡ s → s .state .map ≡ u .map
@@ -25,45 +25,45 @@ module _ (c : Request) (u : State.Uart ℕ ℕ) where
 
 pub read-kept : (now offset : ℕ) → Keeps (Calls.read now offset)
 unfolding answering
-read-kept now offset u = from-step _ u (step-cases u .read now offset)
+read-kept now offset = record { keeps = λ u. from-step _ u (step-cases u .read now offset) }
 
 pub write-kept : (now offset value : ℕ) → Keeps (Calls.write now offset value)
 unfolding answering
-write-kept now offset value u = from-step _ u (step-cases u .write now offset value)
+write-kept now offset value = record { keeps = λ u. from-step _ u (step-cases u .write now offset value) }
 
 pub receive-kept : (now at : ℕ) (bytes : List ℕ) → Keeps (Calls.receive now at bytes)
 unfolding answering
-receive-kept now at bytes u = from-step _ u (step-cases u .receive now at bytes)
+receive-kept now at bytes = record { keeps = λ u. from-step _ u (step-cases u .receive now at bytes) }
 
 pub wake-kept : (now : ℕ) → Keeps (Calls.wake now)
 unfolding answering
-wake-kept now u = from-step _ u (step-cases u .wake now)
+wake-kept now = record { keeps = λ u. from-step _ u (step-cases u .wake now) }
 
 pub reset-kept : (now : ℕ) → Keeps (Calls.reset now)
 unfolding answering
-reset-kept now u = from-step _ u (step-cases u .reset now)
+reset-kept now = record { keeps = λ u. from-step _ u (step-cases u .reset now) }
 
 pub clockChange-kept : (now period : ℕ) → Keeps (Calls.clockChange now period)
 unfolding answering
-clockChange-kept now period u = from-step _ u (step-cases u .clockChange now period)
+clockChange-kept now period = record { keeps = λ u. from-step _ u (step-cases u .clockChange now period) }
 
 pub powerDown-kept : (now : ℕ) → Keeps (Calls.powerDown now)
 unfolding answering
-powerDown-kept now u = from-step _ u (step-cases u .powerDown now)
+powerDown-kept now = record { keeps = λ u. from-step _ u (step-cases u .powerDown now) }
 
 pub watch-kept : (now : ℕ) (on : Bool) → Keeps (Calls.watch now on)
 unfolding answering
-watch-kept now on u = from-step _ u (step-cases u .watch now on)
+watch-kept now on = record { keeps = λ u. from-step _ u (step-cases u .watch now on) }
 
 pub takeTx-kept : (now : ℕ) (lent : List ℕ) → Keeps (Calls.takeTx now lent)
 unfolding answering
-takeTx-kept now lent u = from-step _ u (step-cases u .takeTx now lent)
+takeTx-kept now lent = record { keeps = λ u. from-step _ u (step-cases u .takeTx now lent) }
 
 pub takeWritten-kept : (lent : List ℕ) → Keeps (Calls.takeWritten lent)
 unfolding answering
-takeWritten-kept lent u = from-step _ u (step-cases u .takeWritten lent)
+takeWritten-kept lent = record { keeps = λ u. from-step _ u (step-cases u .takeWritten lent) }
 
 -- so the call over parts keeps the map of the core
 pub map-kept : {X R : Type 0} {view : X → R} {number : X → ℕ} {call : State.Uart ℕ ℕ → Outcome X ℕ ℕ} {c : Core} {a : Arrays} {c′ : Core} {a′ : Arrays}
     {reply : R} {report : Report} → Keeps call → Answers view number (call (abs c a)) c a c′ a′ reply report → c′ .map ≡ c .map
-map-kept {c = c} {a = a} kept k = ap (λ (u : State.Uart ℕ ℕ). u .map) (k .state) ∙ kept (abs c a)
+map-kept {c = c} {a = a} kept k = ap (λ (u : State.Uart ℕ ℕ). u .map) (k .state) ∙ kept .keeps (abs c a)
