@@ -1,7 +1,6 @@
 -- A write by its place: FIFO sends a byte, and any other place takes the word; the tests and the work of both. Assumes nothing.
 use mathlib.Core.Path.{_≡_, refl, sym, ap, ap₂, subst, _∙_}
 use mathlib.Core.Bool.{Bool, true, false}
-use mathlib.Core.List.{List}
 use mathlib.Core.Option.{Option, none, some}
 use Prim.Native.Nat.{ℕ, _%_, _<_}
 use Rattle.model.specs.Numbers.{choose}
@@ -18,15 +17,14 @@ use Rattle.model.specs.declared.Report.{Report}
 use Rattle.model.specs.declared.Write.{Write}
 use Rattle.model.specs.declared.Place.{Place}
 use Rattle.model.specs.declared.Place.the-variants.{Fifo, IntRaw, IntSt, IntEna, IntClr, Clkdiv, Status, FsmStatus, Conf0, Conf1, ClkConf, IdleConf, Rs485Conf, AtCmdChar, MemConf, MemRxStatus, Unknown}
+use Rattle.notices.specs.declared.Notices.{Notices}
 use Rattle.refusals.specs.Calls.{write-tests}
 use Rattle.refusals.specs.Refusals.{sending, datesOnly}
-use Rattle.device.specs.Holds.{Arrays, abs, Shape, Ok}
+use Rattle.device.specs.Holds.{Arrays, abs, Ok}
 use Rattle.device.specs.declared.Core.{Core}
 use Rattle.calls.specs.Answers.{Accesses, Works, Answers, carried, turned-away, in-time}
-use Rattle.calls.specs.Queues.{flyingIn}
-use Rattle.sending.specs.Sends.{SendsAny, send-checks, send-period}
+use Rattle.sending.specs.Sends.{send-checks, send-period}
 use Rattle.writing.specs.Writes.{write-period}
-use Rattle.writing.specs.declared.Put.{Put}
 use Rattle.write.specs.Structs.{refusedWrite}
 use Rattle.write.specs.declared.WriteCore.{WriteCore}
 
@@ -62,12 +60,6 @@ accessAt false cycle b p v u = writePlace p v u
 abbrev pub workAt : Bool → ℕ → ℕ → Place → ℕ → State.Uart ℕ ℕ → Outcome Write ℕ ℕ
 workAt fifo cycle b p v u = afterSettling (settledAt cycle u) (λ s. concluded (accessAt fifo cycle b p v s))
 
--- whatever stands in the arrays that a write does not touch
-abbrev pub PutsAny : Bool → ℕ → ℕ → Place → ℕ → Core → List ℕ → List ℕ → Put → List ℕ → List ℕ → Type 0
-PutsAny fifo cycle b p v c dates bytes r dates′ bytes′ =
-    (a : Arrays) → a .goneAt ≡ dates → a .flight ≡ bytes → Shape c a
-    → Accesses (λ x. x) (accessAt fifo cycle b p v (abs c a)) (r .core) (flyingIn dates′ bytes′ a) (r .reply) (r .notices)
-
 -- ---- the laws of an access
 
 module _ (cycle b : ℕ) (p : Place) (v : ℕ) where
@@ -81,16 +73,14 @@ module _ (cycle b : ℕ) (p : Place) (v : ℕ) where
   access-zero true u = send-proper cycle b u .zero
   access-zero false u = write-proper p v u .zero
 
-  module _ (c : Core) (dates bytes : List ℕ) {f : Bool} {r : Put} where
-    pub sends-put : f ≡ true → {dates′ bytes′ : List ℕ} → SendsAny cycle b c dates bytes (r .core) dates′ bytes′ (r .reply) (r .notices)
-        → PutsAny f cycle b p v c dates bytes r dates′ bytes′
+  module _ {f : Bool} (u : State.Uart ℕ ℕ) {c′ : Core} {a′ : Arrays} {reply : Write} {m : Notices} where
+    pub sent-access : f ≡ true → Accesses (λ x. x) (sendByte cycle b u) c′ a′ reply m → Accesses (λ x. x) (accessAt f cycle b p v u) c′ a′ reply m
     unfolding accessAt
-    sends-put e {dates′} {bytes′} k = subst (λ (x : Bool). PutsAny x cycle b p v c dates bytes r dates′ bytes′) (sym e) k
+    sent-access e k = subst (λ (x : Bool). Accesses (λ w. w) (accessAt x cycle b p v u) c′ a′ reply m) (sym e) k
 
-    pub places-put : f ≡ false → ((a : Arrays) → Shape c a → Accesses (λ x. x) (writePlace p v (abs c a)) (r .core) a (r .reply) (r .notices))
-        → PutsAny f cycle b p v c dates bytes r dates bytes
+    pub placed-access : f ≡ false → Accesses (λ x. x) (writePlace p v u) c′ a′ reply m → Accesses (λ x. x) (accessAt f cycle b p v u) c′ a′ reply m
     unfolding accessAt
-    places-put e k = subst (λ (x : Bool). PutsAny x cycle b p v c dates bytes r dates bytes) (sym e) (λ a ed eb s. rw (← ed, ← eb) (k a s))
+    placed-access e k = subst (λ (x : Bool). Accesses (λ w. w) (accessAt x cycle b p v u) c′ a′ reply m) (sym e) k
 
 -- ---- the laws of the call
 

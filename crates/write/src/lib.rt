@@ -12,9 +12,9 @@ use refusals::Checked;
 use registers::places;
 use writing::Put;
 ghost use mathlib.Core.Path.{_≡_};
-ghost use Prim.Native.Nat.{_<_, _≤_, _%_};
+ghost use Prim.Native.Nat.{_<_, _%_};
 ghost use lib.ListN.{length};
-ghost use Rattle.model.specs.Tests.{dateEnd, periodLimit};
+ghost use Rattle.model.specs.Tests.{dateEnd};
 ghost use Rattle.model.specs.Replies.{writeNumber};
 ghost use Rattle.model.specs.Calls.{write as Calls·write};
 ghost use Rattle.queue.specs.Cursors.{Held};
@@ -24,7 +24,7 @@ ghost use Rattle.arming.specs.Arms.{Ready};
 ghost use Rattle.device.specs.Wholes.{arrays};
 ghost use Rattle.calls.specs.Answers.{Works, Answers};
 ghost use Rattle.write.specs.Structs.{writeCore, refusedWrite};
-ghost use Rattle.write.specs.ByPlace.{isFifo, testsAt, workAt, PutsAny};
+ghost use Rattle.write.specs.ByPlace.{isFifo, testsAt, workAt};
 ghost use Rattle.write.specs.Concludes.{ConcludesAny};
 
 #[repr(C)]
@@ -99,27 +99,6 @@ fn tests_at(fifo: bool, cycle: u64, last: u64, left: usize, flying: usize) -> Ch
     }
 }
 
-// FIFO sends a byte, and any other place takes the word.
-fn put_at<'a>(
-    core: Core,
-    gone_at: &'a mut [u64; 129],
-    flight: &'a mut [u8; 129],
-    cycle: u64,
-    fifo: bool,
-    byte: u8,
-    place: Place,
-    value: u32,
-) -> Put
-    requires { ⌜ Held 129 (core .flight) × (length (now «gone_at») ≡ 129) × (length (now flight) ≡ 129) × (core .control .period ≤ periodLimit) ⌝ }
-    ensures { λ r. ⌜ PutsAny fifo cycle byte place value core (now («gone_at» .entry)) (now (flight .entry)) r (now («gone_at» .exit)) (now (flight .exit)) ⌝ }
-{
-    if fifo {
-        sending::send_byte(core, gone_at, flight, cycle, byte)
-    } else {
-        writing::write_place(core, place, value)
-    }
-}
-
 // Every write raises levels, drives the interrupt and arms, accepted or not.
 fn concluded<'a>(
     put: Put,
@@ -137,6 +116,7 @@ fn concluded<'a>(
     answered(core, reply, passes, overflows, notices)
 }
 
+// FIFO sends a byte, and any other place takes the word.
 fn write_settled<'a>(
     core: Core,
     gone_at: &'a mut [u64; 129],
@@ -170,8 +150,13 @@ fn write_settled<'a>(
         rx,
         cycle,
     );
-    let put = put_at(t.core, gone_at, flight, cycle, fifo, byte, place, value);
-    concluded(put, gone_at, run_dates, t.passes, t.overflows)
+    if fifo {
+        let sent = sending::send_byte(t.core, gone_at, flight, cycle, byte);
+        concluded(sent, gone_at, run_dates, t.passes, t.overflows)
+    } else {
+        let put = writing::write_place(t.core, place, value);
+        concluded(put, gone_at, run_dates, t.passes, t.overflows)
+    }
 }
 
 pub fn write<'a>(
