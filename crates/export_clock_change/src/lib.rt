@@ -31,7 +31,6 @@ pub extern "C" fn wondraxu_clock_change<'a>(
         (arrays (now («gone_at» .entry)) (now (flight .entry)) (now (tx .exit)) (now (host .entry)) (now («run_dates» .entry)) (now («run_counts» .exit)) (now (rx .exit))))
         core r ⌝ }
 {
-    let map = core.map;
     let from = plain::core_of(core);
     let done = clock_change::clock_change(
         from,
@@ -45,5 +44,5 @@ pub extern "C" fn wondraxu_clock_change<'a>(
         cycle,
         period,
     );
-    plain_answers::done_answer(done, map)
+    plain_answers::done_answer(done)
 }

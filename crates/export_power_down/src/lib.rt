@@ -13,8 +13,7 @@ ghost use Rattle.plain_answers.specs.Answers.{Plainly};
 pub extern "C" fn wondraxu_power_down(core: PlainCore, cycle: u64) -> PlainAnswer
     ensures { λ r. ⌜ ((a : Arrays) → Ok (coreOf core) a → Plainly plainDone (λ c c′. DoneWith (powerDown cycle) c a c′ a) core r) ⌝ }
 {
-    let map = core.map;
     let from = plain::core_of(core);
     let done = calls::power_down::power_down(from, cycle);
-    plain_answers::done_answer(done, map)
+    plain_answers::done_answer(done)
 }

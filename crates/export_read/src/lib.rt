@@ -33,7 +33,6 @@ pub extern "C" fn wondraxu_read<'a>(
         (arrays (now («gone_at» .entry)) (now (flight .entry)) (now (tx .exit)) (now (host .entry)) (now («run_dates» .entry)) (now («run_counts» .exit)) (now (rx .exit))))
         core r ⌝ }
 {
-    let map = core.map;
     let from = plain::core_of(core);
     let done = read::read(
         from,
@@ -47,5 +46,5 @@ pub extern "C" fn wondraxu_read<'a>(
         cycle,
         offset,
     );
-    plain_answers::read_answer(done, map)
+    plain_answers::read_answer(done)
 }

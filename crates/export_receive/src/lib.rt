@@ -32,7 +32,6 @@ pub extern "C" fn wondraxu_receive<'a, 'b>(
         (arrays (now («gone_at» .entry)) (now (flight .entry)) (now (tx .exit)) (now (host .exit)) (now («run_dates» .exit)) (now («run_counts» .exit)) (now (rx .exit))))
         core r ⌝ }
 {
-    let map = core.map;
     let from = plain::core_of(core);
     let done = receive::receive(
         from,
@@ -47,5 +46,5 @@ pub extern "C" fn wondraxu_receive<'a, 'b>(
         at,
         bytes,
     );
-    plain_answers::done_answer(done, map)
+    plain_answers::done_answer(done)
 }

@@ -30,7 +30,6 @@ pub extern "C" fn wondraxu_reset<'a>(
         (arrays (now («gone_at» .entry)) (now (flight .entry)) (now (tx .exit)) (now (host .entry)) (now («run_dates» .entry)) (now («run_counts» .exit)) (now (rx .exit))))
         core r ⌝ }
 {
-    let map = core.map;
     let from = plain::core_of(core);
     let done = reset::reset(
         from,
@@ -43,5 +42,5 @@ pub extern "C" fn wondraxu_reset<'a>(
         rx,
         cycle,
     );
-    plain_answers::done_answer(done, map)
+    plain_answers::done_answer(done)
 }

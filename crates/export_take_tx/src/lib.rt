@@ -32,7 +32,6 @@ pub extern "C" fn wondraxu_take_tx<'a, 'b>(
         reply report (now (out .exit)))
         core r ⌝ }
 {
-    let map = core.map;
     let from = plain::core_of(core);
     let done = take_tx::take_tx(
         from,
@@ -46,5 +45,5 @@ pub extern "C" fn wondraxu_take_tx<'a, 'b>(
         cycle,
         out,
     );
-    plain_answers::taken_answer(done, map)
+    plain_answers::taken_answer(done)
 }

@@ -25,8 +25,7 @@ pub extern "C" fn wondraxu_take_written<'a>(
     ensures { λ r. ⌜ ((a : Arrays) → a .flight ≡ now (flight .entry) → a .tx ≡ now (tx .entry) → Ok (coreOf core) a
         → Plainly plainTaken (λ c c′ reply report. TakesWith (takeWritten (now (out .entry))) c a c′ a reply report (now (out .exit))) core r) ⌝ }
 {
-    let map = core.map;
     let from = plain::core_of(core);
     let done = take_written::take_written(from, flight, tx, out);
-    plain_answers::taken_answer(done, map)
+    plain_answers::taken_answer(done)
 }

@@ -24,8 +24,7 @@ pub extern "C" fn wondraxu_watch<'a>(
     ensures { λ r. ⌜ ((a : Arrays) → a .goneAt ≡ now («gone_at» .entry) → a .runDates ≡ now («run_dates» .entry) → Ok (coreOf core) a
         → Plainly plainDone (λ c c′. DoneWith (watch cycle on) c a c′ a) core r) ⌝ }
 {
-    let map = core.map;
     let from = plain::core_of(core);
     let done = calls::watch::watch(from, gone_at, run_dates, cycle, on);
-    plain_answers::done_answer(done, map)
+    plain_answers::done_answer(done)
 }

@@ -34,7 +34,6 @@ pub extern "C" fn wondraxu_write<'a>(
         (arrays (now («gone_at» .exit)) (now (flight .exit)) (now (tx .exit)) (now (host .entry)) (now («run_dates» .entry)) (now («run_counts» .exit)) (now (rx .exit))))
         core r ⌝ }
 {
-    let map = core.map;
     let from = plain::core_of(core);
     let done = write::write(
         from,
@@ -49,5 +48,5 @@ pub extern "C" fn wondraxu_write<'a>(
         offset,
         value,
     );
-    plain_answers::write_answer(done, map)
+    plain_answers::write_answer(done)
 }

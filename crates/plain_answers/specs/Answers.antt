@@ -1,9 +1,8 @@
 -- The contract of an exported call: its answer is the plain form of one that meets the contract of the call over parts, on the core
 -- that the numbers it was given stand for. Assumes nothing.
 -- The next call takes these numbers for the very core that was meant (`core-back` of `plain`).
-use mathlib.Core.Path.{_≡_, refl, sym, ap, subst, _∙_}
+use mathlib.Core.Path.{_≡_, refl, sym, subst}
 use Rattle.model.specs.declared.Report.{Report}
-use Rattle.model.specs.declared.RegisterMap.{RegisterMap}
 use Rattle.device.specs.declared.Core.{Core}
 use Rattle.device.specs.Holds.{Arrays, Ok}
 use Rattle.plain.specs.Plain.{coreOf, plainCore}
@@ -14,20 +13,6 @@ use Rattle.plain_answers.specs.declared.PlainAnswer.{PlainAnswer}
 
 abbrev pub plainAnswer : Core → PlainReply → Report → PlainAnswer
 plainAnswer c reply report = record { core = plainCore c; reply = reply; report = plainReport report }
-
--- a core with this register map
-abbrev pub mapped : RegisterMap → Core → Core
-mapped m c = record {
-  map = m;
-  control = c .control;
-  receiving = c .receiving;
-  byte = c .byte;
-  flight = c .flight;
-  tx = c .tx;
-  host = c .host;
-  runs = c .runs;
-  rx = c .rx;
-}
 
 -- `Meets c c′ reply report`: the call over parts may answer so, from the core c
 pub record Plainly {R : Type 0} (plain : R → PlainReply) (Meets : Core → Core → R → Report → Type 0) (p : PlainCore) (r : PlainAnswer) : Type 0 where
@@ -41,17 +26,12 @@ pub record Plainly {R : Type 0} (plain : R → PlainReply) (Meets : Core → Cor
 pub ok-of : (p : PlainCore) {c : Core} {a : Arrays} → c ≡ coreOf p → Ok (coreOf p) a → Ok c a
 ok-of p {c} {a} e ok = subst (λ (x : Core). Ok x a) (sym e) ok
 
--- every call keeps the register map, so the one that came in serves
 pub plainly : {R : Type 0} {plain : R → PlainReply} (Meets : Core → Core → R → Report → Type 0) {p : PlainCore} {c c′ : Core} {reply : R} {report : Report}
-    {r : PlainAnswer} → c ≡ coreOf p → c′ .map ≡ c .map → Meets c c′ reply report → r ≡ plainAnswer (mapped (p .map) c′) (plain reply) report
-    → Plainly plain Meets p r
-unfolding coreOf
-plainly {R} {plain} Meets {p} {c} {c′} {reply} {report} {r} e kept m s =
-    let map : c′ .map ≡ p .map = kept ∙ ap (λ (x : Core). x .map) e in
-    record {
-      core = c′;
-      reply = reply;
-      report = report;
-      meets = subst (λ (x : Core). Meets x c′ reply report) e m;
-      same = s ∙ ap (λ (n : RegisterMap). plainAnswer (mapped n c′) (plain reply) report) (sym map);
-    }
+    {r : PlainAnswer} → c ≡ coreOf p → Meets c c′ reply report → r ≡ plainAnswer c′ (plain reply) report → Plainly plain Meets p r
+plainly {R} {plain} Meets {p} {c} {c′} {reply} {report} {r} e m s = record {
+  core = c′;
+  reply = reply;
+  report = report;
+  meets = subst (λ (x : Core). Meets x c′ reply report) e m;
+  same = s;
+}

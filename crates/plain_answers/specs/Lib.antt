@@ -1,3 +1,2 @@
 -- What an exported call answers.
 pub mod Answers
-pub mod Kept

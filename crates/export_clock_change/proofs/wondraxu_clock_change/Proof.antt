@@ -1,6 +1,5 @@
 -- `wondraxu_clock_change` meets its contract, which is that of `clock_change` over the core that was meant. Assumes nothing.
 use Rattle.plain_answers.specs.Answers.{ok-of, plainly}
-use Rattle.plain_answers.specs.Kept.{clockChange-kept, map-kept}
 use Rattle.export_clock_change.proofs.wondraxu_clock_change.Statement.{statement}
 use Rattle.export_clock_change.proofs.wondraxu_clock_change.Tie as tie
 
@@ -8,16 +7,13 @@ core-of-requires : tie.Need-core-of-requires
 core-of-requires c κs = tt
 
 clock-change-requires : tie.Need-clock-change-requires
-clock-change-requires c κs = ok-of _ (c .before .before .before .core-of .ensures) (c .before .before .before .before .before .pre)
+clock-change-requires c κs = ok-of _ (c .before .before .before .core-of .ensures) (c .before .before .before .before .pre)
 
 done-answer-requires : tie.Need-done-answer-requires
 done-answer-requires c κs = tt
 
 returns : tie.Need-returns
-returns c =
-    let o = c .before .before .before .before .before .before .before .args in
-    let met = c .before .clock-change .ensures in
-    plainly _ (c .before .before .before .before .before .core-of .ensures) (map-kept (clockChange-kept (o .cycle) (o .period)) met) met (c .done-answer .ensures)
+returns c = plainly _ (c .before .before .before .before .before .core-of .ensures) (c .before .clock-change .ensures) (c .done-answer .ensures)
 
 pub wondraxu-clock-change-spec : {M : Type 1} → statement M
 wondraxu-clock-change-spec =

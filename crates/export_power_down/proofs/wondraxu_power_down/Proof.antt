@@ -1,6 +1,5 @@
 -- `wondraxu_power_down` meets its contract, which is that of `power_down` over the core that was meant. Assumes nothing.
 use Rattle.plain_answers.specs.Answers.{ok-of, plainly}
-use Rattle.plain_answers.specs.Kept.{powerDown-kept, map-kept}
 use Rattle.export_power_down.proofs.wondraxu_power_down.Statement.{statement}
 use Rattle.export_power_down.proofs.wondraxu_power_down.Tie as tie
 
@@ -15,10 +14,8 @@ done-answer-requires c κs = tt
 
 returns : tie.Need-returns
 returns c = λ a ok.
-    let o = c .before .before .before .before .args in
     let e = c .before .before .core-of .ensures in
-    let met = c .before .power-down .ensures a (ok-of _ e ok) in
-    plainly _ e (map-kept (powerDown-kept (o .cycle)) met) met (c .done-answer .ensures)
+    plainly _ e (c .before .power-down .ensures a (ok-of _ e ok)) (c .done-answer .ensures)
 
 pub wondraxu-power-down-spec : {M : Type 1} → statement M
 wondraxu-power-down-spec =

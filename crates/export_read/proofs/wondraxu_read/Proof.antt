@@ -1,6 +1,5 @@
 -- `wondraxu_read` meets its contract, which is that of `read` over the core that was meant. Assumes nothing.
 use Rattle.plain_answers.specs.Answers.{ok-of, plainly}
-use Rattle.plain_answers.specs.Kept.{read-kept, map-kept}
 use Rattle.export_read.proofs.wondraxu_read.Statement.{statement}
 use Rattle.export_read.proofs.wondraxu_read.Tie as tie
 
@@ -8,16 +7,13 @@ core-of-requires : tie.Need-core-of-requires
 core-of-requires c κs = tt
 
 read-requires : tie.Need-read-requires
-read-requires c κs = ok-of _ (c .before .before .before .core-of .ensures) (c .before .before .before .before .before .pre)
+read-requires c κs = ok-of _ (c .before .before .before .core-of .ensures) (c .before .before .before .before .pre)
 
 read-answer-requires : tie.Need-read-answer-requires
 read-answer-requires c κs = tt
 
 returns : tie.Need-returns
-returns c =
-    let o = c .before .before .before .before .before .before .before .args in
-    let met = c .before .read .ensures in
-    plainly _ (c .before .before .before .before .before .core-of .ensures) (map-kept (read-kept (o .cycle) (o .offset)) met) met (c .read-answer .ensures)
+returns c = plainly _ (c .before .before .before .before .before .core-of .ensures) (c .before .read .ensures) (c .read-answer .ensures)
 
 pub wondraxu-read-spec : {M : Type 1} → statement M
 wondraxu-read-spec =

@@ -1,6 +1,5 @@
 -- `wondraxu_receive` meets its contract, which is that of `receive` over the core that was meant. Assumes nothing.
 use Rattle.plain_answers.specs.Answers.{ok-of, plainly}
-use Rattle.plain_answers.specs.Kept.{receive-kept, map-kept}
 use Rattle.export_receive.proofs.wondraxu_receive.Statement.{statement}
 use Rattle.export_receive.proofs.wondraxu_receive.Tie as tie
 
@@ -8,16 +7,13 @@ core-of-requires : tie.Need-core-of-requires
 core-of-requires c κs = tt
 
 receive-requires : tie.Need-receive-requires
-receive-requires c κs = ok-of _ (c .before .before .before .before .before .core-of .ensures) (c .before .before .before .before .before .before .before .before .pre)
+receive-requires c κs = ok-of _ (c .before .before .before .before .before .core-of .ensures) (c .before .before .before .before .before .before .before .pre)
 
 done-answer-requires : tie.Need-done-answer-requires
 done-answer-requires c κs = tt
 
 returns : tie.Need-returns
-returns c =
-    let o = c .before .before .before .before .before .before .before .before .before .before .args in
-    let met = c .before .receive .ensures in
-    plainly _ (c .before .before .before .before .before .before .before .core-of .ensures) (map-kept (receive-kept (o .cycle) (o .at) (o .bytes .now)) met) met (c .done-answer .ensures)
+returns c = plainly _ (c .before .before .before .before .before .before .before .core-of .ensures) (c .before .receive .ensures) (c .done-answer .ensures)
 
 pub wondraxu-receive-spec : {M : Type 1} → statement M
 wondraxu-receive-spec =

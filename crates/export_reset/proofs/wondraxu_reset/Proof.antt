@@ -1,6 +1,5 @@
 -- `wondraxu_reset` meets its contract, which is that of `reset` over the core that was meant. Assumes nothing.
 use Rattle.plain_answers.specs.Answers.{ok-of, plainly}
-use Rattle.plain_answers.specs.Kept.{reset-kept, map-kept}
 use Rattle.export_reset.proofs.wondraxu_reset.Statement.{statement}
 use Rattle.export_reset.proofs.wondraxu_reset.Tie as tie
 
@@ -8,16 +7,13 @@ core-of-requires : tie.Need-core-of-requires
 core-of-requires c κs = tt
 
 reset-requires : tie.Need-reset-requires
-reset-requires c κs = ok-of _ (c .before .before .before .core-of .ensures) (c .before .before .before .before .before .pre)
+reset-requires c κs = ok-of _ (c .before .before .before .core-of .ensures) (c .before .before .before .before .pre)
 
 done-answer-requires : tie.Need-done-answer-requires
 done-answer-requires c κs = tt
 
 returns : tie.Need-returns
-returns c =
-    let o = c .before .before .before .before .before .before .before .args in
-    let met = c .before .reset .ensures in
-    plainly _ (c .before .before .before .before .before .core-of .ensures) (map-kept (reset-kept (o .cycle)) met) met (c .done-answer .ensures)
+returns c = plainly _ (c .before .before .before .before .before .core-of .ensures) (c .before .reset .ensures) (c .done-answer .ensures)
 
 pub wondraxu-reset-spec : {M : Type 1} → statement M
 wondraxu-reset-spec =

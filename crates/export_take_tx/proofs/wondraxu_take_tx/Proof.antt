@@ -1,7 +1,6 @@
 -- `wondraxu_take_tx` meets its contract, which is that of `take_tx` over the core that was meant. Assumes nothing.
 use borrow.Author.Needs.{needs}
 use Rattle.plain_answers.specs.Answers.{ok-of, plainly}
-use Rattle.plain_answers.specs.Kept.{takeTx-kept, map-kept}
 use Rattle.export_take_tx.proofs.wondraxu_take_tx.Statement.{statement}
 use Rattle.export_take_tx.proofs.wondraxu_take_tx.Tie as tie
 
@@ -9,7 +8,7 @@ core-of-requires : tie.Need-core-of-requires
 core-of-requires c κs = tt
 
 take-tx-requires : tie.Need-take-tx-requires
-take-tx-requires c κs = ok-of _ (c .before .before .before .before .core-of .ensures) (c .before .before .before .before .before .before .before .pre)
+take-tx-requires c κs = ok-of _ (c .before .before .before .before .core-of .ensures) (c .before .before .before .before .before .before .pre)
 
 taken-answer-requires : tie.Need-taken-answer-requires
 taken-answer-requires c κs = tt
@@ -18,10 +17,7 @@ same-length : tie.Need-same-length
 same-length c = search needs
 
 returns : tie.Need-returns
-returns c =
-    let o = c .before .before .before .before .before .before .before .before .before .before .before .args in
-    let met = c .before .before .before .take-tx .ensures in
-    plainly _ (c .before .before .before .before .before .before .before .before .core-of .ensures) (map-kept (takeTx-kept (o .cycle) (o .out .now)) (met .0)) met (c .taken-answer .ensures)
+returns c = plainly _ (c .before .before .before .before .before .before .before .before .core-of .ensures) (c .before .before .before .take-tx .ensures) (c .taken-answer .ensures)
 
 pub wondraxu-take-tx-spec : {M : Type 1} → statement M
 wondraxu-take-tx-spec =

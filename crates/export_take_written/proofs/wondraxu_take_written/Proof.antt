@@ -1,7 +1,6 @@
 -- `wondraxu_take_written` meets its contract, which is that of `take_written` over the core that was meant. Assumes nothing.
 use borrow.Author.Needs.{needs}
 use Rattle.plain_answers.specs.Answers.{ok-of, plainly}
-use Rattle.plain_answers.specs.Kept.{takeWritten-kept, map-kept}
 use Rattle.export_take_written.proofs.wondraxu_take_written.Statement.{statement}
 use Rattle.export_take_written.proofs.wondraxu_take_written.Tie as tie
 
@@ -9,7 +8,7 @@ core-of-requires : tie.Need-core-of-requires
 core-of-requires c κs = tt
 
 take-written-requires : tie.Need-take-written-requires
-take-written-requires c κs = rw (c .before .core-of .ensures) (c .before .before .before .before .pre)
+take-written-requires c κs = rw (c .before .core-of .ensures) (c .before .before .before .pre)
 
 taken-answer-requires : tie.Need-taken-answer-requires
 taken-answer-requires c κs = tt
@@ -19,10 +18,8 @@ same-length c = search needs
 
 returns : tie.Need-returns
 returns c = λ a g d ok.
-    let o = c .before .before .before .before .before .before .before .before .args in
     let e = c .before .before .before .before .before .core-of .ensures in
-    let met = c .before .before .before .take-written .ensures a g d (ok-of _ e ok) in
-    plainly _ e (map-kept (takeWritten-kept (o .out .now)) (met .0)) met (c .taken-answer .ensures)
+    plainly _ e (c .before .before .before .take-written .ensures a g d (ok-of _ e ok)) (c .taken-answer .ensures)
 
 pub wondraxu-take-written-spec : {M : Type 1} → statement M
 wondraxu-take-written-spec =

@@ -1,6 +1,5 @@
 -- `wondraxu_wake` meets its contract, which is that of `wake` over the core that was meant. Assumes nothing.
 use Rattle.plain_answers.specs.Answers.{ok-of, plainly}
-use Rattle.plain_answers.specs.Kept.{wake-kept, map-kept}
 use Rattle.export_wake.proofs.wondraxu_wake.Statement.{statement}
 use Rattle.export_wake.proofs.wondraxu_wake.Tie as tie
 
@@ -8,16 +7,13 @@ core-of-requires : tie.Need-core-of-requires
 core-of-requires c κs = tt
 
 wake-requires : tie.Need-wake-requires
-wake-requires c κs = ok-of _ (c .before .before .before .core-of .ensures) (c .before .before .before .before .before .pre)
+wake-requires c κs = ok-of _ (c .before .before .before .core-of .ensures) (c .before .before .before .before .pre)
 
 done-answer-requires : tie.Need-done-answer-requires
 done-answer-requires c κs = tt
 
 returns : tie.Need-returns
-returns c =
-    let o = c .before .before .before .before .before .before .before .args in
-    let met = c .before .wake .ensures in
-    plainly _ (c .before .before .before .before .before .core-of .ensures) (map-kept (wake-kept (o .cycle)) met) met (c .done-answer .ensures)
+returns c = plainly _ (c .before .before .before .before .before .core-of .ensures) (c .before .wake .ensures) (c .done-answer .ensures)
 
 pub wondraxu-wake-spec : {M : Type 1} → statement M
 wondraxu-wake-spec =

@@ -1,6 +1,5 @@
 -- `wondraxu_watch` meets its contract, which is that of `watch` over the core that was meant. Assumes nothing.
 use Rattle.plain_answers.specs.Answers.{ok-of, plainly}
-use Rattle.plain_answers.specs.Kept.{watch-kept, map-kept}
 use Rattle.export_watch.proofs.wondraxu_watch.Statement.{statement}
 use Rattle.export_watch.proofs.wondraxu_watch.Tie as tie
 
@@ -8,17 +7,15 @@ core-of-requires : tie.Need-core-of-requires
 core-of-requires c κs = tt
 
 watch-requires : tie.Need-watch-requires
-watch-requires c κs = rw (c .core-of .ensures) (c .before .before .pre)
+watch-requires c κs = rw (c .core-of .ensures) (c .before .pre)
 
 done-answer-requires : tie.Need-done-answer-requires
 done-answer-requires c κs = tt
 
 returns : tie.Need-returns
 returns c = λ a g d ok.
-    let o = c .before .before .before .before .args in
     let e = c .before .before .core-of .ensures in
-    let met = c .before .watch .ensures a g d (ok-of _ e ok) in
-    plainly _ e (map-kept (watch-kept (o .cycle) (o .on)) met) met (c .done-answer .ensures)
+    plainly _ e (c .before .watch .ensures a g d (ok-of _ e ok)) (c .done-answer .ensures)
 
 pub wondraxu-watch-spec : {M : Type 1} → statement M
 wondraxu-watch-spec =

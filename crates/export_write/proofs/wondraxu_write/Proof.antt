@@ -1,6 +1,5 @@
 -- `wondraxu_write` meets its contract, which is that of `write` over the core that was meant. Assumes nothing.
 use Rattle.plain_answers.specs.Answers.{ok-of, plainly}
-use Rattle.plain_answers.specs.Kept.{write-kept, map-kept}
 use Rattle.export_write.proofs.wondraxu_write.Statement.{statement}
 use Rattle.export_write.proofs.wondraxu_write.Tie as tie
 
@@ -8,16 +7,13 @@ core-of-requires : tie.Need-core-of-requires
 core-of-requires c κs = tt
 
 write-requires : tie.Need-write-requires
-write-requires c κs = ok-of _ (c .before .before .before .before .before .core-of .ensures) (c .before .before .before .before .before .before .before .pre)
+write-requires c κs = ok-of _ (c .before .before .before .before .before .core-of .ensures) (c .before .before .before .before .before .before .pre)
 
 write-answer-requires : tie.Need-write-answer-requires
 write-answer-requires c κs = tt
 
 returns : tie.Need-returns
-returns c =
-    let o = c .before .before .before .before .before .before .before .before .before .args in
-    let met = c .before .write .ensures in
-    plainly _ (c .before .before .before .before .before .before .before .core-of .ensures) (map-kept (write-kept (o .cycle) (o .offset) (o .value)) met) met (c .write-answer .ensures)
+returns c = plainly _ (c .before .before .before .before .before .before .before .core-of .ensures) (c .before .write .ensures) (c .write-answer .ensures)
 
 pub wondraxu-write-spec : {M : Type 1} → statement M
 wondraxu-write-spec =

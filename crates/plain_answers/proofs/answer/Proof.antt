@@ -1,5 +1,4 @@
 -- `answer` meets its contract. Assumes nothing.
-use Rattle.plain.specs.Plain.{plainCore}
 use Rattle.plain_answers.proofs.answer.Statement.{statement}
 use Rattle.plain_answers.proofs.answer.Tie as tie
 
@@ -10,7 +9,6 @@ plain-report-requires : tie.Need-plain-report-requires
 plain-report-requires c κs = tt
 
 returns : tie.Need-returns
-unfolding plainCore
 returns c = rw (c .plain-report .ensures, c .before .plain-core .ensures)
 
 pub answer-spec : {M : Type 1} → statement M
