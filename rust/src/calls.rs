@@ -36,11 +36,13 @@ extern "C" {
 }
 
 /// Nothing is required: a repeated offset is refused.
+#[inline]
 pub(crate) fn new(offsets: [u32; 16], resets: [u32; 16]) -> PlainNew {
     // SAFETY: structs by value alone.
     unsafe { wondraxu_new(Sixteen { words: offsets }, Sixteen { words: resets }) }
 }
 
+#[inline]
 pub(crate) fn read(core: &PlainCore, s: &mut Slots, cycle: u64, offset: u32) -> PlainAnswer {
     // SAFETY: the state is `Uart`'s own; each array is lent once.
     unsafe {
@@ -59,6 +61,7 @@ pub(crate) fn read(core: &PlainCore, s: &mut Slots, cycle: u64, offset: u32) -> 
     }
 }
 
+#[inline]
 pub(crate) fn write(core: &PlainCore, s: &mut Slots, cycle: u64, offset: u32, value: u32) -> PlainAnswer {
     // SAFETY: the state is `Uart`'s own; each array is lent once.
     unsafe {
@@ -78,6 +81,7 @@ pub(crate) fn write(core: &PlainCore, s: &mut Slots, cycle: u64, offset: u32, va
     }
 }
 
+#[inline]
 pub(crate) fn wake(core: &PlainCore, s: &mut Slots, cycle: u64) -> PlainAnswer {
     // SAFETY: the state is `Uart`'s own; each array is lent once.
     unsafe {
@@ -95,6 +99,7 @@ pub(crate) fn wake(core: &PlainCore, s: &mut Slots, cycle: u64) -> PlainAnswer {
     }
 }
 
+#[inline]
 pub(crate) fn reset(core: &PlainCore, s: &mut Slots, cycle: u64) -> PlainAnswer {
     // SAFETY: the state is `Uart`'s own; each array is lent once.
     unsafe {
@@ -112,6 +117,7 @@ pub(crate) fn reset(core: &PlainCore, s: &mut Slots, cycle: u64) -> PlainAnswer 
     }
 }
 
+#[inline]
 pub(crate) fn clock_change(core: &PlainCore, s: &mut Slots, cycle: u64, period: u64) -> PlainAnswer {
     // SAFETY: the state is `Uart`'s own; each array is lent once.
     unsafe {
@@ -130,6 +136,7 @@ pub(crate) fn clock_change(core: &PlainCore, s: &mut Slots, cycle: u64, period: 
     }
 }
 
+#[inline]
 pub(crate) fn receive(core: &PlainCore, s: &mut Slots, cycle: u64, at: u64, bytes: &[u8]) -> PlainAnswer {
     // SAFETY: the state is `Uart`'s own; each array is lent once; pointer and count are one slice's, which is only read.
     unsafe {
@@ -150,6 +157,7 @@ pub(crate) fn receive(core: &PlainCore, s: &mut Slots, cycle: u64, at: u64, byte
     }
 }
 
+#[inline]
 pub(crate) fn take_tx(core: &PlainCore, s: &mut Slots, cycle: u64, out: &mut [u8]) -> PlainAnswer {
     // SAFETY: the state is `Uart`'s own; each array is lent once; pointer and length are one slice's, lent for the call.
     unsafe {
@@ -169,26 +177,31 @@ pub(crate) fn take_tx(core: &PlainCore, s: &mut Slots, cycle: u64, out: &mut [u8
     }
 }
 
+#[inline]
 pub(crate) fn take_written(core: &PlainCore, s: &Slots, out: &mut [u8]) -> PlainAnswer {
     // SAFETY: the state is `Uart`'s own; pointer and length are one slice's, lent for the call.
     unsafe { wondraxu_take_written(*core, &s.flight, &s.tx, out.as_mut_ptr(), out.len()) }
 }
 
+#[inline]
 pub(crate) fn watch(core: &PlainCore, s: &Slots, cycle: u64, on: bool) -> PlainAnswer {
     // SAFETY: the state is `Uart`'s own, and is only read.
     unsafe { wondraxu_watch(*core, &s.gone_at, &s.run_dates, cycle, on) }
 }
 
+#[inline]
 pub(crate) fn power_down(core: &PlainCore, cycle: u64) -> PlainAnswer {
     // SAFETY: the core is `Uart`'s own.
     unsafe { wondraxu_power_down(*core, cycle) }
 }
 
+#[inline]
 pub(crate) fn has_left(core: &PlainCore) -> bool {
     // SAFETY: the core is `Uart`'s own.
     unsafe { wondraxu_has_left(*core) }
 }
 
+#[inline]
 pub(crate) fn host_pending(core: &PlainCore) -> usize {
     // SAFETY: the core is `Uart`'s own.
     unsafe { wondraxu_host_pending(*core) }

@@ -31,6 +31,7 @@ impl Refusal {
     }
 
     /// `Ok` of 0, done.
+    #[inline]
     pub(crate) fn of(number: u32) -> Result<(), Refusal> {
         Err(match number {
             0 => return Ok(()),

@@ -67,6 +67,7 @@ impl Notice {
 pub struct Report(PlainReport);
 
 impl Report {
+    #[inline]
     pub(crate) fn of(report: PlainReport) -> Report {
         Report(report)
     }
