@@ -18,6 +18,8 @@ use Rattle.plain_replies.specs.declared.PlainReply.{PlainReply}
 pub record SetsUpPlainly (offsets resets : List ℕ) (core : PlainCore) (reply : PlainReply) : Type 0 where
   pub replies : reply ≡ plainSetUp (setUpReply offsets)
   pub state : (a : Arrays) → abs (coreOf core) a ≡ new offsets resets
+  -- no other number stands behind a mark that is not set: a refused first call gives these numbers back one by one
+  pub plain : core ≡ plainCore (coreOf core)
   pub good : setUpReply offsets ≡ SetUp.Ready → (a : Arrays) → Slots offsets resets a → Ok (coreOf core) a
 
 pub sets-up : (offsets resets : List ℕ) {core : PlainCore} {reply : PlainReply} → length offsets ≡ 16 → core ≡ plainCore (newCore offsets resets)
@@ -27,5 +29,6 @@ sets-up offsets resets {core} {reply} sixteen e r =
     record {
       replies = r;
       state = λ a. ap (λ (c : Core). abs c a) meant ∙ new-means offsets resets a;
+      plain = e ∙ sym (ap plainCore meant);
       good = λ ready a slots. subst (λ (c : Core). Ok c a) (sym meant) (new-good offsets resets a sixteen slots refl ready);
     }
