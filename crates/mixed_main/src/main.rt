@@ -36,8 +36,8 @@ fn row_sent<'a>(
     gone_at: &'a mut [u64; 129],
     flight: &'a mut [u8; 129],
     tx: &'a mut [u8; 1152],
-    host: &'a mut [u8; 1024],
-    run_dates: &'a mut [u64; 64],
+    host: &'a [u8; 1024],
+    run_dates: &'a [u64; 64],
     run_counts: &'a mut [u64; 64],
     rx: &'a mut [u8; 128],
     base: u64,
@@ -94,11 +94,11 @@ struct Look {
 // What is read at an offset joins the sum.
 fn looked<'a>(
     from: Tally,
-    gone_at: &'a mut [u64; 129],
-    flight: &'a mut [u8; 129],
+    gone_at: &'a [u64; 129],
+    flight: &'a [u8; 129],
     tx: &'a mut [u8; 1152],
-    host: &'a mut [u8; 1024],
-    run_dates: &'a mut [u64; 64],
+    host: &'a [u8; 1024],
+    run_dates: &'a [u64; 64],
     run_counts: &'a mut [u64; 64],
     rx: &'a mut [u8; 128],
     cycle: u64,
@@ -133,11 +133,11 @@ fn looked<'a>(
 // A byte is read where STATUS counts one.
 fn byte_read<'a>(
     status: Look,
-    gone_at: &'a mut [u64; 129],
-    flight: &'a mut [u8; 129],
+    gone_at: &'a [u64; 129],
+    flight: &'a [u8; 129],
     tx: &'a mut [u8; 1152],
-    host: &'a mut [u8; 1024],
-    run_dates: &'a mut [u64; 64],
+    host: &'a [u8; 1024],
+    run_dates: &'a [u64; 64],
     run_counts: &'a mut [u64; 64],
     rx: &'a mut [u8; 128],
     cycle: u64,
@@ -177,11 +177,11 @@ fn byte_read<'a>(
 // The interrupt begins: what is raised.
 fn raised<'a>(
     from: Tally,
-    gone_at: &'a mut [u64; 129],
-    flight: &'a mut [u8; 129],
+    gone_at: &'a [u64; 129],
+    flight: &'a [u8; 129],
     tx: &'a mut [u8; 1152],
-    host: &'a mut [u8; 1024],
-    run_dates: &'a mut [u64; 64],
+    host: &'a [u8; 1024],
+    run_dates: &'a [u64; 64],
     run_counts: &'a mut [u64; 64],
     rx: &'a mut [u8; 128],
     cycle: u64,
@@ -221,11 +221,11 @@ fn raised<'a>(
 // One byte is read where one is held.
 fn emptied<'a>(
     from: Tally,
-    gone_at: &'a mut [u64; 129],
-    flight: &'a mut [u8; 129],
+    gone_at: &'a [u64; 129],
+    flight: &'a [u8; 129],
     tx: &'a mut [u8; 1152],
-    host: &'a mut [u8; 1024],
-    run_dates: &'a mut [u64; 64],
+    host: &'a [u8; 1024],
+    run_dates: &'a [u64; 64],
     run_counts: &'a mut [u64; 64],
     rx: &'a mut [u8; 128],
     cycle: u64,
@@ -264,8 +264,8 @@ fn interrupt<'a>(
     gone_at: &'a mut [u64; 129],
     flight: &'a mut [u8; 129],
     tx: &'a mut [u8; 1152],
-    host: &'a mut [u8; 1024],
-    run_dates: &'a mut [u64; 64],
+    host: &'a [u8; 1024],
+    run_dates: &'a [u64; 64],
     run_counts: &'a mut [u64; 64],
     rx: &'a mut [u8; 128],
     cycle: u64,
@@ -325,8 +325,8 @@ fn handled<'a>(
     gone_at: &'a mut [u64; 129],
     flight: &'a mut [u8; 129],
     tx: &'a mut [u8; 1152],
-    host: &'a mut [u8; 1024],
-    run_dates: &'a mut [u64; 64],
+    host: &'a [u8; 1024],
+    run_dates: &'a [u64; 64],
     run_counts: &'a mut [u64; 64],
     rx: &'a mut [u8; 128],
     base: u64,
@@ -363,11 +363,11 @@ fn count_of(reply: Taken) -> u64 {
 // The console: what was sent, and whether more has left or waits.
 fn shown<'a>(
     from: Tally,
-    gone_at: &'a mut [u64; 129],
-    flight: &'a mut [u8; 129],
+    gone_at: &'a [u64; 129],
+    flight: &'a [u8; 129],
     tx: &'a mut [u8; 1152],
-    host: &'a mut [u8; 1024],
-    run_dates: &'a mut [u64; 64],
+    host: &'a [u8; 1024],
+    run_dates: &'a [u64; 64],
     run_counts: &'a mut [u64; 64],
     rx: &'a mut [u8; 128],
     cycle: u64,
@@ -493,20 +493,20 @@ fn round<'a>(
 }
 
 // Interrupts are enabled, a byte held raises RXFIFO_FULL, and the timeout is on.
-fn run<'a>(
+fn enabled<'a>(
     new: Core,
     gone_at: &'a mut [u64; 129],
     flight: &'a mut [u8; 129],
     tx: &'a mut [u8; 1152],
-    host: &'a mut [u8; 1024],
-    run_dates: &'a mut [u64; 64],
+    host: &'a [u8; 1024],
+    run_dates: &'a [u64; 64],
     run_counts: &'a mut [u64; 64],
     rx: &'a mut [u8; 128],
 ) -> Tally
     requires { ⌜ Ok new (arrays (now «gone_at») (now flight) (now tx) (now host) (now «run_dates») (now «run_counts») (now rx)) ⌝ }
     ensures { λ r. ⌜ Ok (r .core) (arrays (now («gone_at» .exit)) (now (flight .exit)) (now (tx .exit)) (now (host .exit)) (now («run_dates» .exit)) (now («run_counts» .exit)) (now (rx .exit))) ⌝ }
 {
-    let enabled = write::write(
+    let raised = write::write(
         new,
         gone_at,
         flight,
@@ -520,7 +520,7 @@ fn run<'a>(
         0x4113,
     );
     let timed = write::write(
-        enabled.core,
+        raised.core,
         gone_at,
         flight,
         tx,
@@ -533,7 +533,24 @@ fn run<'a>(
         0x20C001,
     );
     let core = timed.core;
-    let mut tally = Tally { core, sum: 0 };
+    Tally { core, sum: 0 }
+}
+
+// A hundred rows each way.
+fn run<'a>(
+    new: Core,
+    gone_at: &'a mut [u64; 129],
+    flight: &'a mut [u8; 129],
+    tx: &'a mut [u8; 1152],
+    host: &'a mut [u8; 1024],
+    run_dates: &'a mut [u64; 64],
+    run_counts: &'a mut [u64; 64],
+    rx: &'a mut [u8; 128],
+) -> Tally
+    requires { ⌜ Ok new (arrays (now «gone_at») (now flight) (now tx) (now host) (now «run_dates») (now «run_counts») (now rx)) ⌝ }
+    ensures { λ r. ⌜ Ok (r .core) (arrays (now («gone_at» .exit)) (now (flight .exit)) (now (tx .exit)) (now (host .exit)) (now («run_dates» .exit)) (now («run_counts» .exit)) (now (rx .exit))) ⌝ }
+{
+    let mut tally = enabled(new, gone_at, flight, tx, host, run_dates, run_counts, rx);
     let mut row: u64 = 0;
     while row < 100 {
         tally = round(

@@ -106,100 +106,78 @@ impl Uart {
     }
 
     // All that is due at a cycle is done. The work is `settled`'s, over the arrays lent to it.
-    pub fn settle(self, cycle: u64) -> Settled
+    pub fn settle(mut self, cycle: u64) -> Settled
         requires { ⌜ Good self ⌝ }
         ensures { λ r. ⌜ Settles (settle cycle (meaning self)) (r .uart .core) (arraysOf (r .uart)) (r .passes) (r .overflows) ⌝ }
     {
-        let gone_at = self.gone_at;
-        let flight = self.flight;
         let mut tx = self.tx;
-        let host = self.host;
-        let run_dates = self.run_dates;
         let mut run_counts = self.run_counts;
         let mut rx = self.rx;
         let done = settling::settled(
             self.core,
-            &gone_at,
-            &flight,
+            &self.gone_at,
+            &self.flight,
             &mut tx,
-            &host,
-            &run_dates,
+            &self.host,
+            &self.run_dates,
             &mut run_counts,
             &mut rx,
             cycle,
         );
         let core = done.core;
-        let uart = Uart {
-            core,
-            gone_at,
-            flight,
-            tx,
-            host,
-            run_dates,
-            run_counts,
-            rx,
-        };
+        self.core = core;
+        self.tx = tx;
+        self.run_counts = run_counts;
+        self.rx = rx;
         Settled {
-            uart,
+            uart: self,
             passes: done.passes,
             overflows: done.overflows,
         }
     }
 
     // The value at an offset.
-    pub fn read(self, cycle: u64, offset: u32) -> AfterRead
+    pub fn read(mut self, cycle: u64, offset: u32) -> AfterRead
         requires { ⌜ Good self ⌝ }
         ensures { λ r. ⌜ Answered asRead readNumber (Calls·read cycle offset) self (r .uart) (r .reply) (r .report) ⌝ }
     {
-        let gone_at = self.gone_at;
-        let flight = self.flight;
         let mut tx = self.tx;
-        let host = self.host;
-        let run_dates = self.run_dates;
         let mut run_counts = self.run_counts;
         let mut rx = self.rx;
         let done = read::read(
             self.core,
-            &gone_at,
-            &flight,
+            &self.gone_at,
+            &self.flight,
             &mut tx,
-            &host,
-            &run_dates,
+            &self.host,
+            &self.run_dates,
             &mut run_counts,
             &mut rx,
             cycle,
             offset,
         );
         let core = done.core;
-        let uart = Uart {
-            core,
-            gone_at,
-            flight,
-            tx,
-            host,
-            run_dates,
-            run_counts,
-            rx,
-        };
+        self.core = core;
+        self.tx = tx;
+        self.run_counts = run_counts;
+        self.rx = rx;
         let reply = done.reply;
         let report = done.report;
         AfterRead {
-            uart,
+            uart: self,
             reply,
             report,
         }
     }
 
     // A write at an offset.
-    pub fn write(self, cycle: u64, offset: u32, value: u32) -> AfterWrite
+    pub fn write(mut self, cycle: u64, offset: u32, value: u32) -> AfterWrite
         requires { ⌜ Good self ⌝ }
         ensures { λ r. ⌜ Answered (λ x. x) writeNumber (Calls·write cycle offset value) self (r .uart) (r .reply) (r .report) ⌝ }
     {
         let mut gone_at = self.gone_at;
         let mut flight = self.flight;
         let mut tx = self.tx;
-        let host = self.host;
-        let run_dates = self.run_dates;
         let mut run_counts = self.run_counts;
         let mut rx = self.rx;
         let done = write::write(
@@ -207,8 +185,8 @@ impl Uart {
             &mut gone_at,
             &mut flight,
             &mut tx,
-            &host,
-            &run_dates,
+            &self.host,
+            &self.run_dates,
             &mut run_counts,
             &mut rx,
             cycle,
@@ -216,162 +194,126 @@ impl Uart {
             value,
         );
         let core = done.core;
-        let uart = Uart {
-            core,
-            gone_at,
-            flight,
-            tx,
-            host,
-            run_dates,
-            run_counts,
-            rx,
-        };
+        self.core = core;
+        self.gone_at = gone_at;
+        self.flight = flight;
+        self.tx = tx;
+        self.run_counts = run_counts;
+        self.rx = rx;
         let reply = done.reply;
         let report = done.report;
         AfterWrite {
-            uart,
+            uart: self,
             reply,
             report,
         }
     }
 
     // The armed cycle has come.
-    pub fn wake(self, cycle: u64) -> AfterDone
+    pub fn wake(mut self, cycle: u64) -> AfterDone
         requires { ⌜ Good self ⌝ }
         ensures { λ r. ⌜ Answered (λ x. x) doneNumber (Calls·wake cycle) self (r .uart) (r .reply) (r .report) ⌝ }
     {
-        let gone_at = self.gone_at;
-        let flight = self.flight;
         let mut tx = self.tx;
-        let host = self.host;
-        let run_dates = self.run_dates;
         let mut run_counts = self.run_counts;
         let mut rx = self.rx;
         let done = wake::wake(
             self.core,
-            &gone_at,
-            &flight,
+            &self.gone_at,
+            &self.flight,
             &mut tx,
-            &host,
-            &run_dates,
+            &self.host,
+            &self.run_dates,
             &mut run_counts,
             &mut rx,
             cycle,
         );
         let core = done.core;
-        let uart = Uart {
-            core,
-            gone_at,
-            flight,
-            tx,
-            host,
-            run_dates,
-            run_counts,
-            rx,
-        };
+        self.core = core;
+        self.tx = tx;
+        self.run_counts = run_counts;
+        self.rx = rx;
         let reply = done.reply;
         let report = done.report;
         AfterDone {
-            uart,
+            uart: self,
             reply,
             report,
         }
     }
 
     // A reset of the UART.
-    pub fn reset(self, cycle: u64) -> AfterDone
+    pub fn reset(mut self, cycle: u64) -> AfterDone
         requires { ⌜ Good self ⌝ }
         ensures { λ r. ⌜ Answered (λ x. x) doneNumber (Calls·reset cycle) self (r .uart) (r .reply) (r .report) ⌝ }
     {
-        let gone_at = self.gone_at;
-        let flight = self.flight;
         let mut tx = self.tx;
-        let host = self.host;
-        let run_dates = self.run_dates;
         let mut run_counts = self.run_counts;
         let mut rx = self.rx;
         let done = reset::reset(
             self.core,
-            &gone_at,
-            &flight,
+            &self.gone_at,
+            &self.flight,
             &mut tx,
-            &host,
-            &run_dates,
+            &self.host,
+            &self.run_dates,
             &mut run_counts,
             &mut rx,
             cycle,
         );
         let core = done.core;
-        let uart = Uart {
-            core,
-            gone_at,
-            flight,
-            tx,
-            host,
-            run_dates,
-            run_counts,
-            rx,
-        };
+        self.core = core;
+        self.tx = tx;
+        self.run_counts = run_counts;
+        self.rx = rx;
         let reply = done.reply;
         let report = done.report;
         AfterDone {
-            uart,
+            uart: self,
             reply,
             report,
         }
     }
 
     // Another period of the APB clock, in cycles.
-    pub fn clock_change(self, cycle: u64, period: u64) -> AfterDone
+    pub fn clock_change(mut self, cycle: u64, period: u64) -> AfterDone
         requires { ⌜ Good self ⌝ }
         ensures { λ r. ⌜ Answered (λ x. x) doneNumber (clockChange cycle period) self (r .uart) (r .reply) (r .report) ⌝ }
     {
-        let gone_at = self.gone_at;
-        let flight = self.flight;
         let mut tx = self.tx;
-        let host = self.host;
-        let run_dates = self.run_dates;
         let mut run_counts = self.run_counts;
         let mut rx = self.rx;
         let done = clock_change::clock_change(
             self.core,
-            &gone_at,
-            &flight,
+            &self.gone_at,
+            &self.flight,
             &mut tx,
-            &host,
-            &run_dates,
+            &self.host,
+            &self.run_dates,
             &mut run_counts,
             &mut rx,
             cycle,
             period,
         );
         let core = done.core;
-        let uart = Uart {
-            core,
-            gone_at,
-            flight,
-            tx,
-            host,
-            run_dates,
-            run_counts,
-            rx,
-        };
+        self.core = core;
+        self.tx = tx;
+        self.run_counts = run_counts;
+        self.rx = rx;
         let reply = done.reply;
         let report = done.report;
         AfterDone {
-            uart,
+            uart: self,
             reply,
             report,
         }
     }
 
     // The host hands over bytes that may start at a cycle.
-    pub fn receive(self, cycle: u64, at: u64, bytes: &[u8]) -> AfterDone
+    pub fn receive(mut self, cycle: u64, at: u64, bytes: &[u8]) -> AfterDone
         requires { ⌜ Good self ⌝ }
         ensures { λ r. ⌜ Answered (λ x. x) doneNumber (Calls·receive cycle at (now (bytes .entry))) self (r .uart) (r .reply) (r .report) ⌝ }
     {
-        let gone_at = self.gone_at;
-        let flight = self.flight;
         let mut tx = self.tx;
         let mut host = self.host;
         let mut run_dates = self.run_dates;
@@ -379,8 +321,8 @@ impl Uart {
         let mut rx = self.rx;
         let done = receive::receive(
             self.core,
-            &gone_at,
-            &flight,
+            &self.gone_at,
+            &self.flight,
             &mut tx,
             &mut host,
             &mut run_dates,
@@ -391,64 +333,50 @@ impl Uart {
             bytes,
         );
         let core = done.core;
-        let uart = Uart {
-            core,
-            gone_at,
-            flight,
-            tx,
-            host,
-            run_dates,
-            run_counts,
-            rx,
-        };
+        self.core = core;
+        self.tx = tx;
+        self.host = host;
+        self.run_dates = run_dates;
+        self.run_counts = run_counts;
+        self.rx = rx;
         let reply = done.reply;
         let report = done.report;
         AfterDone {
-            uart,
+            uart: self,
             reply,
             report,
         }
     }
 
     // The bytes that have left, to the front of a lent buffer.
-    pub fn take_tx(self, cycle: u64, out: &mut [u8]) -> AfterTake
+    pub fn take_tx(mut self, cycle: u64, out: &mut [u8]) -> AfterTake
         requires { ⌜ Good self ⌝ }
         ensures { λ r. ⌜ Took (takeTx cycle (now (out .entry))) self (r .uart) (r .reply) (r .report) (now (out .exit)) ⌝ }
     {
-        let gone_at = self.gone_at;
-        let flight = self.flight;
         let mut tx = self.tx;
-        let host = self.host;
-        let run_dates = self.run_dates;
         let mut run_counts = self.run_counts;
         let mut rx = self.rx;
         let done = take_tx::take_tx(
             self.core,
-            &gone_at,
-            &flight,
+            &self.gone_at,
+            &self.flight,
             &mut tx,
-            &host,
-            &run_dates,
+            &self.host,
+            &self.run_dates,
             &mut run_counts,
             &mut rx,
             cycle,
             out,
         );
         let core = done.core;
-        let uart = Uart {
-            core,
-            gone_at,
-            flight,
-            tx,
-            host,
-            run_dates,
-            run_counts,
-            rx,
-        };
+        self.core = core;
+        self.tx = tx;
+        self.run_counts = run_counts;
+        self.rx = rx;
         let reply = done.reply;
         let report = done.report;
         AfterTake {
-            uart,
+            uart: self,
             reply,
             report,
         }
@@ -459,9 +387,7 @@ impl Uart {
         requires { ⌜ Good self ⌝ }
         ensures { λ r. ⌜ Answered (λ x. x) doneNumber (Calls·watch cycle on) self (r .uart) (r .reply) (r .report) ⌝ }
     {
-        let gone_at = self.gone_at;
-        let run_dates = self.run_dates;
-        let done = watch::watch(self.core, &gone_at, &run_dates, cycle, on);
+        let done = watch::watch(self.core, &self.gone_at, &self.run_dates, cycle, on);
         let core = done.core;
         self.core = core;
         let reply = done.reply;
@@ -495,9 +421,7 @@ impl Uart {
         requires { ⌜ Good self ⌝ }
         ensures { λ r. ⌜ Took (takeWritten (now (out .entry))) self (r .uart) (r .reply) (r .report) (now (out .exit)) ⌝ }
     {
-        let flight = self.flight;
-        let tx = self.tx;
-        let done = take_written::take_written(self.core, &flight, &tx, out);
+        let done = take_written::take_written(self.core, &self.flight, &self.tx, out);
         let core = done.core;
         self.core = core;
         let reply = done.reply;

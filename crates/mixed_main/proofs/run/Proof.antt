@@ -13,11 +13,8 @@ Inv-loop gone-at₀ flight₀ tx₀ host₀ run-dates₀ run-counts₀ rx₀ tal
 abbrev μ-loop : tie.MeasureT-loop
 μ-loop gone-at₀ flight₀ tx₀ host₀ run-dates₀ run-counts₀ rx₀ tally₀ row₀ gone-at flight tx host run-dates run-counts rx tally row = 100 - row
 
-write-requires : tie.Need-write-requires Inv-loop μ-loop
-write-requires c κs = search needs
-
-write-requires-2 : tie.Need-write-requires-2 Inv-loop μ-loop
-write-requires-2 c κs = search needs
+enabled-requires : tie.Need-enabled-requires Inv-loop μ-loop
+enabled-requires c κs = search needs
 
 loop-holds : tie.Need-loop-holds Inv-loop μ-loop
 loop-holds c = search needs
@@ -49,8 +46,7 @@ run-spec =
     (tie.spec
     Inv-loop
     μ-loop
-    write-requires
-    write-requires-2
+    enabled-requires
     loop-holds
     mul-round
     add-round
