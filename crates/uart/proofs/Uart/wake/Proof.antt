@@ -1,0 +1,13 @@
+-- `Uart::wake` meets its contract: it is that of the call over parts. Assumes nothing.
+use borrow.Author.Needs.{needs}
+use Rattle.uart.proofs.Uart.wake.Statement.{statement}
+use Rattle.uart.proofs.Uart.wake.Tie as tie
+
+wake-requires : tie.Need-wake-requires
+wake-requires c κs = search needs
+
+returns : tie.Need-returns
+returns c = c .before .before .wake .ensures
+
+pub wake-spec : {M : Type 1} → statement M
+wake-spec = tie.close (tie.spec wake-requires returns)
