@@ -87,11 +87,10 @@ pub fn settled<'a>(
     let n = departures::gone(gone_at, core.flight, date);
     let sent = departures::leave(core.flight, core.tx, n, flight, tx);
     let words = control.words;
-    let settings = timing::settings(words, control.period);
     let before = control.line;
     let line = instants::settling::tx_done(core.flight.count, sent.flight.count, before);
     let from = reception(core, line);
-    let ended = rounds::passes(from, settings, date, host, run_dates, run_counts, rx);
+    let ended = rounds::through(from, words, control.period, date, host, run_dates, run_counts, rx);
     let at = ended.reception;
     let last = at.line;
     let leveled = instants::settling::levels(last, words.conf1, at.rx.count, sent.flight.count);

@@ -1,5 +1,6 @@
 -- `settling::settled` meets its contract: each call gives a part, and `settles` puts them together. Assumes nothing.
 use borrow.Author.Needs.{needs}
+use mathlib.Core.Path.{refl}
 use Rattle.device.specs.Wholes.{arrays}
 use Rattle.settle.specs.Settles.{room, fit, settles}
 use Rattle.settle.proofs.settling.settled.Statement.{statement}
@@ -18,20 +19,17 @@ leave-requires c κs = let o = c .before .before .before .before .args in
     let a = arrays (o .gone-at .now) (o .flight .now) (o .tx .now) (o .host .now) (o .run-dates .now) (o .run-counts .now) (o .rx .now) in
     (p .shape .flight, p .shape .tx, p .shape .flightSlots, p .shape .txSlots, few, room (o .core) a _ p few)
 
-settings-requires : tie.Need-settings-requires
-settings-requires c κs = c .before .before .before .before .before .before .pre .within .periodHigh
-
 tx-done-requires : tie.Need-tx-done-requires
 tx-done-requires c κs = search needs
 
 reception-requires : tie.Need-reception-requires
 reception-requires c κs = search needs
 
-passes-requires : tie.Need-passes-requires
-passes-requires c κs = let start = c .before .before .before .before .before .before .before .before .before .before .before .before in
+through-requires : tie.Need-through-requires
+through-requires c κs = let start = c .before .before .before .before .before .before .before .before .before .before .before in
     let o = start .args in
     let a = arrays (o .gone-at .now) (o .flight .now) (o .tx .now) (o .host .now) (o .run-dates .now) (o .run-counts .now) (o .rx .now) in
-    rw (c .before .before .reception .ensures) (fit (o .core) a _ (start .pre))
+    (rw (c .before .before .reception .ensures) (fit (o .core) a _ (start .pre)), start .pre .within .periodHigh)
 
 levels-requires : tie.Need-levels-requires
 levels-requires c κs = search needs
@@ -43,16 +41,16 @@ together-requires : tie.Need-together-requires
 together-requires c κs = search needs
 
 returns : tie.Need-returns
-returns c = let start = c .before .before .before .before .before .before .before .before .before .before .before .before .before .before .before .before .before .before in
+returns c = let start = c .before .before .before .before .before .before .before .before .before .before .before .before .before .before .before .before .before in
     let o = start .args in
     let a = arrays (o .gone-at .now) (o .flight .now) (o .tx .now) (o .host .now) (o .run-dates .now) (o .run-counts .now) (o .rx .now) in
-    let runs = rw (c .before .before .before .before .before .before .before .before .reception .ensures) at (c .before .before .before .before .before .passes .ensures) in
+    let runs = rw (c .before .before .before .before .before .before .before .before .reception .ensures) at (c .before .before .before .before .before .through .ensures) in
     rw (c .together .ensures)
     (settles (o .cycle) (o .core) a (start .pre)
-    (c .before .before .before .before .before .before .before .before .before .before .before .before .before .before .before .before .settling-date .ensures)
-    (c .before .before .before .before .before .before .before .before .before .before .before .before .before .before .before .gone .ensures .0)
-    (c .before .before .before .before .before .before .before .before .before .before .before .before .before .leave .ensures)
-    (c .before .before .before .before .before .before .before .before .before .before .before .settings .ensures)
+    (c .before .before .before .before .before .before .before .before .before .before .before .before .before .before .before .settling-date .ensures)
+    (c .before .before .before .before .before .before .before .before .before .before .before .before .before .before .gone .ensures .0)
+    (c .before .before .before .before .before .before .before .before .before .before .before .before .leave .ensures)
+    refl
     (c .before .before .before .before .before .before .before .before .before .tx-done .ensures)
     runs
     (c .before .before .levels .ensures)
@@ -65,10 +63,9 @@ settled-spec =
     settling-date-requires
     gone-requires
     leave-requires
-    settings-requires
     tx-done-requires
     reception-requires
-    passes-requires
+    through-requires
     levels-requires
     level-requires
     together-requires
