@@ -1,4 +1,5 @@
 // Document 01's bench settings: offsets and reset words in the order of set-up, and the offsets of some places.
+
 pub const FIFO: u32 = 0;
 
 pub const INT_ST: u32 = 8;

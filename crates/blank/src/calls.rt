@@ -1,9 +1,9 @@
 // A call, put out anew in one form, so that neither spacing nor the spelling of a number carries anything over.
-use names::Name;
-use spelling::put;
-use spelling::put_bytes;
-use spelling::put_decimal;
-use text::within;
+use text::output::put;
+use text::output::put_bytes;
+use text::parts::within;
+use text::spelling::put_decimal;
+use trace::names::Name;
 
 // A number that was read as one of 32 bits.
 pub fn low(number: u64) -> u32 {

@@ -1,11 +1,11 @@
 // Standard input, byte by byte, in constant memory.
+use crate::blanked::Trace;
+use crate::blanked::begin;
+use crate::blanked::blanked;
+use crate::blanked::written;
 use crate::output::tell_left_out;
-use crate::trace::Trace;
-use crate::trace::begin;
-use crate::trace::blanked;
-use crate::trace::written;
 use libc::STDIN_FILENO;
-use text::within;
+use text::parts::within;
 
 // The line that has begun stands in the first `len` bytes of a buffer, unless it is too long for it.
 struct State {

@@ -1,7 +1,7 @@
 // What is written, and a write that fails.
 use libc::STDERR_FILENO;
 use libc::STDOUT_FILENO;
-use text::within;
+use text::parts::within;
 
 // Writes the first `count` bytes of `out`. Where that fails it says so on standard error, and answers false.
 pub fn flush(out: &[u8], count: usize) -> bool {

@@ -1,4 +1,5 @@
 // What is put in the place of a client's bytes: the functions by which a trace is blanked.
+
 ghost use mathlib.Core.Path.{_≡_};
 ghost use mathlib.Core.List.{map};
 ghost use Rattle.blanking.specs.Blanked.{blankByte, blankWord as Blanked·blankWord};

@@ -20,14 +20,14 @@ use Rattle.model.specs.Calls.{Outcome, refusing, unless, afterSettling, unsettl
 use Rattle.model.specs.declared.Refusal.{Refusal}
 use Rattle.model.specs.declared.Report.{Report}
 use Rattle.model.specs.declared.Done.{Done}
-use Rattle.refusals.specs.Refusals.{verdict, dates}
-use Rattle.refusals.specs.declared.Checked.{Checked}
-use Rattle.notices.specs.Notices.{noted}
-use Rattle.notices.specs.Reports.{reported, report-of}
-use Rattle.notices.specs.declared.Notices.{Notices}
+use Rattle.replies.specs.Refusals.{verdict, dates}
+use Rattle.replies.specs.declared.refusals.Checked.{Checked}
+use Rattle.replies.specs.Notices.{noted}
+use Rattle.replies.specs.Reports.{reported, report-of}
+use Rattle.replies.specs.declared.notices.Notices.{Notices}
 use Rattle.device.specs.Holds.{Arrays, abs, Shape, Ok}
-use Rattle.settle.specs.Settles.{Settles}
-use Rattle.arming.specs.Arms.{Arms}
+use Rattle.device.specs.Settles.{Settles}
+use Rattle.device.specs.Arms.{Arms}
 use Rattle.device.specs.declared.Core.{Core}
 use Rattle.calls.specs.declared.answers.DoneCore.{DoneCore}
 

@@ -19,10 +19,10 @@ use Rattle.model.specs.declared.Line.{Line}
 use Rattle.model.specs.declared.Control.{Control}
 use Rattle.queue.specs.Cursors.{Held, slotOf, empty}
 use Rattle.queue.specs.Laws.{elems-length, elems-none}
-use Rattle.instants.specs.Levels
+use Rattle.line.specs.Levels
 use Rattle.device.specs.Holds.{Arrays, sentAt, abs, Shape, Ok}
-use Rattle.settle.specs.Settles.{control-after}
-use Rattle.arming.specs.Arms.{Ready}
+use Rattle.device.specs.Settles.{control-after}
+use Rattle.device.specs.Arms.{Ready}
 use Rattle.device.specs.declared.Core.{Core}
 
 abbrev pub withControlOf : Control → Core → Core

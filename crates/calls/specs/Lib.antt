@@ -1,5 +1,10 @@
--- What the contracts of the calls say, and the laws that put an answer together.
+pub mod NewCore
+pub mod Undated
 pub mod Answers
 pub mod Changes
 pub mod Done
 pub mod Queues
+pub mod Sums
+pub mod Wakes
+pub mod Concludes
+pub mod Resets

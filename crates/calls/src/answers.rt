@@ -3,7 +3,7 @@ use device::Core;
 use model::Done;
 use model::Refusal;
 use model::Report;
-use notices::reports;
+use replies::report;
 ghost use mathlib.Core.Path.{_≡_};
 ghost use Rattle.calls.specs.Answers.{doneCore, refusedCore};
 
@@ -20,8 +20,8 @@ pub fn done(core: Core, passes: u64, overflows: u64) -> DoneCore
 {
     let control = core.control;
     let wake = control.wake;
-    let none = notices::none();
-    let report = reports::report(control.level, wake, overflows, passes, none);
+    let none = replies::notices::none();
+    let report = report::report(control.level, wake, overflows, passes, none);
     DoneCore {
         core,
         reply: Done::Done,
@@ -32,7 +32,7 @@ pub fn done(core: Core, passes: u64, overflows: u64) -> DoneCore
 pub fn refused(core: Core, refusal: Refusal) -> DoneCore
     ensures { λ r. ⌜ r ≡ refusedCore core refusal ⌝ }
 {
-    let report = reports::no_report();
+    let report = report::no_report();
     DoneCore {
         core,
         reply: Done::Refused(refusal),

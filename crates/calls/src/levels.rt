@@ -1,6 +1,6 @@
 // Levels and the interrupt of a core, from its words and the numbers of its queues.
 use device::Core;
-use instants::settling;
+use line::levels;
 ghost use mathlib.Core.Path.{_≡_};
 ghost use Rattle.calls.specs.Changes.{leveledCore};
 
@@ -10,8 +10,8 @@ pub fn leveled(mut core: Core) -> Core
     let mut control = core.control;
     let words = control.words;
     let before = control.line;
-    let line = settling::levels(before, words.conf1, core.rx.count, core.flight.count);
-    control.level = settling::level(line, words.int_ena);
+    let line = levels::levels(before, words.conf1, core.rx.count, core.flight.count);
+    control.level = levels::level(line, words.int_ena);
     control.line = line;
     core.control = control;
     core

@@ -1,11 +1,11 @@
 // power_down: it sets its date to now, and neither settles nor arms.
 use crate::answers;
 use crate::answers::DoneCore;
-use crate::settled_at;
+use crate::settle_at;
 use device::Core;
 use model::Control;
 use model::Date;
-use refusals::Checked;
+use replies::refusals::Checked;
 ghost use mathlib.Core.Path.{_≡_};
 ghost use Rattle.model.specs.State.{withPoweredDownAt};
 ghost use Rattle.model.specs.Calls.{powerDown};
@@ -45,11 +45,11 @@ pub fn power_down(core: Core, cycle: u64) -> DoneCore
     ensures { λ r. ⌜ ((a : Arrays) → Ok core a → DoneWith (powerDown cycle) core a (r .core) a (r .reply) (r .report)) ⌝ }
 {
     let control = core.control;
-    let tests = refusals::date_refusal(cycle, control.last);
+    let tests = replies::refusals::date_refusal(cycle, control.last);
     match tests {
         Checked::Refused(refusal) => answers::refused(core, refusal),
         Checked::Passed => {
-            let moved = settled_at::dated(core, cycle);
+            let moved = settle_at::dated(core, cycle);
             let down = with_powered_down_at(moved, Date::At(dates::subcycles(cycle)));
             answers::done(down, 0, 0)
         }

@@ -2,13 +2,13 @@
 use crate::answers;
 use crate::answers::DoneCore;
 use device::Core;
-use refusals::Checked;
+use replies::refusals::Checked;
 ghost use mathlib.Core.Path.{_≡_};
 ghost use lib.ListN.{length};
 ghost use Rattle.model.specs.Calls.{watch as Calls·watch};
 ghost use Rattle.queue.specs.Cursors.{Held};
 ghost use Rattle.device.specs.Holds.{Arrays, Ok};
-ghost use Rattle.arming.specs.Arms.{Ready};
+ghost use Rattle.device.specs.Arms.{Ready};
 ghost use Rattle.calls.specs.Changes.{watchedCore};
 ghost use Rattle.calls.specs.Answers.{DoneWith};
 
@@ -35,12 +35,12 @@ pub fn watch<'a>(
         → DoneWith (Calls·watch cycle on) core a (r .core) a (r .reply) (r .report)) ⌝ }
 {
     let control = core.control;
-    let tests = refusals::date_refusal(cycle, control.last);
+    let tests = replies::refusals::date_refusal(cycle, control.last);
     match tests {
         Checked::Refused(refusal) => answers::refused(core, refusal),
         Checked::Passed => {
             let from = watched(core, cycle, on);
-            let armed = arming::arm(from, gone_at, run_dates);
+            let armed = device::arm::arm(from, gone_at, run_dates);
             answers::done(armed, 0, 0)
         }
     }

@@ -1,5 +1,6 @@
 // The Deadline: the cycle at which the UART asks to be called. It keeps the earliest, and a call at or after it clears it.
 // Carried over from inkemu's ctx.rs and changed: no event is scheduled here.
+
 use model::Date;
 ghost use mathlib.Core.Path.{_≡_};
 ghost use Rattle.model.specs.Numbers.{inCycles};

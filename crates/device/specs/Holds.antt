@@ -11,7 +11,7 @@ use Rattle.model.specs.State
 use Rattle.model.specs.Limits.{Within}
 use Rattle.queue.specs.Cursors.{Held, slotOf, elems}
 use Rattle.queue.specs.declared.Cursor.{Cursor}
-use Rattle.control.specs.declared.Receiving.{Receiving}
+use Rattle.line.specs.declared.Receiving.{Receiving}
 use Rattle.device.specs.declared.Core.{Core}
 
 -- the slots of the seven arrays

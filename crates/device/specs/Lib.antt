@@ -1,4 +1,13 @@
--- What the held UART means, and what the bytes that leave do to it.
 pub mod Holds
 pub mod Wholes
 pub mod Leaves
+pub mod Joins
+pub mod Waits
+pub mod Receives
+pub mod Allows
+pub mod Carries
+pub mod Arms
+pub mod Ends
+pub mod Rounds
+pub mod Quiet
+pub mod Settles

@@ -1,8 +1,13 @@
 // The UART over parts: its numbers and marks with a cursor for each queue, and the slots of the queues in arrays lent beside
 // them. Carried over from inkemu's uart.rs and changed: the queues are rings in fixed slots.
+pub mod arm;
 pub mod departures;
+pub mod pass;
+pub mod passes;
+pub mod runs;
+pub mod settle;
 
-use control::Receiving;
+use line::Receiving;
 use model::Control;
 use model::RegisterMap;
 use queue::Cursor;

@@ -23,69 +23,69 @@ pub fn all_ones() {
     let w: u32 = 0xFFFF_FFFF;
     row(
         b"PARITY_EN",
-        fields::parity_en(w),
-        fields::parity_en(0x2),
-        fields::parity_en(0xFFFF_FFFD),
+        registers::fields::parity_en(w),
+        registers::fields::parity_en(0x2),
+        registers::fields::parity_en(0xFFFF_FFFD),
     );
     row(
         b"BIT_NUM",
-        fields::bit_num(w),
-        fields::bit_num(0xC),
-        fields::bit_num(0xFFFF_FFF3),
+        registers::fields::bit_num(w),
+        registers::fields::bit_num(0xC),
+        registers::fields::bit_num(0xFFFF_FFF3),
     );
     row(
         b"STOP_BIT_NUM",
-        fields::stop_bit_num(w),
-        fields::stop_bit_num(0x30),
-        fields::stop_bit_num(0xFFFF_FFCF),
+        registers::fields::stop_bit_num(w),
+        registers::fields::stop_bit_num(0x30),
+        registers::fields::stop_bit_num(0xFFFF_FFCF),
     );
     row(
         b"RXFIFO_FULL_THRHD",
-        fields::rxfifo_full_thrhd(w),
-        fields::rxfifo_full_thrhd(0x1FF),
-        fields::rxfifo_full_thrhd(0xFFFF_FE00),
+        registers::fields::rxfifo_full_thrhd(w),
+        registers::fields::rxfifo_full_thrhd(0x1FF),
+        registers::fields::rxfifo_full_thrhd(0xFFFF_FE00),
     );
     row(
         b"TXFIFO_EMPTY_THRHD",
-        fields::txfifo_empty_thrhd(w),
-        fields::txfifo_empty_thrhd(0x3_FE00),
-        fields::txfifo_empty_thrhd(0xFFFC_01FF),
+        registers::fields::txfifo_empty_thrhd(w),
+        registers::fields::txfifo_empty_thrhd(0x3_FE00),
+        registers::fields::txfifo_empty_thrhd(0xFFFC_01FF),
     );
     row(
         b"CLKDIV",
-        fields::clkdiv_integer(w),
-        fields::clkdiv_integer(0xFFF),
-        fields::clkdiv_integer(0xFFFF_F000),
+        registers::fields::clkdiv_integer(w),
+        registers::fields::clkdiv_integer(0xFFF),
+        registers::fields::clkdiv_integer(0xFFFF_F000),
     );
     row(
         b"CLKDIV_FRAG",
-        fields::clkdiv_frag(w),
-        fields::clkdiv_frag(0xF0_0000),
-        fields::clkdiv_frag(0xFF0F_FFFF),
+        registers::fields::clkdiv_frag(w),
+        registers::fields::clkdiv_frag(0xF0_0000),
+        registers::fields::clkdiv_frag(0xFF0F_FFFF),
     );
     row(
         b"SCLK_DIV_NUM",
-        fields::sclk_div_num(w),
-        fields::sclk_div_num(0xF_F000),
-        fields::sclk_div_num(0xFFF0_0FFF),
+        registers::fields::sclk_div_num(w),
+        registers::fields::sclk_div_num(0xF_F000),
+        registers::fields::sclk_div_num(0xFFF0_0FFF),
     );
     row(
         b"SCLK_SEL",
-        fields::sclk_sel(w),
-        fields::sclk_sel(0x30_0000),
-        fields::sclk_sel(0xFFCF_FFFF),
+        registers::fields::sclk_sel(w),
+        registers::fields::sclk_sel(0x30_0000),
+        registers::fields::sclk_sel(0xFFCF_FFFF),
     );
     row(
         b"RX_TOUT_THRHD",
-        fields::rx_tout_thrhd(w),
-        fields::rx_tout_thrhd(0x3FF_0000),
-        fields::rx_tout_thrhd(0xFC00_FFFF),
+        registers::fields::rx_tout_thrhd(w),
+        registers::fields::rx_tout_thrhd(0x3FF_0000),
+        registers::fields::rx_tout_thrhd(0xFC00_FFFF),
     );
     row(
         b"RX_SIZE, TX_SIZE",
-        fields::fifo_sizes(w),
-        fields::fifo_sizes(0x12),
-        fields::fifo_sizes(0xFFFF_FF81),
+        registers::fields::fifo_sizes(w),
+        registers::fields::fifo_sizes(0x12),
+        registers::fields::fifo_sizes(0xFFFF_FF81),
     );
 }
 
@@ -93,32 +93,32 @@ pub fn all_ones() {
 pub fn single_bits() {
     bit_row(
         b"RXFIFO_RST",
-        fields::rxfifo_rst(0x2_0000),
-        fields::rxfifo_rst(0xFFFD_FFFF),
+        registers::fields::rxfifo_rst(0x2_0000),
+        registers::fields::rxfifo_rst(0xFFFD_FFFF),
     );
     bit_row(
         b"TXFIFO_RST",
-        fields::txfifo_rst(0x4_0000),
-        fields::txfifo_rst(0xFFFB_FFFF),
+        registers::fields::txfifo_rst(0x4_0000),
+        registers::fields::txfifo_rst(0xFFFB_FFFF),
     );
     bit_row(
         b"DIS_RX_DAT_OVF",
-        fields::dis_rx_dat_ovf(0x4_0000),
-        fields::dis_rx_dat_ovf(0xFFFB_FFFF),
+        registers::fields::dis_rx_dat_ovf(0x4_0000),
+        registers::fields::dis_rx_dat_ovf(0xFFFB_FFFF),
     );
     bit_row(
         b"RX_FLOW_EN",
-        fields::rx_flow_en(0x10_0000),
-        fields::rx_flow_en(0xFFEF_FFFF),
+        registers::fields::rx_flow_en(0x10_0000),
+        registers::fields::rx_flow_en(0xFFEF_FFFF),
     );
     bit_row(
         b"RX_TOUT_EN",
-        fields::rx_tout_en(0x20_0000),
-        fields::rx_tout_en(0xFFDF_FFFF),
+        registers::fields::rx_tout_en(0x20_0000),
+        registers::fields::rx_tout_en(0xFFDF_FFFF),
     );
     bit_row(
         b"RX_SCLK_EN",
-        fields::rx_sclk_en(0x200_0000),
-        fields::rx_sclk_en(0xFDFF_FFFF),
+        registers::fields::rx_sclk_en(0x200_0000),
+        registers::fields::rx_sclk_en(0xFDFF_FFFF),
     );
 }

@@ -1,8 +1,8 @@
 // The clock's periods and the Deadline.
 use crate::show;
-use clock::Clock;
 use deadline::Deadline;
 use model::Date;
+use timing::clock::Clock;
 
 fn period(p: u64) {
     show::text(b"period");

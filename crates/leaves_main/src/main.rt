@@ -7,13 +7,13 @@ mod times;
 mod words;
 
 fn main() {
-    times::marked();
-    times::edges();
-    bits::all_ones();
-    bits::single_bits();
-    clocks::periods();
-    clocks::deadlines();
-    words::places();
-    queues::cursors();
-    queues::copies();
+    crate::times::marked();
+    crate::times::edges();
+    crate::bits::all_ones();
+    crate::bits::single_bits();
+    crate::clocks::periods();
+    crate::clocks::deadlines();
+    crate::words::places();
+    crate::queues::cursors();
+    crate::queues::copies();
 }

@@ -126,9 +126,9 @@ pub fn cursors() {
 pub fn copies() {
     let mut slots = [b'-'; 8];
     let held = Cursor { start: 6, count: 1 };
-    let longer = copies::append(held, 8, &mut slots, b"abcd");
+    let longer = queue::copy::append(held, 8, &mut slots, b"abcd");
     let mut out = [b'.'; 12];
-    let n = copies::copy_out(Cursor { start: 6, count: 5 }, 8, &slots, &mut out);
+    let n = queue::copy::copy_out(Cursor { start: 6, count: 5 }, 8, &slots, &mut out);
     cursor(b"appended", longer);
     show::text(b"slots = ");
     show::text(&slots);

@@ -30,12 +30,12 @@ fn value(r: Read) {
 // All ones written at a place of zeros: accepted, what is read there, and the sum of all nine words, so that one word and no
 // other is seen to change.
 fn place(name: &[u8], at: Place) {
-    let s = storage::write(zeros(), at, 0xFFFF_FFFF);
+    let s = registers::storage::write(zeros(), at, 0xFFFF_FFFF);
     show::text(name);
     show::text(b" =");
     show::truth(s.accepted);
     let w = s.words;
-    value(storage::read(w, at));
+    value(registers::storage::read(w, at));
     show::number(sum(w));
     show::text(b"\n");
 }

@@ -1,6 +1,7 @@
 // One mixed workload over the parts of a UART, as a program that embeds it would call: firmware sends a row, a host answers
 // with one, an interrupt handler reads it, and a console takes what was sent. compare/programs/src/bin/workload.rs does the
 // same on the published Rust.
+
 use device::Core;
 use libc::STDOUT_FILENO;
 use model::Read;
@@ -50,7 +51,7 @@ fn row_sent<'a>(
     let mut i: u64 = 0;
     while i < 16 {
         let cycle = base + i * 10;
-        let seen = read::read(
+        let seen = access::read::read(
             core,
             gone_at,
             flight,
@@ -65,7 +66,7 @@ fn row_sent<'a>(
         let status = seen.reply;
         sum = added(sum, value_of(status) as u64);
         core = seen.core;
-        let put = write::write(
+        let put = access::write::write(
             core,
             gone_at,
             flight,
@@ -108,7 +109,7 @@ fn looked<'a>(
     ensures { λ r. ⌜ Ok (r .core) (arrays (now («gone_at» .exit)) (now (flight .exit)) (now (tx .exit)) (now (host .exit)) (now («run_dates» .exit)) (now («run_counts» .exit)) (now (rx .exit))) ⌝ }
 {
     let before = from.core;
-    let seen = read::read(
+    let seen = access::read::read(
         before,
         gone_at,
         flight,
@@ -189,7 +190,7 @@ fn raised<'a>(
     requires { ⌜ Ok (from .core) (arrays (now «gone_at») (now flight) (now tx) (now host) (now «run_dates») (now «run_counts») (now rx)) ⌝ }
     ensures { λ r. ⌜ Ok (r .core) (arrays (now («gone_at» .exit)) (now (flight .exit)) (now (tx .exit)) (now (host .exit)) (now («run_dates» .exit)) (now («run_counts» .exit)) (now (rx .exit))) ⌝ }
 {
-    let woken = wake::wake(
+    let woken = calls::wake::wake(
         from.core,
         gone_at,
         flight,
@@ -299,7 +300,7 @@ fn interrupt<'a>(
         rx,
         cycle,
     );
-    let cleared = write::write(
+    let cleared = access::write::write(
         read.core,
         gone_at,
         flight,
@@ -376,7 +377,7 @@ fn shown<'a>(
     ensures { λ r. ⌜ Ok (r .core) (arrays (now («gone_at» .exit)) (now (flight .exit)) (now (tx .exit)) (now (host .exit)) (now («run_dates» .exit)) (now («run_counts» .exit)) (now (rx .exit))) ⌝ }
 {
     let mut buffer = [0u8; 1152];
-    let done = take_tx::take_tx(
+    let done = host::take_tx::take_tx(
         from.core,
         gone_at,
         flight,
@@ -390,8 +391,8 @@ fn shown<'a>(
     );
     let core = done.core;
     let reply = done.reply;
-    let pending = undated::host_pending(core) as u64;
-    let left = undated::has_left(core) as u64;
+    let pending = calls::queries::host_pending(core) as u64;
+    let left = calls::queries::has_left(core) as u64;
     let sum = added(added(added(from.sum, count_of(reply)), pending), left);
     Tally { core, sum }
 }
@@ -412,7 +413,7 @@ fn answered<'a>(
     ensures { λ r. ⌜ Ok (r .core) (arrays (now («gone_at» .exit)) (now (flight .exit)) (now (tx .exit)) (now (host .exit)) (now («run_dates» .exit)) (now («run_counts» .exit)) (now (rx .exit))) ⌝ }
 {
     let row = *b"basket 7, row 12";
-    let given = receive::receive(
+    let given = host::receive::receive(
         from.core,
         gone_at,
         flight,
@@ -506,7 +507,7 @@ fn enabled<'a>(
     requires { ⌜ Ok new (arrays (now «gone_at») (now flight) (now tx) (now host) (now «run_dates») (now «run_counts») (now rx)) ⌝ }
     ensures { λ r. ⌜ Ok (r .core) (arrays (now («gone_at» .exit)) (now (flight .exit)) (now (tx .exit)) (now (host .exit)) (now («run_dates» .exit)) (now («run_counts» .exit)) (now (rx .exit))) ⌝ }
 {
-    let raised = write::write(
+    let raised = access::write::write(
         new,
         gone_at,
         flight,
@@ -519,7 +520,7 @@ fn enabled<'a>(
         bench::INT_ENA,
         0x4113,
     );
-    let timed = write::write(
+    let timed = access::write::write(
         raised.core,
         gone_at,
         flight,

@@ -1,8 +1,10 @@
--- What the contracts of `queue` cite, and the laws of it.
 pub mod Slots
 pub mod Listed
 pub mod Cursors
 pub mod Laws
 pub mod Stores
 pub mod Guards
-mod Examples
+pub mod Examples
+pub mod Append
+pub mod CopyOut
+pub mod CopiesExamples

@@ -1,5 +1,6 @@
 // Queues in fixed slots: a cursor says where the elements stand, and the slots are arrays beside it. One cursor serves the
 // five queues of the UART. Carried over from inkemu's uart.rs (its `VecDeque`s and `Vec`) and changed.
+pub mod copy;
 
 ghost use mathlib.Core.Path.{_≡_};
 ghost use Prim.Native.Nat.{_+_, _-_, _<_, _≤_, min};

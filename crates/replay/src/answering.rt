@@ -3,12 +3,12 @@ use crate::carried::carry_out;
 use crate::faults::put_fault;
 use crate::session::Session;
 use crate::setups::set_up;
-use lines::Line;
-use lines::read_line;
-use names::Name;
-use steps::Fault;
-use steps::Reason;
-use text::next_word;
+use text::words::next_word;
+use trace::faults::Fault;
+use trace::faults::Reason;
+use trace::line::Line;
+use trace::line::read_line;
+use trace::names::Name;
 ghost use Rattle.uart.specs.Whole.{Good};
 
 fn wrong(session: Session, s: &[u8], fault: Fault, out: &mut [u8]) -> Session

@@ -7,10 +7,10 @@ use model::Refusal;
 use model::Report;
 use model::SetUp;
 use model::Write;
-use spelling::put;
-use spelling::put_bytes;
-use spelling::put_decimal;
-use spelling::put_word;
+use text::output::put;
+use text::output::put_bytes;
+use text::spelling::put_decimal;
+use text::spelling::put_word;
 
 fn number_of(refusal: Refusal) -> u64 {
     match refusal {

@@ -1,7 +1,7 @@
 // The line that a line with a fault answers.
-use spelling::put;
-use steps::Fault;
-use steps::Reason;
+use text::output::put;
+use trace::faults::Fault;
+use trace::faults::Reason;
 
 // More of a word than this is not shown.
 const SHOWN: usize = 40;

@@ -4,9 +4,9 @@ use crate::faults::put_long;
 use crate::session::Session;
 use crate::session::begin;
 use libc::STDIN_FILENO;
-use spelling::put;
-use text::piece_at;
-use text::within;
+use text::lines::piece_at;
+use text::output::put;
+use text::parts::within;
 ghost use Rattle.uart.specs.Whole.{Good};
 
 // The output is written once it is filled so far; an answer that then follows fits behind it.

@@ -13,8 +13,8 @@ mod usage;
 
 fn main() {
     if os::arg_count() > 1 {
-        usage::show();
+        crate::usage::show();
     } else {
-        input::run();
+        crate::input::run();
     }
 }

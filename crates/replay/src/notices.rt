@@ -2,8 +2,8 @@
 use model::Feature;
 use model::Notice;
 use model::Unsupported;
-use spelling::put;
-use spelling::put_decimal;
+use text::output::put;
+use text::spelling::put_decimal;
 
 fn put_feature(out: &mut [u8], at: usize, feature: Feature) -> usize {
     match feature {

@@ -1,5 +1,5 @@
 // What is written, and a write that fails.
-use text::within;
+use text::parts::within;
 
 // Writes the first `count` bytes of `out`. Where that fails it says so on standard error, and answers false.
 pub fn flush(out: &[u8], count: usize) -> bool {

@@ -1,7 +1,7 @@
 // The UART that the calls are on, and how far the output is filled.
 use crate::output::flush;
-use stand_in::stand_in;
 use uart::Uart;
+use uart::placeholder::stand_in;
 ghost use Rattle.uart.specs.Whole.{Good};
 
 // Before the first set-up the UART is one that no call reaches. The output is filled up to `at`; nothing is put to it

@@ -23,16 +23,16 @@ pub fn counted() -> [u8; 1000]
 // The numbers of a UART, and the first and the last byte of its receive FIFO's slots.
 fn state(uart: Uart) {
     let core = uart.core;
-    show::number(b"host bytes left ", core.host.count as u64);
-    show::number(b"runs left ", core.runs.count as u64);
-    show::number(b"bytes held ", core.rx.count as u64);
+    crate::show::number(b"host bytes left ", core.host.count as u64);
+    crate::show::number(b"runs left ", core.runs.count as u64);
+    crate::show::number(b"bytes held ", core.rx.count as u64);
     let rx = uart.rx;
-    show::number(b"first byte ", show::wide(rx[0]));
-    show::number(b"last byte ", show::wide(rx[127]));
+    crate::show::number(b"first byte ", crate::show::wide(rx[0]));
+    crate::show::number(b"last byte ", crate::show::wide(rx[127]));
     let control = core.control;
     let line = control.line;
-    show::number(b"INT_RAW ", line.int_raw as u64);
-    show::number(b"line free at subcycle ", line.line_free_at);
+    crate::show::number(b"INT_RAW ", line.int_raw as u64);
+    crate::show::number(b"line free at subcycle ", line.line_free_at);
 }
 
 fn land(new: Uart)
@@ -44,17 +44,17 @@ fn land(new: Uart)
     let done = waiting.settle(500000);
     let uart = done.uart;
     let again = uart.settle(500000);
-    show::number(b"passes ", done.passes);
-    show::number(b"overflows ", done.overflows);
+    crate::show::number(b"passes ", done.passes);
+    crate::show::number(b"overflows ", done.overflows);
     state(uart);
-    show::number(b"passes again ", again.passes);
+    crate::show::number(b"passes again ", again.passes);
 }
 
 fn main() {
     let made = Uart::new(bench::OFFSETS, bench::RESETS);
     let reply = made.reply;
     match reply {
-        SetUp::Refused(_) => show::number(b"set-up refused ", 1),
+        SetUp::Refused(_) => crate::show::number(b"set-up refused ", 1),
         SetUp::Ready => land(made.uart),
     }
 }

@@ -5,3 +5,11 @@ pub mod Words
 pub mod WordLaws
 pub mod Same
 pub mod Digits
+pub mod Numbers
+pub mod NumberForm
+pub mod Hexes
+pub mod Output
+pub mod HexText
+pub mod Decimal
+pub mod ReadBack
+pub mod Examples

@@ -1,3 +1,2 @@
--- The bounds of line timing.
 pub mod Bounds
 pub mod Cases

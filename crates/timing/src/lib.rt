@@ -1,5 +1,6 @@
 // Line timing: how long a bit, a byte and the receive timeout last, in subcycles.
 // Carried over from inkemu's uart.rs and changed.
+pub mod clock;
 pub mod source;
 
 use model::Settings;
@@ -33,9 +34,9 @@ fn stop_half_bits(code: u32) -> u64
 pub fn frame_half_bits(conf0: u32) -> u64
     ensures { λ r. ⌜ r ≡ frameHalfBits conf0 ⌝ }
 {
-    let data = wide(fields::bit_num(conf0));
-    let parity = wide(fields::parity_en(conf0));
-    let stop = stop_half_bits(fields::stop_bit_num(conf0));
+    let data = wide(registers::fields::bit_num(conf0));
+    let parity = wide(registers::fields::parity_en(conf0));
+    let stop = stop_half_bits(registers::fields::stop_bit_num(conf0));
     2 * (1 + (5 + data) + parity) + stop
 }
 
@@ -43,15 +44,15 @@ pub fn frame_half_bits(conf0: u32) -> u64
 fn divider(clkdiv: u32) -> u64
     ensures { λ r. ⌜ r ≡ Timing·divider clkdiv ⌝ }
 {
-    let integer = wide(fields::clkdiv_integer(clkdiv));
-    let frag = wide(fields::clkdiv_frag(clkdiv));
+    let integer = wide(registers::fields::clkdiv_integer(clkdiv));
+    let frag = wide(registers::fields::clkdiv_frag(clkdiv));
     16 * integer + frag
 }
 
 fn source_divider(clk_conf: u32) -> u64
     ensures { λ r. ⌜ r ≡ sourceDivider «clk_conf» ⌝ }
 {
-    wide(fields::sclk_div_num(clk_conf)) + 1
+    wide(registers::fields::sclk_div_num(clk_conf)) + 1
 }
 
 // Half a bit, in subcycles.
@@ -62,7 +63,7 @@ pub fn half_bit_time(w: Words, period: u64) -> u64
     let clk_conf = w.clk_conf;
     let by = divider(w.clkdiv);
     let source_by = source_divider(clk_conf);
-    let source = source::source_period(clk_conf, period);
+    let source = crate::source::source_period(clk_conf, period);
     by * source_by * source
 }
 
@@ -87,7 +88,7 @@ pub fn timeout_time(w: Words, period: u64) -> u64
     requires { ⌜ period ≤ periodLimit ⌝ }
     ensures { λ r. ⌜ r ≡ timeoutTime w period ⌝ }
 {
-    wide(fields::rx_tout_thrhd(w.mem_conf)) * bit_time(w, period)
+    wide(registers::fields::rx_tout_thrhd(w.mem_conf)) * bit_time(w, period)
 }
 
 // What the receiver reads of the registers and the clock.
@@ -98,10 +99,10 @@ pub fn settings(w: Words, period: u64) -> Settings
     Settings {
         byte_time: byte_time(w, period),
         timeout_time: timeout_time(w, period),
-        source: source::unmodelled_source(w.clk_conf),
-        rx_sclk_en: fields::rx_sclk_en(w.clk_conf),
-        rx_tout_en: fields::rx_tout_en(w.conf1),
-        rxfifo_rst: fields::rxfifo_rst(w.conf0),
-        dis_rx_dat_ovf: fields::dis_rx_dat_ovf(w.conf1),
+        source: crate::source::unmodelled_source(w.clk_conf),
+        rx_sclk_en: registers::fields::rx_sclk_en(w.clk_conf),
+        rx_tout_en: registers::fields::rx_tout_en(w.conf1),
+        rxfifo_rst: registers::fields::rxfifo_rst(w.conf0),
+        dis_rx_dat_ovf: registers::fields::dis_rx_dat_ovf(w.conf1),
     }
 }

@@ -1,2 +1,2 @@
--- What the contracts of the UART as one value say.
 pub mod Whole
+pub mod StandIn

@@ -24,9 +24,9 @@ use Rattle.queue.specs.Laws.{elems-length, empty-held, empty-elems}
 use Rattle.device.specs.Holds.{Arrays, sentAt, runAt, onTheLine, abs, Shape, Ok}
 use Rattle.device.specs.Wholes.{arrays}
 use Rattle.device.specs.declared.Core.{Core}
-use Rattle.setup.specs.NewCore.{newCore}
+use Rattle.calls.specs.NewCore.{newCore}
 use Rattle.calls.specs.Answers.{Answers}
-use Rattle.handover.specs.Takes.{TakesWith}
+use Rattle.host.specs.Takes.{TakesWith}
 use Rattle.uart.specs.declared.Uart.{Uart}
 
 abbrev pub arraysOf : Uart → Arrays

@@ -1,21 +1,23 @@
 // The UART as one value: its core and the slots of its queues. Its methods take it and hand it back; the work is done over the
 // parts, by the crates below. Carried over from inkemu's uart.rs and changed.
+pub mod placeholder;
+
 use calls::power_down;
 use calls::watch;
 use device::Core;
+use device::settle;
 use model::Done;
 use model::Read;
 use model::Report;
 use model::SetUp;
 use model::Taken;
 use model::Write;
-use settle::settling;
 ghost use mathlib.Core.Path.{_≡_};
 ghost use Rattle.model.specs.Settle.{settle};
 ghost use Rattle.model.specs.Replies.{asRead, readNumber, writeNumber, doneNumber};
 ghost use Rattle.model.specs.Calls.{read as Calls·read, write as Calls·write, wake as Calls·wake, reset as Calls·reset};
 ghost use Rattle.model.specs.Calls.{watch as Calls·watch, receive as Calls·receive, clockChange, powerDown, takeTx, takeWritten, hasLeft, hostPending};
-ghost use Rattle.settle.specs.Settles.{Settles};
+ghost use Rattle.device.specs.Settles.{Settles};
 ghost use Rattle.uart.specs.Whole.{arraysOf, meaning, Good, Answered, Took, SetsUp};
 
 #[repr(C)]
@@ -82,7 +84,7 @@ impl Uart {
     pub fn new(offsets: [u32; 16], resets: [u32; 16]) -> NewUart
         ensures { λ r. ⌜ SetsUp offsets resets (r .uart) (r .reply) ⌝ }
     {
-        let made = setup::set_up(offsets, resets);
+        let made = calls::set_up::set_up(offsets, resets);
         let core = made.core;
         let gone_at = [0u64; 129];
         let flight = [0u8; 129];
@@ -113,7 +115,7 @@ impl Uart {
         let mut tx = self.tx;
         let mut run_counts = self.run_counts;
         let mut rx = self.rx;
-        let done = settling::settled(
+        let done = settle::settled(
             self.core,
             &self.gone_at,
             &self.flight,
@@ -144,7 +146,7 @@ impl Uart {
         let mut tx = self.tx;
         let mut run_counts = self.run_counts;
         let mut rx = self.rx;
-        let done = read::read(
+        let done = access::read::read(
             self.core,
             &self.gone_at,
             &self.flight,
@@ -180,7 +182,7 @@ impl Uart {
         let mut tx = self.tx;
         let mut run_counts = self.run_counts;
         let mut rx = self.rx;
-        let done = write::write(
+        let done = access::write::write(
             self.core,
             &mut gone_at,
             &mut flight,
@@ -217,7 +219,7 @@ impl Uart {
         let mut tx = self.tx;
         let mut run_counts = self.run_counts;
         let mut rx = self.rx;
-        let done = wake::wake(
+        let done = calls::wake::wake(
             self.core,
             &self.gone_at,
             &self.flight,
@@ -250,7 +252,7 @@ impl Uart {
         let mut tx = self.tx;
         let mut run_counts = self.run_counts;
         let mut rx = self.rx;
-        let done = reset::reset(
+        let done = calls::reset::reset(
             self.core,
             &self.gone_at,
             &self.flight,
@@ -283,7 +285,7 @@ impl Uart {
         let mut tx = self.tx;
         let mut run_counts = self.run_counts;
         let mut rx = self.rx;
-        let done = clock_change::clock_change(
+        let done = calls::clock_change::clock_change(
             self.core,
             &self.gone_at,
             &self.flight,
@@ -319,7 +321,7 @@ impl Uart {
         let mut run_dates = self.run_dates;
         let mut run_counts = self.run_counts;
         let mut rx = self.rx;
-        let done = receive::receive(
+        let done = host::receive::receive(
             self.core,
             &self.gone_at,
             &self.flight,
@@ -356,7 +358,7 @@ impl Uart {
         let mut tx = self.tx;
         let mut run_counts = self.run_counts;
         let mut rx = self.rx;
-        let done = take_tx::take_tx(
+        let done = host::take_tx::take_tx(
             self.core,
             &self.gone_at,
             &self.flight,
@@ -421,7 +423,7 @@ impl Uart {
         requires { ⌜ Good self ⌝ }
         ensures { λ r. ⌜ Took (takeWritten (now (out .entry))) self (r .uart) (r .reply) (r .report) (now (out .exit)) ⌝ }
     {
-        let done = take_written::take_written(self.core, &self.flight, &self.tx, out);
+        let done = host::take_written::take_written(self.core, &self.flight, &self.tx, out);
         let core = done.core;
         self.core = core;
         let reply = done.reply;
@@ -438,7 +440,7 @@ impl Uart {
         requires { ⌜ Good self ⌝ }
         ensures { λ r. ⌜ r ≡ hasLeft (meaning self) .reply ⌝ }
     {
-        undated::has_left(self.core)
+        calls::queries::has_left(self.core)
     }
 
     // The host bytes that have not landed.
@@ -446,6 +448,6 @@ impl Uart {
         requires { ⌜ Good self ⌝ }
         ensures { λ r. ⌜ r ≡ hostPending (meaning self) .reply ⌝ }
     {
-        undated::host_pending(self.core)
+        calls::queries::host_pending(self.core)
     }
 }

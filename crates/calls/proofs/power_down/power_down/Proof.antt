@@ -5,7 +5,7 @@ use Rattle.model.specs.declared.Done.{Done}
 use Rattle.calls.specs.Answers.{carried, turned-away, passes, refuses, unsettled-works}
 use Rattle.model.specs.Calls.{powerDownWork, unsettled}
 use Rattle.model.specs.Keeps.EachCall.{powerDown-within}
-use Rattle.refusals.specs.Calls.{power-down-tests}
+use Rattle.replies.specs.Calls.{power-down-tests}
 use Rattle.calls.specs.Changes.{shape-of}
 use Rattle.calls.proofs.power_down.power_down.Statement.{statement}
 use Rattle.calls.proofs.power_down.power_down.Tie as tie

@@ -5,7 +5,7 @@ use Rattle.model.specs.declared.Done.{Done}
 use Rattle.calls.specs.Answers.{carried, turned-away, passes, refuses, unsettled-works}
 use Rattle.model.specs.Calls.{watchWork, unsettled}
 use Rattle.model.specs.Keeps.EachCall.{watch-within}
-use Rattle.refusals.specs.Calls.{watch-tests}
+use Rattle.replies.specs.Calls.{watch-tests}
 use Rattle.calls.specs.Changes.{shape-of}
 use Rattle.calls.proofs.watch.watch.Statement.{statement}
 use Rattle.calls.proofs.watch.watch.Tie as tie

@@ -1,0 +1,33 @@
+-- `gone_at_of` meets its contract. Assumes nothing.
+use borrow.Author.Needs.{needs}
+use Rattle.access.proofs.send.gone_at_of.Statement.{statement}
+use Rattle.access.proofs.send.gone_at_of.Tie as tie
+
+last-gone-requires : tie.Need-last-gone-requires
+last-gone-requires c κs = search needs
+
+subcycles-requires : tie.Need-subcycles-requires
+subcycles-requires c κs = tt
+
+starts-at-requires : tie.Need-starts-at-requires
+starts-at-requires c κs = tt
+
+byte-time-requires : tie.Need-byte-time-requires
+byte-time-requires c κs = search needs
+
+after-requires : tie.Need-after-requires
+after-requires c κs = tt
+
+returns : tie.Need-returns
+returns c = λ bytes. rw (c .after .ensures, c .before .byte-time .ensures, c .before .before .starts-at .ensures, c .before .before .before .subcycles .ensures, c .before .before .before .before .last-gone .ensures bytes)
+
+pub gone-at-of-spec : {M : Type 1} → statement M
+gone-at-of-spec =
+    tie.close
+    (tie.spec
+    last-gone-requires
+    subcycles-requires
+    starts-at-requires
+    byte-time-requires
+    after-requires
+    returns)

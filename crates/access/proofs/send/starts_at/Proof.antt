@@ -1,0 +1,25 @@
+-- `starts_at` meets its contract, by cases on the last date. Assumes nothing.
+use Rattle.model.specs.Registers.{startsAt}
+use borrow.Author.Needs.{needs}
+use Rattle.access.proofs.send.starts_at.Statement.{statement}
+use Rattle.access.proofs.send.starts_at.Tie as tie
+
+enum-told : tie.Need-enum-told
+enum-told c = search needs
+
+enum-known-last : tie.Need-enum-known-last
+enum-known-last c = search needs
+
+later-requires : tie.Need-later-requires
+later-requires c κs = tt
+
+returns : tie.Need-returns
+unfolding startsAt
+returns c = rw (c .enum-told .given .1)
+
+returns-2 : tie.Need-returns-2
+unfolding startsAt
+returns-2 c = rw (c .before .before .last .given .1) (c .later .ensures)
+
+pub starts-at-spec : {M : Type 1} → statement M
+starts-at-spec = tie.close (tie.spec enum-told enum-known-last later-requires returns returns-2)

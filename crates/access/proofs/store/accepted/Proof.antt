@@ -1,0 +1,15 @@
+-- `writing::accepted` meets its contract, by the test. Assumes nothing.
+use Rattle.model.specs.Numbers.{choose}
+use Rattle.access.proofs.store.accepted.Statement.{statement}
+use Rattle.access.proofs.store.accepted.Tie as tie
+
+returns : tie.Need-returns
+unfolding choose
+returns c = rw (c .if1 .taken)
+
+returns-2 : tie.Need-returns-2
+unfolding choose
+returns-2 c = rw (c .if1 .left)
+
+pub accepted-spec : {M : Type 1} → statement M
+accepted-spec = tie.close (tie.spec returns returns-2)

@@ -1,0 +1,18 @@
+-- `writing::stored` meets its contract. Assumes nothing.
+use Rattle.access.proofs.store.stored.Statement.{statement}
+use Rattle.access.proofs.store.stored.Tie as tie
+
+write-requires : tie.Need-write-requires
+write-requires c κs = tt
+
+accepted-requires : tie.Need-accepted-requires
+accepted-requires c κs = tt
+
+stored-notices-requires : tie.Need-stored-notices-requires
+stored-notices-requires c κs = tt
+
+returns : tie.Need-returns
+returns c = rw (c .stored-notices .ensures, c .before .accepted .ensures, c .before .before .before .write .ensures .0, c .before .before .before .write .ensures .1)
+
+pub stored-spec : {M : Type 1} → statement M
+stored-spec = tie.close (tie.spec write-requires accepted-requires stored-notices-requires returns)

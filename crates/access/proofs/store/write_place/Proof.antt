@@ -1,0 +1,61 @@
+-- `writing::write_place` meets its contract: INT_CLR clears, CONF0 resets first, and all others go to Storage. Assumes nothing.
+use mathlib.Core.Path.{refl}
+use mathlib.Core.List.{[], _∷_}
+use Rattle.model.specs.Registers.{writePlace}
+use Rattle.registers.proofs.Tags.{place-keys}
+use Rattle.access.specs.Writes.{Stores, cleared-puts, conf0-puts, other-puts}
+use borrow.Author.Needs.{needs}
+use Rattle.access.proofs.store.write_place.Statement.{statement}
+use Rattle.access.proofs.store.write_place.Tie as tie
+
+enum-told : tie.Need-enum-told
+enum-told c = search needs
+
+cleared-requires : tie.Need-cleared-requires
+cleared-requires c κs = tt
+
+enum-told-2 : tie.Need-enum-told-2
+enum-told-2 c = search needs
+
+reset-fifos-requires : tie.Need-reset-fifos-requires
+reset-fifos-requires c κs = tt
+
+stored-requires : tie.Need-stored-requires
+stored-requires c κs = tt
+
+stored-requires-2 : tie.Need-stored-requires-2
+stored-requires-2 c κs = tt
+
+returns : tie.Need-returns
+unfolding writePlace
+returns c = λ a k.
+    rw (c .before .enum-told .given .1) (cleared-puts _ a k _ (c .cleared .ensures))
+
+returns-2 : tie.Need-returns-2
+unfolding writePlace
+returns-2 c = λ a k.
+    let at = c .before .before .enum-told2 .given .1 in
+    rw at (conf0-puts _ a k _ (c .before .reset-fifos .ensures) (rw at at (c .stored .ensures)))
+
+returns-3 : tie.Need-returns-3
+unfolding writePlace
+returns-3 c = λ a k.
+    let o = c .before .before .args in
+    other-puts _ a k (o .value) (o .place)
+    (place-keys (Stores (o .value)) 0 (1 ∷ 2 ∷ 3 ∷ 5 ∷ 6 ∷ 7 ∷ 9 ∷ 10 ∷ 11 ∷ 12 ∷ 13 ∷ 14 ∷ 15 ∷ 16 ∷ []) (o .place)
+    (λ _. refl, (λ _. refl, (λ _. refl, (λ _. refl, (λ _. refl, (λ _. refl, (λ _. refl, (λ _. refl, (λ _. refl, (λ _. refl, (λ _. refl, (λ _. refl, (λ _. refl, (λ _. refl, (λ _. refl, tt))))))))))))))) (c .before .match .keys3))
+    (c .stored2 .ensures)
+
+pub write-place-spec : {M : Type 1} → statement M
+write-place-spec =
+    tie.close
+    (tie.spec
+    enum-told
+    cleared-requires
+    enum-told-2
+    reset-fifos-requires
+    stored-requires
+    stored-requires-2
+    returns
+    returns-2
+    returns-3)

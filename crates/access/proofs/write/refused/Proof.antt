@@ -1,0 +1,12 @@
+-- `refused` meets its contract. Assumes nothing.
+use Rattle.access.proofs.write.refused.Statement.{statement}
+use Rattle.access.proofs.write.refused.Tie as tie
+
+no-report-requires : tie.Need-no-report-requires
+no-report-requires c κs = tt
+
+returns : tie.Need-returns
+returns c = rw (c .no-report .ensures)
+
+pub refused-spec : {M : Type 1} → statement M
+refused-spec = tie.close (tie.spec no-report-requires returns)

@@ -1,0 +1,180 @@
+-- What a read gives once the UART is settled, from the core's numbers and the slots of the receive FIFO. Assumes nothing.
+use mathlib.Core.Path.{_≡_, refl, sym, ap, ap₂, subst, _∙_}
+use mathlib.Core.Bool.{Bool, true, false}
+use mathlib.Core.List.{List}
+use Prim.Native.Nat.{ℕ, _<_, _≤_}
+use native.Mathlib.Omega.{arith}
+use lib.Dec.{ltb}
+use lib.ListN.{length, getD}
+use borrow.Author.Tests.{ltb-true, ltb-false, lt-ltb, le-ltb}
+use Rattle.model.specs.Numbers.{choose}
+use Rattle.model.specs.State.{withMistimed, withLine}
+use Rattle.model.specs.Replies.{ReadOf, word, asRead}
+use Rattle.model.specs.Registers.{Access, loaded, sourceNotes, statusWord, fsmStatus, pop, gives, readPlace, looks, readLooking, readAt}
+use Rattle.model.specs.Laws.Choose.{choose-true, choose-false, choose-ind}
+use Rattle.model.specs.declared.Read.{Read}
+use Rattle.model.specs.declared.Source.{Source}
+use Rattle.model.specs.declared.Place.{Place}
+use Rattle.model.specs.declared.Place.the-variants.{Fifo, IntRaw, IntSt, IntEna, IntClr, Clkdiv, Status, FsmStatus, Conf0, Conf1, ClkConf, IdleConf, Rs485Conf, AtCmdChar, MemConf, MemRxStatus, Unknown}
+use Rattle.model.specs.declared.Unsupported.{Unsupported}
+use Rattle.model.specs.declared.Unsupported.the-variants.{UartEmptyRead, UartReceiveClock}
+use Rattle.queue.specs.Cursors
+use Rattle.queue.specs.Cursors.{slotOf}
+use Rattle.queue.specs.Laws.{elems-length, elems-none, first-elems, pop-held}
+use Rattle.queue.specs.declared.Cursor.{Cursor}
+use Rattle.line.specs.Levels
+use Rattle.replies.specs.Notices.{noted, added}
+use Rattle.replies.specs.NoticeLaws.{empty-read-noted}
+use Rattle.replies.specs.declared.notices.Notices.{Notices}
+use Rattle.device.specs.Holds.{Arrays, sentAt, abs, Shape}
+use Rattle.device.specs.declared.Core.{Core}
+use Rattle.calls.specs.Changes.{withControlOf, shape-of}
+use Rattle.calls.specs.Answers.{Accesses}
+use Rattle.calls.specs.Queues.{withQueuesOf, queues-shape}
+use Rattle.access.specs.declared.load.Got.{Got}
+
+-- ---- places other than FIFO
+
+-- the word that a read gives there; Storage decides of the others, and of FIFO nothing is said
+unfoldable pub wordAt : Core → Place → ReadOf ℕ
+wordAt c Fifo = loaded (c .control .words) Fifo
+wordAt c IntRaw = word (c .control .line .«int_raw»)
+wordAt c IntSt = word (Levels.intStatus (c .control .words .«int_ena») (c .control .line))
+wordAt c IntEna = loaded (c .control .words) IntEna
+wordAt c IntClr = loaded (c .control .words) IntClr
+wordAt c Clkdiv = loaded (c .control .words) Clkdiv
+wordAt c Status = word (statusWord (c .map .«idle_status») (c .flight .count) (c .rx .count))
+wordAt c FsmStatus = word (fsmStatus (c .flight .count))
+wordAt c Conf0 = loaded (c .control .words) Conf0
+wordAt c Conf1 = loaded (c .control .words) Conf1
+wordAt c ClkConf = loaded (c .control .words) ClkConf
+wordAt c IdleConf = loaded (c .control .words) IdleConf
+wordAt c Rs485Conf = loaded (c .control .words) Rs485Conf
+wordAt c AtCmdChar = loaded (c .control .words) AtCmdChar
+wordAt c MemConf = loaded (c .control .words) MemConf
+wordAt c MemRxStatus = word (c .map .«mem_rx_status»)
+wordAt c Unknown = loaded (c .control .words) Unknown
+
+-- a read there gives the core's word, and nothing else changes
+abbrev pub Words : Place → Type 0
+Words p = (ns : List Unsupported) (c : Core) (a : Arrays) → readPlace ns p (abs c a) ≡ gives ns (abs c a) (wordAt c p)
+
+flying : (c : Core) (a : Arrays) → length (abs c a .inFlight) ≡ c .flight .count
+flying c a = elems-length (sentAt (a .goneAt) (a .flight)) 129 (c .flight)
+
+pub status-words : Words Status
+unfolding readPlace wordAt
+status-words ns c a =
+    ap₂ (λ (n m : ℕ). gives ns (abs c a) (word (statusWord (c .map .«idle_status») n m))) (flying c a) (elems-length (slotOf (a .rx) 0) 128 (c .rx))
+
+pub fsm-words : Words FsmStatus
+unfolding readPlace wordAt
+fsm-words ns c a = ap (λ (n : ℕ). gives ns (abs c a) (word (fsmStatus n))) (flying c a)
+
+word-accesses : (p : Place) → Words p → (ns : List Unsupported) (c : Core) (a : Arrays) → Shape c a → {reply : Read} → reply ≡ asRead (wordAt c p)
+    → Accesses asRead (readPlace ns p (abs c a)) c a reply (noted ns)
+unfolding gives
+word-accesses p same ns c a k {reply} r =
+    subst (λ (x : Access (ReadOf ℕ) ℕ ℕ). Accesses asRead x c a reply (noted ns)) (sym (same ns c a)) (record { shape = k; replies = r; notes = refl; state = refl })
+
+-- ---- a mistimed reception is told of once
+
+abbrev pub forgottenCore : Core → Core
+forgottenCore c = withControlOf (withLine (withMistimed Source.None (c .control .line)) (c .control)) c
+
+-- what the firmware is told of, and the core once it has been
+abbrev pub toldOf : Bool → Core → Source
+toldOf looks c = choose looks (c .control .line .«rx_mistimed») Source.None
+
+abbrev pub seenOf : Bool → Core → Core
+seenOf looks c = choose looks (forgottenCore c) c
+
+looking : (looks : Bool) (p : Place) (c : Core) (a : Arrays)
+    → readLooking looks p (abs c a) ≡ readPlace (sourceNotes UartReceiveClock (toldOf looks c)) p (abs (seenOf looks c) a)
+unfolding readLooking sourceNotes choose
+looking true p c a = refl
+looking false p c a = refl
+
+seen-shape : (looks : Bool) (c : Core) (a : Arrays) → Shape c a → Shape (seenOf looks c) a
+seen-shape looks c a k = choose-ind (λ (x : Core). Shape x a) looks (λ _. shape-of c a _ k) (λ _. k)
+
+-- ---- FIFO
+
+-- the oldest byte and the core without it
+abbrev pub taken : Core → List ℕ → Notices → Got
+taken c rx m = record { core = withQueuesOf (c .flight) (Cursors.popped 128 (c .rx)) c; reply = Read.Value (getD rx (c .rx .start) 0); notices = m }
+
+-- from an empty FIFO 0, with a notice behind the others
+abbrev pub nothing : Core → Notices → Got
+nothing c m = record { core = c; reply = Read.Value 0; notices = added UartEmptyRead m }
+
+unfoldable pub popped : Core → List ℕ → Notices → Got
+popped c rx m = choose (ltb 0 (c .rx .count)) (taken c rx m) (nothing c m)
+
+-- what the code puts together is one of the two
+module _ (c : Core) (rx : List ℕ) (m : Notices) where
+  pub pop-takes : 0 < c .rx .count → {rest : Cursor} → rest ≡ Cursors.popped 128 (c .rx) → {b : ℕ} → b ≡ getD rx (c .rx .start) 0
+      → _≡_ {A = Got} (record { core = withQueuesOf (c .flight) rest c; reply = Read.Value b; notices = m }) (popped c rx m)
+  unfolding popped
+  pop-takes pos er eb = rw (er, eb) (sym (choose-true _ _ (lt-ltb 0 _ pos)))
+
+  pub pop-misses : c .rx .count ≤ 0 → {n : Notices} → n ≡ added UartEmptyRead m
+      → _≡_ {A = Got} (record { core = c; reply = Read.Value 0; notices = n }) (popped c rx m)
+  unfolding popped
+  pop-misses none en = rw en (sym (choose-false _ _ (le-ltb 0 _ none)))
+
+module _ (s : Source) (c : Core) (a : Arrays) (k : Shape c a) where
+  ns : List Unsupported
+  ns = sourceNotes UartReceiveClock s
+
+  Pops : List ℕ → Got → Type 0
+  Pops l g = Accesses asRead (pop ns l (abs c a)) (g .core) a (g .reply) (g .notices)
+
+  taken-pops : 0 < c .rx .count → Pops (abs c a .rx) (taken c (a .rx) (noted ns))
+  unfolding Pops pop asRead
+  taken-pops pos =
+      subst (λ (l : List ℕ). Pops l (taken c (a .rx) (noted ns))) (sym (first-elems (slotOf (a .rx) 0) 128 (c .rx) (k .rx) pos))
+      (record {
+        shape = queues-shape c a k (k .flight) (pop-held 128 (c .rx) (k .rx)) (k .goneAtSlots) (k .flightSlots);
+        replies = refl;
+        notes = refl;
+        state = refl;
+      })
+
+  nothing-pops : c .rx .count ≤ 0 → Pops (abs c a .rx) (nothing c (noted ns))
+  unfolding Pops pop asRead ns
+  nothing-pops z =
+      subst (λ (l : List ℕ). Pops l (nothing c (noted ns))) (sym (elems-none (slotOf (a .rx) 0) 128 (c .rx) (omega arith)))
+      (record { shape = k; replies = refl; notes = empty-read-noted s; state = refl })
+
+  pop-accesses : {g : Got} → g ≡ popped c (a .rx) (noted (sourceNotes UartReceiveClock s))
+      → Accesses asRead (readPlace (sourceNotes UartReceiveClock s) Fifo (abs c a)) (g .core) a (g .reply) (g .notices)
+  unfolding popped Pops ns readPlace
+  pop-accesses e =
+      subst (Pops (abs c a .rx)) (sym e)
+      (choose-ind (Pops (abs c a .rx)) (ltb 0 (c .rx .count)) (λ t. taken-pops (ltb-true _ _ t)) (λ t. nothing-pops (ltb-false _ _ t)))
+
+-- ---- a read, from what the code finds on the way: whether the firmware looks, what it is told of, and the core seen
+
+module _ (p : Place) (c : Core) (a : Arrays) (k : Shape c a) {yes : Bool} {s : Source} {m : Notices} {seen : Core} (el : yes ≡ looks p) (es : s ≡ toldOf yes c)
+    (em : m ≡ noted (sourceNotes UartReceiveClock s)) (ec : seen ≡ seenOf yes c) where
+  seen-read : readAt p (abs c a) ≡ readPlace (sourceNotes UartReceiveClock s) p (abs seen a)
+  unfolding readAt
+  seen-read =
+      ap (λ (b : Bool). readLooking b p (abs c a)) (sym el) ∙ looking yes p c a
+      ∙ ap₂ (λ (x : Source) (v : Core). readPlace (sourceNotes UartReceiveClock x) p (abs v a)) (sym es) (sym ec)
+
+  held-in : Shape seen a
+  held-in = subst (λ (v : Core). Shape v a) (sym ec) (seen-shape yes c a k)
+
+  pub reads-fifo : p ≡ Fifo → {slots : List ℕ} → a .rx ≡ slots → {g : Got} → g ≡ popped seen slots m → Accesses asRead (readAt p (abs c a)) (g .core) a (g .reply) (g .notices)
+  reads-fifo ep ea {g} eg =
+      subst (λ (x : Access (ReadOf ℕ) ℕ ℕ). Accesses asRead x (g .core) a (g .reply) (g .notices))
+      (sym (seen-read ∙ ap (λ (q : Place). readPlace (sourceNotes UartReceiveClock s) q (abs seen a)) ep))
+      (pop-accesses s seen a held-in (eg ∙ ap₂ (popped seen) (sym ea) em))
+
+  pub reads-word : Words p → {reply : Read} → reply ≡ asRead (wordAt seen p) → Accesses asRead (readAt p (abs c a)) seen a reply m
+  reads-word ew {reply} er =
+      subst (λ (x : Access (ReadOf ℕ) ℕ ℕ). Accesses asRead x seen a reply m) (sym seen-read)
+      (subst (λ (n : Notices). Accesses asRead (readPlace (sourceNotes UartReceiveClock s) p (abs seen a)) seen a reply n) (sym em)
+      (word-accesses p ew (sourceNotes UartReceiveClock s) seen a held-in er))

@@ -1,0 +1,131 @@
+// read: settle, and then the value at a place.
+
+use calls::settle_at;
+use device::Core;
+use model::Place;
+use model::Read;
+use model::Refusal;
+use model::Report;
+use registers::places;
+use replies::notices::Notices;
+use replies::refusals::Checked;
+use replies::report;
+ghost use mathlib.Core.Path.{_≡_};
+ghost use Prim.Native.Nat.{_<_};
+ghost use Rattle.model.specs.Tests.{dateEnd};
+ghost use Rattle.model.specs.Replies.{asRead, readNumber};
+ghost use Rattle.model.specs.Calls.{read as Calls·read, readWork};
+ghost use Rattle.device.specs.Holds.{abs, Ok};
+ghost use Rattle.device.specs.Wholes.{arrays};
+ghost use Rattle.calls.specs.Answers.{Works, Answers};
+ghost use Rattle.access.specs.Structs.{readCore, refusedRead};
+
+#[repr(C)]
+pub struct ReadCore {
+    pub core: Core,
+    pub reply: Read,
+    pub report: Report,
+}
+
+fn answered(core: Core, reply: Read, passes: u64, overflows: u64, notices: Notices) -> ReadCore
+    ensures { λ r. ⌜ r ≡ readCore core reply passes overflows notices ⌝ }
+{
+    let control = core.control;
+    let wake = control.wake;
+    let report = report::report(control.level, wake, overflows, passes, notices);
+    ReadCore {
+        core,
+        reply,
+        report,
+    }
+}
+
+fn refused(core: Core, refusal: Refusal) -> ReadCore
+    ensures { λ r. ⌜ r ≡ refusedRead core refusal ⌝ }
+{
+    let report = report::no_report();
+    ReadCore {
+        core,
+        reply: Read::Refused(refusal),
+        report,
+    }
+}
+
+fn read_settled<'a>(
+    core: Core,
+    gone_at: &'a [u64; 129],
+    flight: &'a [u8; 129],
+    tx: &'a mut [u8; 1152],
+    host: &'a [u8; 1024],
+    run_dates: &'a [u64; 64],
+    run_counts: &'a mut [u64; 64],
+    rx: &'a mut [u8; 128],
+    cycle: u64,
+    place: Place,
+) -> ReadCore
+    requires { ⌜ Ok core (arrays (now «gone_at») (now flight) (now tx) (now host) (now «run_dates») (now «run_counts») (now rx)) × (cycle < dateEnd) ⌝ }
+    ensures { λ r. ⌜ Works asRead
+        (readWork cycle place (abs core (arrays (now («gone_at» .entry)) (now (flight .entry)) (now (tx .entry)) (now (host .entry)) (now («run_dates» .entry)) (now («run_counts» .entry)) (now (rx .entry)))))
+        (r .core)
+        (arrays (now («gone_at» .entry)) (now (flight .entry)) (now (tx .exit)) (now (host .entry)) (now («run_dates» .entry)) (now («run_counts» .exit)) (now (rx .exit)))
+        (r .reply) (r .report) ⌝ }
+{
+    let t = settle_at::settled_at(
+        core,
+        gone_at,
+        flight,
+        tx,
+        host,
+        run_dates,
+        run_counts,
+        rx,
+        cycle,
+    );
+    let settled = t.core;
+    let got = crate::load::read_at(settled, rx, place);
+    let after = got.core;
+    let reply = got.reply;
+    let notices = got.notices;
+    answered(after, reply, t.passes, t.overflows, notices)
+}
+
+pub fn read<'a>(
+    core: Core,
+    gone_at: &'a [u64; 129],
+    flight: &'a [u8; 129],
+    tx: &'a mut [u8; 1152],
+    host: &'a [u8; 1024],
+    run_dates: &'a [u64; 64],
+    run_counts: &'a mut [u64; 64],
+    rx: &'a mut [u8; 128],
+    cycle: u64,
+    offset: u32,
+) -> ReadCore
+    requires { ⌜ Ok core (arrays (now «gone_at») (now flight) (now tx) (now host) (now «run_dates») (now «run_counts») (now rx)) ⌝ }
+    ensures { λ r. ⌜ Answers asRead readNumber (Calls·read cycle offset (abs core (arrays (now («gone_at» .entry)) (now (flight .entry)) (now (tx .entry)) (now (host .entry)) (now («run_dates» .entry)) (now («run_counts» .entry)) (now (rx .entry))))) core
+        (arrays (now («gone_at» .entry)) (now (flight .entry)) (now (tx .entry)) (now (host .entry)) (now («run_dates» .entry)) (now («run_counts» .entry)) (now (rx .entry)))
+        (r .core)
+        (arrays (now («gone_at» .entry)) (now (flight .entry)) (now (tx .exit)) (now (host .entry)) (now («run_dates» .entry)) (now («run_counts» .exit)) (now (rx .exit)))
+        (r .reply) (r .report) ⌝ }
+{
+    let map = core.map;
+    let offsets = map.offsets;
+    let place = places::place_of(offsets, offset);
+    let control = core.control;
+    let tests = replies::refusals::date_refusal(cycle, control.last);
+    match tests {
+        Checked::Refused(refusal) => refused(core, refusal),
+        Checked::Passed => read_settled(
+            core,
+            gone_at,
+            flight,
+            tx,
+            host,
+            run_dates,
+            run_counts,
+            rx,
+            cycle,
+            place,
+        ),
+    }
+}

@@ -1,0 +1,74 @@
+// uart.rs's `send`: a byte written to FIFO joins those in flight, once the UART is settled.
+use crate::store::Put;
+use device::Core;
+use model::Date;
+use model::Write;
+use registers::words;
+ghost use mathlib.Core.Path.{_≡_};
+ghost use Prim.Native.Nat.{ℕ, _≤_};
+ghost use mathlib.Core.List.{List};
+ghost use lib.ListN.{length};
+ghost use Rattle.model.specs.Registers.{startsAt};
+ghost use Rattle.model.specs.Tests.{periodLimit};
+ghost use Rattle.queue.specs.Cursors.{Held};
+ghost use Rattle.device.specs.Holds.{flightOf};
+ghost use Rattle.access.specs.Sends.{goneAtOf, SendsAny};
+
+// When a byte starts: after the last one in flight, and not before now. In subcycles.
+fn starts_at(date: u64, last: Date) -> u64
+    ensures { λ r. ⌜ r ≡ startsAt date last ⌝ }
+{
+    match last {
+        Date::None => date,
+        Date::At(gone) => dates::later(gone, date),
+    }
+}
+
+// When a byte written at a cycle has gone.
+fn gone_at_of(core: Core, gone_at: &[u64; 129], cycle: u64) -> u64
+    requires { ⌜ Held 129 (core .flight) × (length (now «gone_at») ≡ 129) × (core .control .period ≤ periodLimit) ⌝ }
+    ensures { λ r. ⌜ ((bytes : List ℕ) → r ≡ goneAtOf cycle (core .control) (flightOf (now («gone_at» .entry)) bytes (core .flight))) ⌝ }
+{
+    let control = core.control;
+    let words = control.words;
+    let last = device::arm::last_gone(gone_at, core.flight);
+    let start = starts_at(dates::subcycles(cycle), last);
+    dates::after(start, timing::byte_time(words, control.period))
+}
+
+// With over 128 bytes in flight the byte is dropped.
+pub fn send_byte<'a>(
+    mut core: Core,
+    gone_at: &'a mut [u64; 129],
+    flight: &'a mut [u8; 129],
+    cycle: u64,
+    byte: u8,
+) -> Put
+    requires { ⌜ Held 129 (core .flight) × (length (now «gone_at») ≡ 129) × (length (now flight) ≡ 129) × (core .control .period ≤ periodLimit) ⌝ }
+    ensures { λ r. ⌜ SendsAny cycle byte core (now («gone_at» .entry)) (now (flight .entry)) (r .core) (now («gone_at» .exit)) (now (flight .exit)) (r .reply) (r .notices) ⌝ }
+{
+    if words::fifo_full(core.flight.count) {
+        let notices = replies::notices::overflow_notices();
+        Put {
+            core,
+            reply: Write::Accepted,
+            notices,
+        }
+    } else {
+        let control = core.control;
+        let words = control.words;
+        let at = core.flight.back(129);
+        gone_at[at] = gone_at_of(core, gone_at, cycle);
+        flight[at] = byte;
+        let longer = core.flight.pushed();
+        core.flight = longer;
+        let notices = replies::notices::clock_notices(timing::source::unmodelled_source(
+            words.clk_conf,
+        ));
+        Put {
+            core,
+            reply: Write::Accepted,
+            notices,
+        }
+    }
+}

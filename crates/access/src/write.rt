@@ -1,0 +1,206 @@
+// write: settle, then the write at a place, then levels, interrupt and wake.
+
+use crate::store::Put;
+use calls::settle_at;
+use device::Core;
+use model::Place;
+use model::Refusal;
+use model::Report;
+use model::Write;
+use registers::places;
+use replies::notices::Notices;
+use replies::refusals::Checked;
+use replies::report;
+ghost use mathlib.Core.Path.{_≡_};
+ghost use Prim.Native.Nat.{_<_, _%_};
+ghost use lib.ListN.{length};
+ghost use Rattle.model.specs.Tests.{dateEnd};
+ghost use Rattle.model.specs.Replies.{writeNumber};
+ghost use Rattle.model.specs.Calls.{write as Calls·write};
+ghost use Rattle.queue.specs.Cursors.{Held};
+ghost use Rattle.replies.specs.Refusals.{verdict};
+ghost use Rattle.device.specs.Holds.{abs, Ok};
+ghost use Rattle.device.specs.Arms.{Ready};
+ghost use Rattle.device.specs.Wholes.{arrays};
+ghost use Rattle.calls.specs.Answers.{Works, Answers};
+ghost use Rattle.access.specs.WriteStructs.{writeCore, refusedWrite};
+ghost use Rattle.access.specs.ByPlace.{isFifo, testsAt, workAt};
+ghost use Rattle.access.specs.Concludes.{ConcludesAny};
+
+#[repr(C)]
+pub struct WriteCore {
+    pub core: Core,
+    pub reply: Write,
+    pub report: Report,
+}
+
+fn answered(core: Core, reply: Write, passes: u64, overflows: u64, notices: Notices) -> WriteCore
+    ensures { λ r. ⌜ r ≡ writeCore core reply passes overflows notices ⌝ }
+{
+    let control = core.control;
+    let wake = control.wake;
+    let report = report::report(control.level, wake, overflows, passes, notices);
+    WriteCore {
+        core,
+        reply,
+        report,
+    }
+}
+
+fn refused(core: Core, refusal: Refusal) -> WriteCore
+    ensures { λ r. ⌜ r ≡ refusedWrite core refusal ⌝ }
+{
+    let report = report::no_report();
+    WriteCore {
+        core,
+        reply: Write::Refused(refusal),
+        report,
+    }
+}
+
+fn is_fifo(place: Place) -> bool
+    ensures { λ r. ⌜ r ≡ isFifo place ⌝ }
+{
+    match place {
+        Place::Fifo => true,
+        Place::IntRaw
+        | Place::IntSt
+        | Place::IntEna
+        | Place::IntClr
+        | Place::Clkdiv
+        | Place::Status
+        | Place::FsmStatus
+        | Place::Conf0
+        | Place::Conf1
+        | Place::ClkConf
+        | Place::IdleConf
+        | Place::Rs485Conf
+        | Place::AtCmdChar
+        | Place::MemConf
+        | Place::MemRxStatus
+        | Place::Unknown => false,
+    }
+}
+
+fn low_byte(value: u32) -> u8
+    ensures { λ r. ⌜ r ≡ value % 256 ⌝ }
+{
+    (value & 0xFF) as u8
+}
+
+// A write to FIFO has one test more.
+fn tests_at(fifo: bool, cycle: u64, last: u64, left: usize, flying: usize) -> Checked
+    ensures { λ r. ⌜ verdict r ≡ testsAt fifo cycle last left flying ⌝ }
+{
+    if fifo {
+        replies::refusals::send_refusal(cycle, last, left, flying)
+    } else {
+        replies::refusals::date_refusal(cycle, last)
+    }
+}
+
+// Every write raises levels, drives the interrupt and arms, accepted or not.
+fn concluded<'a>(
+    put: Put,
+    gone_at: &'a [u64; 129],
+    run_dates: &'a [u64; 64],
+    passes: u64,
+    overflows: u64,
+) -> WriteCore
+    requires { ⌜ Ready (put .core) (now «gone_at») × Held 64 (put .core .runs) × (length (now «run_dates») ≡ 64) ⌝ }
+    ensures { λ r. ⌜ ConcludesAny put (now («gone_at» .entry)) (now («run_dates» .entry)) passes overflows r ⌝ }
+{
+    let reply = put.reply;
+    let notices = put.notices;
+    let core = calls::conclude::concluded(put.core, gone_at, run_dates);
+    answered(core, reply, passes, overflows, notices)
+}
+
+// FIFO sends a byte, and any other place takes the word.
+fn write_settled<'a>(
+    core: Core,
+    gone_at: &'a mut [u64; 129],
+    flight: &'a mut [u8; 129],
+    tx: &'a mut [u8; 1152],
+    host: &'a [u8; 1024],
+    run_dates: &'a [u64; 64],
+    run_counts: &'a mut [u64; 64],
+    rx: &'a mut [u8; 128],
+    cycle: u64,
+    fifo: bool,
+    byte: u8,
+    place: Place,
+    value: u32,
+) -> WriteCore
+    requires { ⌜ Ok core (arrays (now «gone_at») (now flight) (now tx) (now host) (now «run_dates») (now «run_counts») (now rx)) × (cycle < dateEnd) ⌝ }
+    ensures { λ r. ⌜ Works (λ x. x)
+        (workAt fifo cycle byte place value (abs core (arrays (now («gone_at» .entry)) (now (flight .entry)) (now (tx .entry)) (now (host .entry)) (now («run_dates» .entry)) (now («run_counts» .entry)) (now (rx .entry)))))
+        (r .core)
+        (arrays (now («gone_at» .exit)) (now (flight .exit)) (now (tx .exit)) (now (host .entry)) (now («run_dates» .entry)) (now («run_counts» .exit)) (now (rx .exit)))
+        (r .reply) (r .report) ⌝ }
+{
+    let t = settle_at::settled_at(
+        core,
+        gone_at,
+        flight,
+        tx,
+        host,
+        run_dates,
+        run_counts,
+        rx,
+        cycle,
+    );
+    if fifo {
+        let sent = crate::send::send_byte(t.core, gone_at, flight, cycle, byte);
+        concluded(sent, gone_at, run_dates, t.passes, t.overflows)
+    } else {
+        let put = crate::store::write_place(t.core, place, value);
+        concluded(put, gone_at, run_dates, t.passes, t.overflows)
+    }
+}
+
+pub fn write<'a>(
+    core: Core,
+    gone_at: &'a mut [u64; 129],
+    flight: &'a mut [u8; 129],
+    tx: &'a mut [u8; 1152],
+    host: &'a [u8; 1024],
+    run_dates: &'a [u64; 64],
+    run_counts: &'a mut [u64; 64],
+    rx: &'a mut [u8; 128],
+    cycle: u64,
+    offset: u32,
+    value: u32,
+) -> WriteCore
+    requires { ⌜ Ok core (arrays (now «gone_at») (now flight) (now tx) (now host) (now «run_dates») (now «run_counts») (now rx)) ⌝ }
+    ensures { λ r. ⌜ Answers (λ x. x) writeNumber (Calls·write cycle offset value (abs core (arrays (now («gone_at» .entry)) (now (flight .entry)) (now (tx .entry)) (now (host .entry)) (now («run_dates» .entry)) (now («run_counts» .entry)) (now (rx .entry))))) core
+        (arrays (now («gone_at» .entry)) (now (flight .entry)) (now (tx .entry)) (now (host .entry)) (now («run_dates» .entry)) (now («run_counts» .entry)) (now (rx .entry)))
+        (r .core)
+        (arrays (now («gone_at» .exit)) (now (flight .exit)) (now (tx .exit)) (now (host .entry)) (now («run_dates» .entry)) (now («run_counts» .exit)) (now (rx .exit)))
+        (r .reply) (r .report) ⌝ }
+{
+    let map = core.map;
+    let offsets = map.offsets;
+    let place = places::place_of(offsets, offset);
+    let fifo = is_fifo(place);
+    let control = core.control;
+    let tests = tests_at(fifo, cycle, control.last, core.tx.count, core.flight.count);
+    match tests {
+        Checked::Refused(refusal) => refused(core, refusal),
+        Checked::Passed => write_settled(
+            core,
+            gone_at,
+            flight,
+            tx,
+            host,
+            run_dates,
+            run_counts,
+            rx,
+            cycle,
+            fifo,
+            low_byte(value),
+            place,
+            value,
+        ),
+    }
+}

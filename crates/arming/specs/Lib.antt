@@ -1,2 +1,0 @@
--- What arming does to the held UART.
-pub mod Arms

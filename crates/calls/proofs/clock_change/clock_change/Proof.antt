@@ -1,0 +1,58 @@
+-- `clock_change` meets its contract: refused as the tests say, or carried out. Assumes nothing.
+use mathlib.Core.Option.{none}
+use Rattle.model.specs.Calls.{clockChange, clockWork}
+use Rattle.model.specs.Keeps.EachCall.{clockChange-within}
+use Rattle.replies.specs.Calls.{clock-tests}
+use Rattle.replies.specs.Refusals.{clocking}
+use Rattle.calls.specs.Answers.{passes, refuses, in-time}
+use Rattle.calls.specs.Done.{done-carried, done-refused, clock-zero}
+use borrow.Author.Tests.{ltb-false}
+use Rattle.model.specs.Tests.{periodTooLong}
+use Rattle.model.specs.Keeps.Dated.{not-refused}
+use Rattle.calls.proofs.clock_change.clock_change.Statement.{statement}
+use Rattle.calls.proofs.clock_change.clock_change.Tie as tie
+
+clock-refusal-requires : tie.Need-clock-refusal-requires
+clock-refusal-requires c κs = tt
+
+enum-known-tests : tie.Need-enum-known-tests
+enum-known-tests c = c .match .keys1
+
+refused-requires : tie.Need-refused-requires
+refused-requires c κs = tt
+
+enum-told : tie.Need-enum-told
+enum-told c = c .match .keys2
+
+reclocked-requires : tie.Need-reclocked-requires
+unfolding clocking periodTooLong
+reclocked-requires c κs =
+    let tests = in-time _ _ _ (passes (c .before .before .before .before .before .clock-refusal .ensures) (c .before .before .before .enum-told .given .1)) in
+    (c .before .before .before .before .before .before .before .pre, tests .0, ltb-false _ _ (not-refused _ _ none (tests .1) .0))
+
+returns : tie.Need-returns
+returns c =
+    let start = c .before .before .before .before .before .before in
+    let o = start .args in
+    done-refused (clockChange (o .cycle) (o .period)) (clockWork (o .cycle) (o .period)) (start .pre) (clock-tests (o .cycle) _ (o .period))
+    (refuses (c .before .before .before .before .clock-refusal .ensures) (c .before .before .tests .given .1)) (c .refused .ensures)
+
+returns-2 : tie.Need-returns-2
+returns-2 c =
+    let start = c .before .before .before .before .before .before .before .before in
+    let o = start .args in
+    done-carried (clockChange (o .cycle) (o .period)) (clockWork (o .cycle) (o .period)) (start .pre) (clock-tests (o .cycle) _ (o .period))
+    (passes (c .before .before .before .before .before .before .clock-refusal .ensures) (c .before .before .before .before .enum-told .given .1))
+    (clockChange-within (o .cycle) (o .period) _ (start .pre .within)) (clock-zero (o .cycle) _ (o .period)) (c .reclocked .ensures)
+
+pub clock-change-spec : {M : Type 1} → statement M
+clock-change-spec =
+    tie.close
+    (tie.spec
+    clock-refusal-requires
+    enum-known-tests
+    refused-requires
+    enum-told
+    reclocked-requires
+    returns
+    returns-2)

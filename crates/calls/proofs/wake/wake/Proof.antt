@@ -1,0 +1,56 @@
+-- `wake` meets its contract: refused as the tests say, or carried out. Assumes nothing.
+use mathlib.Core.Option.{none}
+use Rattle.model.specs.Calls.{wake, wakeWork}
+use Rattle.model.specs.Keeps.EachCall.{wake-within}
+use Rattle.replies.specs.Calls.{wake-tests}
+use Rattle.replies.specs.Refusals.{datesOnly}
+use Rattle.calls.specs.Answers.{passes, refuses, in-time}
+use Rattle.calls.specs.Done.{done-carried, done-refused, wake-zero}
+use Rattle.calls.proofs.wake.wake.Statement.{statement}
+use Rattle.calls.proofs.wake.wake.Tie as tie
+
+date-refusal-requires : tie.Need-date-refusal-requires
+date-refusal-requires c κs = tt
+
+enum-known-tests : tie.Need-enum-known-tests
+enum-known-tests c = c .match .keys1
+
+refused-requires : tie.Need-refused-requires
+refused-requires c κs = tt
+
+enum-told : tie.Need-enum-told
+enum-told c = c .match .keys2
+
+woken-requires : tie.Need-woken-requires
+unfolding datesOnly
+woken-requires c κs = (
+  c .before .before .before .before .before .before .before .pre,
+  in-time _ _ none (passes (c .before .before .before .before .before .date-refusal .ensures) (c .before .before .before .enum-told .given .1)) .0,
+)
+
+returns : tie.Need-returns
+returns c =
+    let start = c .before .before .before .before .before .before in
+    let o = start .args in
+    done-refused (wake (o .cycle)) (wakeWork (o .cycle)) (start .pre) (wake-tests (o .cycle) _)
+    (refuses (c .before .before .before .before .date-refusal .ensures) (c .before .before .tests .given .1)) (c .refused .ensures)
+
+returns-2 : tie.Need-returns-2
+returns-2 c =
+    let start = c .before .before .before .before .before .before .before .before in
+    let o = start .args in
+    done-carried (wake (o .cycle)) (wakeWork (o .cycle)) (start .pre) (wake-tests (o .cycle) _)
+    (passes (c .before .before .before .before .before .before .date-refusal .ensures) (c .before .before .before .before .enum-told .given .1))
+    (wake-within (o .cycle) _ (start .pre .within)) (wake-zero (o .cycle) _) (c .woken .ensures)
+
+pub wake-spec : {M : Type 1} → statement M
+wake-spec =
+    tie.close
+    (tie.spec
+    date-refusal-requires
+    enum-known-tests
+    refused-requires
+    enum-told
+    woken-requires
+    returns
+    returns-2)

@@ -1,0 +1,117 @@
+// The clock change, one call: settle, set the period, settle, arm.
+use crate::answers;
+use crate::answers::DoneCore;
+use crate::settle_at;
+use device::Core;
+use device::settle;
+use replies::refusals::Checked;
+use timing::clock::Clock;
+ghost use mathlib.Core.Path.{_≡_};
+ghost use Prim.Native.Nat.{_<_, _≤_};
+ghost use Rattle.model.specs.Tests.{dateEnd, periodLimit};
+ghost use Rattle.model.specs.Calls.{clockChange, clockWork};
+ghost use Rattle.device.specs.Holds.{abs, Ok};
+ghost use Rattle.device.specs.Wholes.{arrays};
+ghost use Rattle.calls.specs.Changes.{clockedCore};
+ghost use Rattle.calls.specs.Answers.{Works, DoneWith};
+
+// The core with another period of the APB clock, in cycles; 0 counts as 1.
+fn clocked(mut core: Core, period: u64) -> Core
+    ensures { λ r. ⌜ r ≡ clockedCore period core ⌝ }
+{
+    let clock = Clock::new(period);
+    let mut control = core.control;
+    control.period = clock.apb_period;
+    core.control = control;
+    core
+}
+
+// Passes and overflows are the sums over the two settlings.
+fn reclocked<'a>(
+    core: Core,
+    gone_at: &'a [u64; 129],
+    flight: &'a [u8; 129],
+    tx: &'a mut [u8; 1152],
+    host: &'a [u8; 1024],
+    run_dates: &'a [u64; 64],
+    run_counts: &'a mut [u64; 64],
+    rx: &'a mut [u8; 128],
+    cycle: u64,
+    period: u64,
+) -> DoneCore
+    requires { ⌜ Ok core (arrays (now «gone_at») (now flight) (now tx) (now host) (now «run_dates») (now «run_counts») (now rx)) × (cycle < dateEnd) × (period ≤ periodLimit) ⌝ }
+    ensures { λ r. ⌜ Works (λ x. x)
+        (clockWork cycle period (abs core (arrays (now («gone_at» .entry)) (now (flight .entry)) (now (tx .entry)) (now (host .entry)) (now («run_dates» .entry)) (now («run_counts» .entry)) (now (rx .entry)))))
+        (r .core)
+        (arrays (now («gone_at» .entry)) (now (flight .entry)) (now (tx .exit)) (now (host .entry)) (now («run_dates» .entry)) (now («run_counts» .exit)) (now (rx .exit)))
+        (r .reply) (r .report) ⌝ }
+{
+    let first = settle_at::settled_at(
+        core,
+        gone_at,
+        flight,
+        tx,
+        host,
+        run_dates,
+        run_counts,
+        rx,
+        cycle,
+    );
+    let from = clocked(first.core, period);
+    let second = settle::settled(
+        from,
+        gone_at,
+        flight,
+        tx,
+        host,
+        run_dates,
+        run_counts,
+        rx,
+        cycle,
+    );
+    let settled = second.core;
+    let armed = device::arm::arm(settled, gone_at, run_dates);
+    answers::done(
+        armed,
+        first.passes + second.passes,
+        first.overflows + second.overflows,
+    )
+}
+
+pub fn clock_change<'a>(
+    core: Core,
+    gone_at: &'a [u64; 129],
+    flight: &'a [u8; 129],
+    tx: &'a mut [u8; 1152],
+    host: &'a [u8; 1024],
+    run_dates: &'a [u64; 64],
+    run_counts: &'a mut [u64; 64],
+    rx: &'a mut [u8; 128],
+    cycle: u64,
+    period: u64,
+) -> DoneCore
+    requires { ⌜ Ok core (arrays (now «gone_at») (now flight) (now tx) (now host) (now «run_dates») (now «run_counts») (now rx)) ⌝ }
+    ensures { λ r. ⌜ DoneWith (clockChange cycle period) core
+        (arrays (now («gone_at» .entry)) (now (flight .entry)) (now (tx .entry)) (now (host .entry)) (now («run_dates» .entry)) (now («run_counts» .entry)) (now (rx .entry)))
+        (r .core)
+        (arrays (now («gone_at» .entry)) (now (flight .entry)) (now (tx .exit)) (now (host .entry)) (now («run_dates» .entry)) (now («run_counts» .exit)) (now (rx .exit)))
+        (r .reply) (r .report) ⌝ }
+{
+    let control = core.control;
+    let tests = replies::refusals::clock_refusal(cycle, control.last, period);
+    match tests {
+        Checked::Refused(refusal) => answers::refused(core, refusal),
+        Checked::Passed => reclocked(
+            core,
+            gone_at,
+            flight,
+            tx,
+            host,
+            run_dates,
+            run_counts,
+            rx,
+            cycle,
+            period,
+        ),
+    }
+}

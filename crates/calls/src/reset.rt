@@ -1,0 +1,118 @@
+// reset: it ends a power-down, settles, and clears what uart.rs's `reset` clears.
+use crate::answers;
+use crate::answers::DoneCore;
+use crate::power_down;
+use crate::settle_at;
+use device::Core;
+use model::Date;
+use model::Line;
+use model::Source;
+use queue::Cursor;
+use replies::refusals::Checked;
+ghost use mathlib.Core.Path.{_≡_};
+ghost use Prim.Native.Nat.{_<_};
+ghost use Rattle.model.specs.Tests.{dateEnd};
+ghost use Rattle.model.specs.Calls.{reset as Calls·reset, resetWork, clearedLine};
+ghost use Rattle.device.specs.Holds.{abs, Ok};
+ghost use Rattle.device.specs.Wholes.{arrays};
+ghost use Rattle.calls.specs.Changes.{clearedCore};
+ghost use Rattle.calls.specs.Answers.{Works, DoneWith};
+
+// When the line is free stays.
+fn cleared_line(line: Line) -> Line
+    ensures { λ r. ⌜ r ≡ clearedLine line ⌝ }
+{
+    Line {
+        int_raw: 0,
+        rx_mistimed: Source::None,
+        idle_since: Date::None,
+        line_free_at: line.line_free_at,
+    }
+}
+
+// Words as at reset; no byte in flight, and none received.
+fn cleared(mut core: Core) -> Core
+    ensures { λ r. ⌜ r ≡ clearedCore core ⌝ }
+{
+    let map = core.map;
+    let words = map.reset;
+    let mut control = core.control;
+    let line = cleared_line(control.line);
+    control.words = words;
+    control.line = line;
+    core.control = control;
+    core.flight = Cursor::new();
+    core.rx = Cursor::new();
+    core
+}
+
+fn restarted<'a>(
+    core: Core,
+    gone_at: &'a [u64; 129],
+    flight: &'a [u8; 129],
+    tx: &'a mut [u8; 1152],
+    host: &'a [u8; 1024],
+    run_dates: &'a [u64; 64],
+    run_counts: &'a mut [u64; 64],
+    rx: &'a mut [u8; 128],
+    cycle: u64,
+) -> DoneCore
+    requires { ⌜ Ok core (arrays (now «gone_at») (now flight) (now tx) (now host) (now «run_dates») (now «run_counts») (now rx)) × (cycle < dateEnd) ⌝ }
+    ensures { λ r. ⌜ Works (λ x. x)
+        (resetWork cycle (abs core (arrays (now («gone_at» .entry)) (now (flight .entry)) (now (tx .entry)) (now (host .entry)) (now («run_dates» .entry)) (now («run_counts» .entry)) (now (rx .entry)))))
+        (r .core)
+        (arrays (now («gone_at» .entry)) (now (flight .entry)) (now (tx .exit)) (now (host .entry)) (now («run_dates» .entry)) (now («run_counts» .exit)) (now (rx .exit)))
+        (r .reply) (r .report) ⌝ }
+{
+    let from = power_down::with_powered_down_at(core, Date::None);
+    let t = settle_at::settled_at(
+        from,
+        gone_at,
+        flight,
+        tx,
+        host,
+        run_dates,
+        run_counts,
+        rx,
+        cycle,
+    );
+    let cleared = cleared(t.core);
+    let restarted = crate::conclude::concluded(cleared, gone_at, run_dates);
+    answers::done(restarted, t.passes, t.overflows)
+}
+
+pub fn reset<'a>(
+    core: Core,
+    gone_at: &'a [u64; 129],
+    flight: &'a [u8; 129],
+    tx: &'a mut [u8; 1152],
+    host: &'a [u8; 1024],
+    run_dates: &'a [u64; 64],
+    run_counts: &'a mut [u64; 64],
+    rx: &'a mut [u8; 128],
+    cycle: u64,
+) -> DoneCore
+    requires { ⌜ Ok core (arrays (now «gone_at») (now flight) (now tx) (now host) (now «run_dates») (now «run_counts») (now rx)) ⌝ }
+    ensures { λ r. ⌜ DoneWith (Calls·reset cycle) core
+        (arrays (now («gone_at» .entry)) (now (flight .entry)) (now (tx .entry)) (now (host .entry)) (now («run_dates» .entry)) (now («run_counts» .entry)) (now (rx .entry)))
+        (r .core)
+        (arrays (now («gone_at» .entry)) (now (flight .entry)) (now (tx .exit)) (now (host .entry)) (now («run_dates» .entry)) (now («run_counts» .exit)) (now (rx .exit)))
+        (r .reply) (r .report) ⌝ }
+{
+    let control = core.control;
+    let tests = replies::refusals::date_refusal(cycle, control.last);
+    match tests {
+        Checked::Refused(refusal) => answers::refused(core, refusal),
+        Checked::Passed => restarted(
+            core,
+            gone_at,
+            flight,
+            tx,
+            host,
+            run_dates,
+            run_counts,
+            rx,
+            cycle,
+        ),
+    }
+}

@@ -1,0 +1,95 @@
+// wake: only it clears the Deadline.
+use crate::answers;
+use crate::answers::DoneCore;
+use crate::settle_at;
+use device::Core;
+use replies::refusals::Checked;
+ghost use mathlib.Core.Path.{_≡_};
+ghost use Prim.Native.Nat.{_<_};
+ghost use Rattle.model.specs.Tests.{dateEnd};
+ghost use Rattle.model.specs.Calls.{wake as Calls·wake, wakeWork};
+ghost use Rattle.device.specs.Holds.{abs, Ok};
+ghost use Rattle.device.specs.Wholes.{arrays};
+ghost use Rattle.calls.specs.Changes.{calledCore};
+ghost use Rattle.calls.specs.Answers.{Works, DoneWith};
+
+// The core with its Deadline cleared where its date has come.
+fn called(core: Core, cycle: u64) -> Core
+    ensures { λ r. ⌜ r ≡ calledCore cycle core ⌝ }
+{
+    let control = core.control;
+    let due = control.wake;
+    let wake = deadline::called(due, cycle);
+    device::arm::with_wake_of(core, wake)
+}
+
+fn woken<'a>(
+    core: Core,
+    gone_at: &'a [u64; 129],
+    flight: &'a [u8; 129],
+    tx: &'a mut [u8; 1152],
+    host: &'a [u8; 1024],
+    run_dates: &'a [u64; 64],
+    run_counts: &'a mut [u64; 64],
+    rx: &'a mut [u8; 128],
+    cycle: u64,
+) -> DoneCore
+    requires { ⌜ Ok core (arrays (now «gone_at») (now flight) (now tx) (now host) (now «run_dates») (now «run_counts») (now rx)) × (cycle < dateEnd) ⌝ }
+    ensures { λ r. ⌜ Works (λ x. x)
+        (wakeWork cycle (abs core (arrays (now («gone_at» .entry)) (now (flight .entry)) (now (tx .entry)) (now (host .entry)) (now («run_dates» .entry)) (now («run_counts» .entry)) (now (rx .entry)))))
+        (r .core)
+        (arrays (now («gone_at» .entry)) (now (flight .entry)) (now (tx .exit)) (now (host .entry)) (now («run_dates» .entry)) (now («run_counts» .exit)) (now (rx .exit)))
+        (r .reply) (r .report) ⌝ }
+{
+    let from = called(core, cycle);
+    let t = settle_at::settled_at(
+        from,
+        gone_at,
+        flight,
+        tx,
+        host,
+        run_dates,
+        run_counts,
+        rx,
+        cycle,
+    );
+    let settled = t.core;
+    let armed = device::arm::arm(settled, gone_at, run_dates);
+    answers::done(armed, t.passes, t.overflows)
+}
+
+pub fn wake<'a>(
+    core: Core,
+    gone_at: &'a [u64; 129],
+    flight: &'a [u8; 129],
+    tx: &'a mut [u8; 1152],
+    host: &'a [u8; 1024],
+    run_dates: &'a [u64; 64],
+    run_counts: &'a mut [u64; 64],
+    rx: &'a mut [u8; 128],
+    cycle: u64,
+) -> DoneCore
+    requires { ⌜ Ok core (arrays (now «gone_at») (now flight) (now tx) (now host) (now «run_dates») (now «run_counts») (now rx)) ⌝ }
+    ensures { λ r. ⌜ DoneWith (Calls·wake cycle) core
+        (arrays (now («gone_at» .entry)) (now (flight .entry)) (now (tx .entry)) (now (host .entry)) (now («run_dates» .entry)) (now («run_counts» .entry)) (now (rx .entry)))
+        (r .core)
+        (arrays (now («gone_at» .entry)) (now (flight .entry)) (now (tx .exit)) (now (host .entry)) (now («run_dates» .entry)) (now («run_counts» .exit)) (now (rx .exit)))
+        (r .reply) (r .report) ⌝ }
+{
+    let control = core.control;
+    let tests = replies::refusals::date_refusal(cycle, control.last);
+    match tests {
+        Checked::Refused(refusal) => answers::refused(core, refusal),
+        Checked::Passed => woken(
+            core,
+            gone_at,
+            flight,
+            tx,
+            host,
+            run_dates,
+            run_counts,
+            rx,
+            cycle,
+        ),
+    }
+}

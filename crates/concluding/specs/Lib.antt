@@ -1,2 +1,0 @@
--- What the contract of `concluded` says.
-pub mod Concludes

@@ -1,0 +1,15 @@
+-- `passes::chosen` meets its contract, by the test. Assumes nothing.
+use Rattle.model.specs.Numbers.{choose}
+use Rattle.device.proofs.pass.chosen.Statement.{statement}
+use Rattle.device.proofs.pass.chosen.Tie as tie
+
+returns : tie.Need-returns
+unfolding choose
+returns c = rw (c .if1 .taken)
+
+returns-2 : tie.Need-returns-2
+unfolding choose
+returns-2 c = rw (c .if1 .left)
+
+pub chosen-spec : {M : Type 1} → statement M
+chosen-spec = tie.close (tie.spec returns returns-2)

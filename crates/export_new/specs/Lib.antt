@@ -1,2 +1,0 @@
--- What set-up gives in plain numbers.
-pub mod SetsUp

@@ -1,0 +1,27 @@
+-- `wondraxu_take_written` meets its contract, which is that of `take_written` over the core that was meant. Assumes nothing.
+use borrow.Author.Needs.{needs}
+use Rattle.ffi.specs.Answers.{ok-of, plainly}
+use Rattle.exports.proofs.take_written.wondraxu_take_written.Statement.{statement}
+use Rattle.exports.proofs.take_written.wondraxu_take_written.Tie as tie
+
+core-of-requires : tie.Need-core-of-requires
+core-of-requires c κs = tt
+
+take-written-requires : tie.Need-take-written-requires
+take-written-requires c κs = rw (c .before .core-of .ensures) (c .before .before .before .pre)
+
+taken-answer-requires : tie.Need-taken-answer-requires
+taken-answer-requires c κs = tt
+
+same-length : tie.Need-same-length
+same-length c = search needs
+
+returns : tie.Need-returns
+returns c = λ a g d ok.
+    let e = c .before .before .before .before .before .core-of .ensures in
+    plainly _ e (c .before .before .before .take-written .ensures a g d (ok-of _ e ok)) (c .taken-answer .ensures)
+
+pub wondraxu-take-written-spec : {M : Type 1} → statement M
+wondraxu-take-written-spec =
+    tie.close
+    (tie.spec core-of-requires take-written-requires taken-answer-requires same-length returns)

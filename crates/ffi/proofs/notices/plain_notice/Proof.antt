@@ -1,0 +1,60 @@
+-- `plain_notice` meets its contract, case by case. Assumes nothing.
+use mathlib.Core.Path.{ap, sym}
+use borrow.Author.Needs.{needs}
+use Rattle.ffi.specs.Notes.{plainUnsupported}
+use Rattle.ffi.proofs.notices.plain_notice.Statement.{statement}
+use Rattle.ffi.proofs.notices.plain_notice.Tie as tie
+
+enum-told : tie.Need-enum-told
+enum-told c = search needs
+
+enum-told-2 : tie.Need-enum-told-2
+enum-told-2 c = search needs
+
+enum-known-what : tie.Need-enum-known-what
+enum-known-what c = search needs
+
+enum-known-what-2 : tie.Need-enum-known-what-2
+enum-known-what-2 c = search needs
+
+enum-known-what-3 : tie.Need-enum-known-what-3
+enum-known-what-3 c = search needs
+
+mode-number-requires : tie.Need-mode-number-requires
+mode-number-requires c κs = tt
+
+returns : tie.Need-returns
+unfolding plainUnsupported
+returns c = sym (ap plainUnsupported (c .enum-told .given .1))
+
+returns-2 : tie.Need-returns-2
+unfolding plainUnsupported
+returns-2 c = sym (ap plainUnsupported (c .enum-told2 .given .1))
+
+returns-3 : tie.Need-returns-3
+unfolding plainUnsupported
+returns-3 c = sym (ap plainUnsupported (c .before .what .given .1))
+
+returns-4 : tie.Need-returns-4
+unfolding plainUnsupported
+returns-4 c = sym (ap plainUnsupported (c .before .what2 .given .1))
+
+returns-5 : tie.Need-returns-5
+unfolding plainUnsupported
+returns-5 c = rw (c .mode-number .ensures) (sym (ap plainUnsupported (c .before .before .what3 .given .1)))
+
+pub plain-notice-spec : {M : Type 1} → statement M
+plain-notice-spec =
+    tie.close
+    (tie.spec
+    enum-told
+    enum-told-2
+    enum-known-what
+    enum-known-what-2
+    enum-known-what-3
+    mode-number-requires
+    returns
+    returns-2
+    returns-3
+    returns-4
+    returns-5)

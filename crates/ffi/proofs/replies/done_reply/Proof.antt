@@ -1,0 +1,31 @@
+-- `done_reply` meets its contract, case by case. Assumes nothing.
+use mathlib.Core.Path.{ap, sym, _∙_}
+use borrow.Author.Needs.{needs}
+use Rattle.ffi.specs.Replies.{plainDone}
+use Rattle.ffi.proofs.replies.done_reply.Statement.{statement}
+use Rattle.ffi.proofs.replies.done_reply.Tie as tie
+
+enum-told : tie.Need-enum-told
+enum-told c = search needs
+
+carried-out-requires : tie.Need-carried-out-requires
+carried-out-requires c κs = tt
+
+enum-known-reply : tie.Need-enum-known-reply
+enum-known-reply c = search needs
+
+refused-requires : tie.Need-refused-requires
+refused-requires c κs = tt
+
+returns : tie.Need-returns
+unfolding plainDone
+returns c = c .carried-out .ensures ∙ sym (ap plainDone (c .before .enum-told .given .1))
+
+returns-2 : tie.Need-returns-2
+unfolding plainDone
+returns-2 c = c .refused .ensures ∙ sym (ap plainDone (c .before .before .reply .given .1))
+
+pub done-reply-spec : {M : Type 1} → statement M
+done-reply-spec =
+    tie.close
+    (tie.spec enum-told carried-out-requires enum-known-reply refused-requires returns returns-2)

@@ -1,0 +1,54 @@
+-- `read_reply` meets its contract, case by case. Assumes nothing.
+use mathlib.Core.Path.{ap, sym, _∙_}
+use borrow.Author.Needs.{needs}
+use Rattle.ffi.specs.Replies.{plainRead}
+use Rattle.ffi.proofs.replies.read_reply.Statement.{statement}
+use Rattle.ffi.proofs.replies.read_reply.Tie as tie
+
+enum-known-reply : tie.Need-enum-known-reply
+enum-known-reply c = search needs
+
+cast-carried-out : tie.Need-cast-carried-out
+cast-carried-out c = search needs
+
+carried-out-requires : tie.Need-carried-out-requires
+carried-out-requires c κs = tt
+
+enum-told : tie.Need-enum-told
+enum-told c = search needs
+
+carried-out-requires-2 : tie.Need-carried-out-requires-2
+carried-out-requires-2 c κs = search needs
+
+enum-known-reply-2 : tie.Need-enum-known-reply-2
+enum-known-reply-2 c = search needs
+
+refused-requires : tie.Need-refused-requires
+refused-requires c κs = tt
+
+returns : tie.Need-returns
+unfolding plainRead
+returns c = c .carried-out .ensures ∙ sym (ap plainRead (c .before .before .reply .given .1))
+
+returns-2 : tie.Need-returns-2
+unfolding plainRead
+returns-2 c = c .carried-out2 .ensures ∙ sym (ap plainRead (c .before .enum-told .given .1))
+
+returns-3 : tie.Need-returns-3
+unfolding plainRead
+returns-3 c = c .refused .ensures ∙ sym (ap plainRead (c .before .before .reply2 .given .1))
+
+pub read-reply-spec : {M : Type 1} → statement M
+read-reply-spec =
+    tie.close
+    (tie.spec
+    enum-known-reply
+    cast-carried-out
+    carried-out-requires
+    enum-told
+    carried-out-requires-2
+    enum-known-reply-2
+    refused-requires
+    returns
+    returns-2
+    returns-3)

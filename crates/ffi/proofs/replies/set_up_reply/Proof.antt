@@ -1,0 +1,31 @@
+-- `set_up_reply` meets its contract, case by case. Assumes nothing.
+use mathlib.Core.Path.{ap, sym, _∙_}
+use borrow.Author.Needs.{needs}
+use Rattle.ffi.specs.Replies.{plainSetUp}
+use Rattle.ffi.proofs.replies.set_up_reply.Statement.{statement}
+use Rattle.ffi.proofs.replies.set_up_reply.Tie as tie
+
+enum-told : tie.Need-enum-told
+enum-told c = search needs
+
+carried-out-requires : tie.Need-carried-out-requires
+carried-out-requires c κs = tt
+
+enum-known-reply : tie.Need-enum-known-reply
+enum-known-reply c = search needs
+
+refused-requires : tie.Need-refused-requires
+refused-requires c κs = tt
+
+returns : tie.Need-returns
+unfolding plainSetUp
+returns c = c .carried-out .ensures ∙ sym (ap plainSetUp (c .before .enum-told .given .1))
+
+returns-2 : tie.Need-returns-2
+unfolding plainSetUp
+returns-2 c = c .refused .ensures ∙ sym (ap plainSetUp (c .before .before .reply .given .1))
+
+pub set-up-reply-spec : {M : Type 1} → statement M
+set-up-reply-spec =
+    tie.close
+    (tie.spec enum-told carried-out-requires enum-known-reply refused-requires returns returns-2)

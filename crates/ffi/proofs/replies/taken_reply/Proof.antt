@@ -1,0 +1,37 @@
+-- `taken_reply` meets its contract, case by case. Assumes nothing.
+use mathlib.Core.Path.{ap, sym, _∙_}
+use borrow.Author.Needs.{needs}
+use Rattle.ffi.specs.Replies.{plainTaken}
+use Rattle.ffi.proofs.replies.taken_reply.Statement.{statement}
+use Rattle.ffi.proofs.replies.taken_reply.Tie as tie
+
+enum-known-reply : tie.Need-enum-known-reply
+enum-known-reply c = search needs
+
+carried-out-requires : tie.Need-carried-out-requires
+carried-out-requires c κs = tt
+
+enum-known-reply-2 : tie.Need-enum-known-reply-2
+enum-known-reply-2 c = search needs
+
+refused-requires : tie.Need-refused-requires
+refused-requires c κs = tt
+
+returns : tie.Need-returns
+unfolding plainTaken
+returns c = c .carried-out .ensures ∙ sym (ap plainTaken (c .before .before .reply .given .1))
+
+returns-2 : tie.Need-returns-2
+unfolding plainTaken
+returns-2 c = c .refused .ensures ∙ sym (ap plainTaken (c .before .before .reply2 .given .1))
+
+pub taken-reply-spec : {M : Type 1} → statement M
+taken-reply-spec =
+    tie.close
+    (tie.spec
+    enum-known-reply
+    carried-out-requires
+    enum-known-reply-2
+    refused-requires
+    returns
+    returns-2)

@@ -1,0 +1,50 @@
+-- `write_reply` meets its contract, case by case. Assumes nothing.
+use mathlib.Core.Path.{ap, sym, _∙_}
+use borrow.Author.Needs.{needs}
+use Rattle.ffi.specs.Replies.{plainWrite}
+use Rattle.ffi.proofs.replies.write_reply.Statement.{statement}
+use Rattle.ffi.proofs.replies.write_reply.Tie as tie
+
+enum-told : tie.Need-enum-told
+enum-told c = search needs
+
+carried-out-requires : tie.Need-carried-out-requires
+carried-out-requires c κs = tt
+
+enum-told-2 : tie.Need-enum-told-2
+enum-told-2 c = search needs
+
+carried-out-requires-2 : tie.Need-carried-out-requires-2
+carried-out-requires-2 c κs = search needs
+
+enum-known-reply : tie.Need-enum-known-reply
+enum-known-reply c = search needs
+
+refused-requires : tie.Need-refused-requires
+refused-requires c κs = tt
+
+returns : tie.Need-returns
+unfolding plainWrite
+returns c = c .carried-out .ensures ∙ sym (ap plainWrite (c .before .enum-told .given .1))
+
+returns-2 : tie.Need-returns-2
+unfolding plainWrite
+returns-2 c = c .carried-out2 .ensures ∙ sym (ap plainWrite (c .before .enum-told2 .given .1))
+
+returns-3 : tie.Need-returns-3
+unfolding plainWrite
+returns-3 c = c .refused .ensures ∙ sym (ap plainWrite (c .before .before .reply .given .1))
+
+pub write-reply-spec : {M : Type 1} → statement M
+write-reply-spec =
+    tie.close
+    (tie.spec
+    enum-told
+    carried-out-requires
+    enum-told-2
+    carried-out-requires-2
+    enum-known-reply
+    refused-requires
+    returns
+    returns-2
+    returns-3)

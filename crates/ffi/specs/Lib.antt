@@ -1,0 +1,4 @@
+pub mod Plain
+pub mod Notes
+pub mod Replies
+pub mod Answers

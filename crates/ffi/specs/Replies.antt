@@ -1,0 +1,53 @@
+-- Replies and reports in plain numbers. Assumes nothing.
+use mathlib.Core.Bool.{Bool, true, false}
+use Prim.Native.Nat.{ℕ}
+use Rattle.model.specs.Replies.{number}
+use Rattle.model.specs.declared.Refusal.{Refusal}
+use Rattle.model.specs.declared.Report.{Report}
+use Rattle.model.specs.declared.SetUp.{SetUp}
+use Rattle.model.specs.declared.Read.{Read}
+use Rattle.model.specs.declared.Write.{Write}
+use Rattle.model.specs.declared.Done.{Done}
+use Rattle.model.specs.declared.Taken.{Taken}
+use Rattle.ffi.specs.Plain.{plainDate}
+use Rattle.ffi.specs.Notes.{plainNotices}
+use Rattle.ffi.specs.declared.replies.PlainReply.{PlainReply}
+use Rattle.ffi.specs.declared.replies.PlainReport.{PlainReport}
+
+abbrev pub refusedReply : Refusal → PlainReply
+refusedReply r = record { number = number r; holds = false; value = 0 }
+
+abbrev pub carriedOut : Bool → ℕ → PlainReply
+carriedOut holds value = record { number = 0; holds = holds; value = value }
+
+unfoldable pub plainSetUp : SetUp → PlainReply
+plainSetUp SetUp.Ready = carriedOut true 0
+plainSetUp (SetUp.Refused r) = refusedReply r
+
+unfoldable pub plainRead : Read → PlainReply
+plainRead (Read.Value n) = carriedOut true n
+plainRead Read.NoValue = carriedOut false 0
+plainRead (Read.Refused r) = refusedReply r
+
+unfoldable pub plainWrite : Write → PlainReply
+plainWrite Write.Accepted = carriedOut true 0
+plainWrite Write.NotAccepted = carriedOut false 0
+plainWrite (Write.Refused r) = refusedReply r
+
+unfoldable pub plainDone : Done → PlainReply
+plainDone Done.Done = carriedOut true 0
+plainDone (Done.Refused r) = refusedReply r
+
+unfoldable pub plainTaken : Taken → PlainReply
+plainTaken (Taken.Bytes n) = carriedOut true n
+plainTaken (Taken.Refused r) = refusedReply r
+
+unfoldable pub plainReport : Report → PlainReport
+plainReport r = record {
+  level = r .level;
+  wake = plainDate (r .wake);
+  overflows = r .overflows;
+  passes = r .passes;
+  noted = r .noted;
+  notices = plainNotices (r .notices) (r .noted);
+}

@@ -1,0 +1,72 @@
+// The whole answer of a call in plain numbers: the core after it, the reply and the report.
+use crate::PlainCore;
+use crate::replies::PlainReply;
+use crate::replies::PlainReport;
+use access::read::ReadCore;
+use access::write::WriteCore;
+use calls::answers::DoneCore;
+use device::Core;
+use host::taken::TakenCore;
+use model::Report;
+ghost use mathlib.Core.Path.{_≡_};
+ghost use Rattle.ffi.specs.Replies.{plainRead, plainWrite, plainDone, plainTaken};
+ghost use Rattle.ffi.specs.Answers.{plainAnswer};
+
+#[repr(C)]
+pub struct PlainAnswer {
+    pub core: PlainCore,
+    pub reply: PlainReply,
+    pub report: PlainReport,
+}
+
+fn answer(core: Core, reply: PlainReply, report: Report) -> PlainAnswer
+    ensures { λ r. ⌜ r ≡ plainAnswer core reply report ⌝ }
+{
+    let plain_core = crate::plain_core(core);
+    let plain_report = crate::replies::plain_report(report);
+    PlainAnswer {
+        core: plain_core,
+        reply,
+        report: plain_report,
+    }
+}
+
+pub fn read_answer(done: ReadCore) -> PlainAnswer
+    ensures { λ r. ⌜ r ≡ plainAnswer (done .core) (plainRead (done .reply)) (done .report) ⌝ }
+{
+    let core = done.core;
+    let reply = done.reply;
+    let report = done.report;
+    let plain_reply = crate::replies::read_reply(reply);
+    answer(core, plain_reply, report)
+}
+
+pub fn write_answer(done: WriteCore) -> PlainAnswer
+    ensures { λ r. ⌜ r ≡ plainAnswer (done .core) (plainWrite (done .reply)) (done .report) ⌝ }
+{
+    let core = done.core;
+    let reply = done.reply;
+    let report = done.report;
+    let plain_reply = crate::replies::write_reply(reply);
+    answer(core, plain_reply, report)
+}
+
+pub fn done_answer(done: DoneCore) -> PlainAnswer
+    ensures { λ r. ⌜ r ≡ plainAnswer (done .core) (plainDone (done .reply)) (done .report) ⌝ }
+{
+    let core = done.core;
+    let reply = done.reply;
+    let report = done.report;
+    let plain_reply = crate::replies::done_reply(reply);
+    answer(core, plain_reply, report)
+}
+
+pub fn taken_answer(done: TakenCore) -> PlainAnswer
+    ensures { λ r. ⌜ r ≡ plainAnswer (done .core) (plainTaken (done .reply)) (done .report) ⌝ }
+{
+    let core = done.core;
+    let reply = done.reply;
+    let report = done.report;
+    let plain_reply = crate::replies::taken_reply(reply);
+    answer(core, plain_reply, report)
+}

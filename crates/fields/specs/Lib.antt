@@ -1,2 +1,0 @@
--- Laws that join shifts and masks to fields.
-pub mod Masks

@@ -1,0 +1,64 @@
+-- `receive` meets its contract: refused as the tests say, or carried out. Assumes nothing.
+use Rattle.model.specs.Calls.{receive, receiveWork}
+use Rattle.model.specs.Keeps.EachCall.{receive-within}
+use Rattle.calls.specs.Answers.{passes, refuses}
+use Rattle.calls.specs.Done.{done-carried, done-refused, receive-zero}
+use Rattle.host.specs.Receives.{receive-checks, left-room}
+use Rattle.host.proofs.receive.receive.Statement.{statement}
+use Rattle.host.proofs.receive.receive.Tie as tie
+
+last-date-requires : tie.Need-last-date-requires
+last-date-requires c κs = let k = c .before .before .before .pre .shape in (k .runs, k .runDateSlots)
+
+host-date-requires : tie.Need-host-date-requires
+host-date-requires c κs = tt
+
+receive-refusal-requires : tie.Need-receive-refusal-requires
+receive-refusal-requires c κs = tt
+
+enum-known-tests : tie.Need-enum-known-tests
+enum-known-tests c = c .match .keys1
+
+refused-requires : tie.Need-refused-requires
+refused-requires c κs = tt
+
+enum-told : tie.Need-enum-told
+enum-told c = c .match .keys2
+
+received-requires : tie.Need-received-requires
+received-requires c κs =
+    let start = c .before .before .before .before .before .before .before .before .before .before .before .before .before in
+    let o = start .args in
+    left-room (o .cycle) (o .at) (o .bytes .now) (start .pre) (c .before .before .before .before .before .before .before .before .before .last-date .ensures (o .run-counts .now)) (c .before .before .before .before .before .before .before .before .host-date .ensures)
+    (passes (c .before .before .before .before .before .before .before .receive-refusal .ensures) (c .before .before .before .before .before .enum-told .given .1))
+
+returns : tie.Need-returns
+returns c =
+    let start = c .before .before .before .before .before .before .before .before .before .before in
+    let o = start .args in
+    done-refused (receive (o .cycle) (o .at) (o .bytes .now)) (receiveWork (o .cycle) (o .at) (o .bytes .now)) (start .pre)
+    (receive-checks (o .cycle) (o .at) (o .bytes .now) (start .pre) (c .before .before .before .before .before .before .last-date .ensures (o .run-counts .now)) (c .before .before .before .before .before .host-date .ensures))
+    (refuses (c .before .before .before .before .receive-refusal .ensures) (c .before .before .tests .given .1)) (c .refused .ensures)
+
+returns-2 : tie.Need-returns-2
+returns-2 c =
+    let start = c .before .before .before .before .before .before .before .before .before .before .before .before .before .before in
+    let o = start .args in
+    done-carried (receive (o .cycle) (o .at) (o .bytes .now)) (receiveWork (o .cycle) (o .at) (o .bytes .now)) (start .pre)
+    (receive-checks (o .cycle) (o .at) (o .bytes .now) (start .pre) (c .before .before .before .before .before .before .before .before .before .before .last-date .ensures (o .run-counts .now)) (c .before .before .before .before .before .before .before .before .before .host-date .ensures))
+    (passes (c .before .before .before .before .before .before .before .before .receive-refusal .ensures) (c .before .before .before .before .before .before .enum-told .given .1)) (receive-within (o .cycle) (o .at) (o .bytes .now) _ (start .pre .within))
+    (receive-zero (o .cycle) _ (o .at) (o .bytes .now)) (c .received .ensures)
+
+pub receive-spec : {M : Type 1} → statement M
+receive-spec =
+    tie.close
+    (tie.spec
+    last-date-requires
+    host-date-requires
+    receive-refusal-requires
+    enum-known-tests
+    refused-requires
+    enum-told
+    received-requires
+    returns
+    returns-2)

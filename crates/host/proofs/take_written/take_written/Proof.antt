@@ -1,0 +1,76 @@
+-- `take_written` meets its contract: refused as the test says, or carried out. Assumes nothing.
+use mathlib.Core.Path.{refl}
+use mathlib.Core.Option.{none}
+use borrow.Author.Tests.{ltb-false}
+use Rattle.model.specs.Tests.{bufferTooShort}
+use Rattle.model.specs.Keeps.Dated.{not-refused}
+use Rattle.model.specs.Replies.{takenNumber}
+use Rattle.model.specs.Calls.{takeWrittenWork, undated, filled}
+use Rattle.model.specs.Keeps.EachCall.{takeWritten-within}
+use Rattle.replies.specs.Refusals.{takingWritten}
+use Rattle.replies.specs.Calls.{written-tests}
+use Rattle.calls.specs.Answers.{passes, refuses}
+use Rattle.host.specs.Takes.{take-carried, take-refused}
+use Rattle.host.specs.TakesWritten.{took-written}
+use borrow.Author.Needs.{needs}
+use Rattle.host.proofs.take_written.take_written.Statement.{statement}
+use Rattle.host.proofs.take_written.take_written.Tie as tie
+
+written-refusal-requires : tie.Need-written-refusal-requires
+written-refusal-requires c κs = tt
+
+enum-known-tests : tie.Need-enum-known-tests
+enum-known-tests c = c .match .keys1
+
+refused-requires : tie.Need-refused-requires
+refused-requires c κs = tt
+
+enum-told : tie.Need-enum-told
+enum-told c = c .match .keys2
+
+filled-requires : tie.Need-filled-requires
+unfolding takingWritten bufferTooShort
+filled-requires c κs =
+    let p = c .before .before .before .before .before .pre in
+    (p .0, p .1, p .2, p .3, p .4, ltb-false _ _ (not-refused _ _ none (passes (c .before .before .before .written-refusal .ensures) (c .before .enum-told .given .1)) .0))
+
+new-requires : tie.Need-new-requires
+new-requires c κs = tt
+
+new-requires-2 : tie.Need-new-requires-2
+new-requires-2 c κs = tt
+
+undated-requires : tie.Need-undated-requires
+undated-requires c κs = tt
+
+returns : tie.Need-returns
+returns c = λ a ef et ok.
+    let o = c .before .before .before .before .before .before .args in
+    take-refused (o .out .now) (takeWrittenWork (o .out .now)) _ a (written-tests (o .out .now) _) (refuses (c .before .before .before .before .written-refusal .ensures) (c .before .before .tests .given .1)) ok (c .refused .ensures)
+
+same-length : tie.Need-same-length
+same-length c = search needs
+
+returns-2 : tie.Need-returns-2
+unfolding takeWrittenWork undated filled takenNumber
+returns-2 c = λ a ef et ok.
+    let o = c .before .before .before .before .before .before .before .before .before .before .before .args in
+    rw (c .undated .ensures, c .before .before .new .ensures, c .before .new2 .ensures)
+    (take-carried (o .out .now) (takeWrittenWork (o .out .now)) _ a (written-tests (o .out .now) _) (passes (c .before .before .before .before .before .before .before .before .before .written-refusal .ensures) (c .before .before .before .before .before .before .before .enum-told .given .1))
+    (takeWritten-within (o .out .now) _ (ok .within)) refl (took-written (o .out .now) (o .core) a (ok .shape) (rw (ef, et) (c .before .before .before .before .before .filled .ensures))))
+
+pub take-written-spec : {M : Type 1} → statement M
+take-written-spec =
+    tie.close
+    (tie.spec
+    written-refusal-requires
+    enum-known-tests
+    refused-requires
+    enum-told
+    filled-requires
+    new-requires
+    new-requires-2
+    undated-requires
+    returns
+    same-length
+    returns-2)

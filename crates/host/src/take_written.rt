@@ -1,0 +1,51 @@
+// take_written: all that was written is handed out, the bytes that left and then those in flight. It does not settle.
+use crate::taken;
+use crate::taken::TakenCore;
+use device::Core;
+use queue::Cursor;
+use replies::refusals::Checked;
+ghost use mathlib.Core.Path.{_≡_};
+ghost use Prim.Native.Nat.{_+_, _≤_};
+ghost use lib.ListN.{length};
+ghost use Rattle.model.specs.Tests.{sentLimit};
+ghost use Rattle.model.specs.Calls.{takeWritten};
+ghost use Rattle.queue.specs.Cursors.{Held};
+ghost use Rattle.device.specs.Holds.{Arrays, Ok};
+ghost use Rattle.host.specs.Takes.{TakesWith};
+ghost use Rattle.host.specs.TakesWritten.{Filled};
+
+// The buffer's rest, from the count of left bytes on, is lent to the second copy.
+fn filled<'a>(core: Core, flight: &'a [u8; 129], tx: &'a [u8; 1152], out: &'a mut [u8]) -> usize
+    requires { ⌜ Held 129 (core .flight) × Held 1152 (core .tx) × (length (now flight) ≡ 129) × (length (now tx) ≡ 1152)
+        × (core .tx .count + core .flight .count ≤ sentLimit) × (sentLimit ≤ length (now out)) ⌝ }
+    ensures { λ r. ⌜ Filled core (now (flight .entry)) (now (tx .entry)) (now (out .entry)) r (now (out .exit)) ⌝ }
+{
+    let left = queue::copy::copy_out(core.tx, 1152, tx, out);
+    let flying = queue::copy::copy_out(core.flight, 129, flight, &mut out[left..]);
+    left + flying
+}
+
+// Of the arrays it reads the bytes in flight and those that left; the answer is the same whatever stands in the others.
+pub fn take_written<'a>(
+    core: Core,
+    flight: &'a [u8; 129],
+    tx: &'a [u8; 1152],
+    out: &'a mut [u8],
+) -> TakenCore
+    requires { ⌜ Held 129 (core .flight) × Held 1152 (core .tx) × (length (now flight) ≡ 129) × (length (now tx) ≡ 1152)
+        × (core .tx .count + core .flight .count ≤ sentLimit) ⌝ }
+    ensures { λ r. ⌜ ((a : Arrays) → a .flight ≡ now (flight .entry) → a .tx ≡ now (tx .entry) → Ok core a
+        → TakesWith (takeWritten (now (out .entry))) core a (r .core) a (r .reply) (r .report) (now (out .exit))) ⌝ }
+{
+    let tests = replies::refusals::written_refusal(out.len());
+    match tests {
+        Checked::Refused(refusal) => taken::refused(core, refusal),
+        Checked::Passed => {
+            let count = filled(core, flight, tx, out);
+            let mut rest = core;
+            rest.flight = Cursor::new();
+            rest.tx = Cursor::new();
+            taken::undated(rest, count)
+        }
+    }
+}

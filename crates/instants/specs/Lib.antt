@@ -1,2 +1,0 @@
--- Levels of numbers and marks.
-pub mod Levels

@@ -1,0 +1,30 @@
+-- `passes::begin` meets its contract, by cases on what is on the line. Assumes nothing.
+use borrow.Author.Needs.{needs}
+use Rattle.line.specs.Begins.{begun}
+use Rattle.line.proofs.pass.begin.Statement.{statement}
+use Rattle.line.proofs.pass.begin.Tie as tie
+
+enum-told : tie.Need-enum-told
+enum-told c = search needs
+
+line-free-requires : tie.Need-line-free-requires
+line-free-requires c κs = tt
+
+enum-known-receiving : tie.Need-enum-known-receiving
+enum-known-receiving c = search needs
+
+kept-requires : tie.Need-kept-requires
+kept-requires c κs = tt
+
+returns : tie.Need-returns
+unfolding begun
+returns c = rw (c .before .enum-told .given .1) (c .line-free .ensures)
+
+returns-2 : tie.Need-returns-2
+unfolding begun
+returns-2 c = rw (c .before .before .receiving .given .1) (c .kept .ensures)
+
+pub begin-spec : {M : Type 1} → statement M
+begin-spec =
+    tie.close
+    (tie.spec enum-told line-free-requires enum-known-receiving kept-requires returns returns-2)

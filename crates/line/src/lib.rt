@@ -1,0 +1,34 @@
+// line: control, instants, frames, upcoming, passing.
+pub mod fate;
+pub mod frame;
+pub mod idle;
+pub mod levels;
+pub mod marks;
+pub mod next;
+pub mod pass;
+
+use model::Found;
+use model::Frame;
+use model::Line;
+
+// What is on the line beside its byte.
+pub enum Receiving {
+    None,
+    OnTheLine(Frame),
+}
+
+// What a pass does: the line's part after it, what it found, and whether a host byte started in it.
+pub struct Move {
+    pub line: Line,
+    pub receiving: Receiving,
+    pub found: Found,
+    pub started: bool,
+}
+
+// Which byte in flight leaves fewer in the transmit FIFO than its threshold.
+pub enum Below {
+    // They are fewer already, or the threshold is 0.
+    Never,
+    // Once this byte has gone, counted from 0 at the shift register.
+    After(usize),
+}

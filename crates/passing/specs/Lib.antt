@@ -1,2 +1,0 @@
--- How a host byte begins in a pass.
-pub mod Begins

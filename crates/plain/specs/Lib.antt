@@ -1,2 +1,0 @@
--- What plain numbers stand for.
-pub mod Plain

@@ -1,2 +1,0 @@
--- What an exported call answers.
-pub mod Answers

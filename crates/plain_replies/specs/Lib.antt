@@ -1,3 +1,0 @@
--- Replies and reports in plain numbers.
-pub mod Notes
-pub mod Replies

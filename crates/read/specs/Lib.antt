@@ -1,2 +1,0 @@
--- What the contracts of `read` say, and the laws of it.
-pub mod Structs

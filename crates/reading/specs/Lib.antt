@@ -1,2 +1,0 @@
--- What the contracts of `reading` say.
-pub mod Reads

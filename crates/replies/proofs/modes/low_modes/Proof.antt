@@ -1,0 +1,48 @@
+-- `low_modes` meets its contract: the tests stand in the order of the bits. Assumes nothing.
+use mathlib.Core.Path.{ap, _∙_}
+use Prim.Native.Nat.{ℕ}
+use borrow.Author.Needs.{needs}
+use Rattle.model.specs.Numbers.{bit}
+use Rattle.model.specs.declared.Feature.{Feature}
+use Rattle.replies.specs.Modes.{modeIf}
+use Rattle.replies.proofs.modes.low_modes.Statement.{statement}
+use Rattle.replies.proofs.modes.low_modes.Tie as tie
+
+none-requires : tie.Need-none-requires
+none-requires c κs = search needs
+
+refused-mode-requires : tie.Need-refused-mode-requires
+refused-mode-requires c κs = search needs
+
+refused-mode-requires-2 : tie.Need-refused-mode-requires-2
+refused-mode-requires-2 c κs = search needs
+
+refused-mode-requires-3 : tie.Need-refused-mode-requires-3
+refused-mode-requires-3 c κs = search needs
+
+refused-mode-requires-4 : tie.Need-refused-mode-requires-4
+refused-mode-requires-4 c κs = search needs
+
+returns : tie.Need-returns
+returns c =
+    let v : ℕ = c .before .before .before .before .before .args .value in
+    c .refused-mode4 .ensures
+    ∙ ap (modeIf (bit 16 v) Feature.Irda)
+    (c .before .refused-mode3 .ensures
+    ∙ ap (modeIf (bit 15 v) Feature.TxFlowControl)
+    (c .before .before .refused-mode2 .ensures
+    ∙ ap (modeIf (bit 14 v) Feature.Loopback)
+    (c .before .before .before .refused-mode .ensures
+    ∙ ap (modeIf (bit 8 v) Feature.TxBreak)
+    (c .before .before .before .before .none .ensures))))
+
+pub low-modes-spec : {M : Type 1} → statement M
+low-modes-spec =
+    tie.close
+    (tie.spec
+    none-requires
+    refused-mode-requires
+    refused-mode-requires-2
+    refused-mode-requires-3
+    refused-mode-requires-4
+    returns)

@@ -1,0 +1,97 @@
+-- `stored_notices` meets its contract, by the places that give a notice and the list of those that give none. Assumes nothing.
+use mathlib.Core.Path.{_≡_, refl, sym, ap, _∙_}
+use mathlib.Core.Bool.{not}
+use mathlib.Core.List.{[], _∷_}
+use lib.Dec.{eqb}
+use borrow.Author.Needs.{needs}
+use Rattle.model.specs.Registers.{noteIf, storedNotes}
+use Rattle.model.specs.declared.Feature.{Feature}
+use Rattle.model.specs.declared.Unsupported.{Unsupported}
+use Rattle.replies.specs.Notices.{noted}
+use Rattle.registers.proofs.Tags.{place-keys}
+use Rattle.replies.proofs.modes.stored_notices.Statement.{statement}
+use Rattle.replies.proofs.modes.stored_notices.Tie as tie
+
+enum-told : tie.Need-enum-told
+enum-told c = search needs
+
+conf0-notices-requires : tie.Need-conf0-notices-requires
+conf0-notices-requires c κs = search needs
+
+enum-told-2 : tie.Need-enum-told-2
+enum-told-2 c = search needs
+
+rx-flow-en-requires : tie.Need-rx-flow-en-requires
+rx-flow-en-requires c κs = search needs
+
+refused-if-requires : tie.Need-refused-if-requires
+refused-if-requires c κs = search needs
+
+enum-told-3 : tie.Need-enum-told-3
+enum-told-3 c = search needs
+
+refused-if-requires-2 : tie.Need-refused-if-requires-2
+refused-if-requires-2 c κs = search needs
+
+enum-told-4 : tie.Need-enum-told-4
+enum-told-4 c = search needs
+
+fifo-sizes-requires : tie.Need-fifo-sizes-requires
+fifo-sizes-requires c κs = search needs
+
+refused-if-requires-3 : tie.Need-refused-if-requires-3
+refused-if-requires-3 c κs = search needs
+
+none-requires : tie.Need-none-requires
+none-requires c κs = search needs
+
+returns : tie.Need-returns
+unfolding storedNotes
+returns c = c .conf0-notices .ensures ∙ ap (λ p. noted (storedNotes p (c .before .before .before .args .value))) (sym (c .before .enum-told .given .1))
+
+returns-2 : tie.Need-returns-2
+unfolding storedNotes
+returns-2 c =
+    c .refused-if .ensures
+    ∙ ap (λ t. noted (noteIf t (Unsupported.UartFeature Feature.RxFlowControl) [])) (c .before .rx-flow-en .ensures)
+    ∙ ap (λ p. noted (storedNotes p (c .before .before .before .before .args .value))) (sym (c .before .before .enum-told2 .given .1))
+
+returns-3 : tie.Need-returns-3
+unfolding storedNotes
+returns-3 c = c .refused-if2 .ensures ∙ ap (λ p. noted (storedNotes p (c .before .before .before .args .value))) (sym (c .before .enum-told3 .given .1))
+
+returns-4 : tie.Need-returns-4
+unfolding storedNotes
+returns-4 c =
+    c .refused-if3 .ensures
+    ∙ ap (λ n. noted (noteIf (not (eqb n 9)) (Unsupported.UartFeature Feature.FifoSize) [])) (c .before .fifo-sizes .ensures)
+    ∙ ap (λ p. noted (storedNotes p (c .before .before .before .before .args .value))) (sym (c .before .before .enum-told4 .given .1))
+
+returns-5 : tie.Need-returns-5
+unfolding storedNotes
+returns-5 c =
+    c .none .ensures
+    ∙ place-keys (λ p. noted [] ≡ noted (storedNotes p (c .before .before .args .value)))
+    0 (1 ∷ 2 ∷ 3 ∷ 4 ∷ 5 ∷ 6 ∷ 7 ∷ 10 ∷ 11 ∷ 13 ∷ 15 ∷ 16 ∷ []) (c .before .before .args .place)
+    (refl, (refl, (refl, (refl, (refl, (refl, (refl, (refl, (refl, (refl, (refl, (refl, (refl, tt))))))))))))) (c .before .match .keys5)
+
+pub stored-notices-spec : {M : Type 1} → statement M
+stored-notices-spec =
+    tie.close
+    (tie.spec
+    enum-told
+    conf0-notices-requires
+    enum-told-2
+    rx-flow-en-requires
+    refused-if-requires
+    enum-told-3
+    refused-if-requires-2
+    enum-told-4
+    fifo-sizes-requires
+    refused-if-requires-3
+    none-requires
+    returns
+    returns-2
+    returns-3
+    returns-4
+    returns-5)

@@ -1,0 +1,83 @@
+// What a stored word notes: the modes of CONF0 and three other registers that are refused by name. Which access notes what is
+// carried over from inkemu's uart.rs and changed.
+use crate::notices::Notices;
+use crate::notices::none;
+use model::Feature;
+use model::Place;
+use model::Unsupported;
+ghost use mathlib.Core.Path.{_≡_};
+ghost use mathlib.Core.List.{[]};
+ghost use Prim.Native.Nat.{_<_};
+ghost use Rattle.model.specs.Numbers.{bit};
+ghost use Rattle.model.specs.Registers.{noteIf, conf0Notes, storedNotes};
+ghost use Rattle.replies.specs.Notices.{addedIf, noted};
+ghost use Rattle.replies.specs.Modes.{lowModes};
+
+// MEM_CONF's RX_SIZE and TX_SIZE at one block each.
+const ONE_BLOCK_EACH: u32 = 9;
+
+// A mode of CONF0 that is refused by name where its bit is set.
+fn refused_mode(others: Notices, conf0: u32, n: u32, mode: Feature) -> Notices
+    requires { ⌜ n < 32 ⌝ }
+    ensures { λ r. ⌜ r ≡ addedIf (bit n conf0) (Unsupported.UartFeature mode) others ⌝ }
+{
+    let set = (conf0 >> n) & 1 == 1;
+    others.noted_if(set, Unsupported::UartFeature(mode))
+}
+
+// One mode alone, refused by name where it is set.
+fn refused_if(test: bool, mode: Feature) -> Notices
+    ensures { λ r. ⌜ r ≡ noted (noteIf test (Unsupported.UartFeature mode) []) ⌝ }
+{
+    none().noted_if(test, Unsupported::UartFeature(mode))
+}
+
+// The first four modes of CONF0 that are refused by name, in the order of their bits.
+fn low_modes(value: u32) -> Notices
+    ensures { λ r. ⌜ r ≡ lowModes value (noted []) ⌝ }
+{
+    let broken = refused_mode(none(), value, 8, Feature::TxBreak);
+    let looped = refused_mode(broken, value, 14, Feature::Loopback);
+    let held = refused_mode(looped, value, 15, Feature::TxFlowControl);
+    refused_mode(held, value, 16, Feature::Irda)
+}
+
+// The other three behind them, and then a stop code of 0.
+fn conf0_notices(value: u32) -> Notices
+    ensures { λ r. ⌜ r ≡ noted (conf0Notes value) ⌝ }
+{
+    let no_stop_bit = registers::fields::stop_bit_num(value) == 0;
+    let low = low_modes(value);
+    let rx = refused_mode(low, value, 19, Feature::InvertedRx);
+    let tx = refused_mode(rx, value, 22, Feature::InvertedTx);
+    let baud = refused_mode(tx, value, 27, Feature::Autobaud);
+    baud.noted_if(no_stop_bit, Unsupported::UartFeature(Feature::NoStopBit))
+}
+
+// What a stored word gives: CONF1's RX_FLOW_EN, an RS485_CONF other than 0, FIFO sizes other than one block each.
+pub fn stored_notices(place: Place, value: u32) -> Notices
+    ensures { λ r. ⌜ r ≡ noted (storedNotes place value) ⌝ }
+{
+    match place {
+        Place::Conf0 => conf0_notices(value),
+        Place::Conf1 => refused_if(registers::fields::rx_flow_en(value), Feature::RxFlowControl),
+        Place::Rs485Conf => refused_if(value != 0, Feature::Rs485),
+        Place::MemConf => refused_if(
+            registers::fields::fifo_sizes(value) != ONE_BLOCK_EACH,
+            Feature::FifoSize,
+        ),
+        Place::Fifo
+        | Place::IntRaw
+        | Place::IntSt
+        | Place::IntEna
+        | Place::IntClr
+        | Place::Clkdiv
+        | Place::Status
+        | Place::FsmStatus
+        | Place::ClkConf
+        | Place::IdleConf
+        | Place::AtCmdChar
+        | Place::MemRxStatus
+        | Place::Unknown => none(),
+    }
+}

@@ -1,2 +1,0 @@
--- The laws of the call.
-pub mod Resets

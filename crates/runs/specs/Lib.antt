@@ -1,3 +1,0 @@
--- What the contracts of the runs say, and the laws of them.
-pub mod Joins
-pub mod Waits

@@ -1,2 +1,0 @@
--- What a settling does to the held UART.
-pub mod Settles

@@ -1,2 +1,0 @@
-// A whole settling of the held UART. Carried over from inkemu's uart.rs and changed.
-pub mod settling;

@@ -1,2 +1,0 @@
--- What the contracts of `setup` cite beside the definition.
-pub mod NewCore

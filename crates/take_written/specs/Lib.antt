@@ -1,2 +1,0 @@
--- What the contracts of `take_written` say, and the laws of it.
-pub mod TakesWritten

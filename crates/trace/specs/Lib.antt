@@ -1,0 +1,9 @@
+pub mod Names
+pub mod Forms
+pub mod Steps
+pub mod One
+pub mod Last
+pub mod Numbers
+pub mod Stored
+pub mod Lines
+pub mod Examples

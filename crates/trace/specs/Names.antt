@@ -1,0 +1,90 @@
+-- The names of the calls, and which of them a word is. Assumes nothing.
+use mathlib.Core.Path.{_≡_, refl}
+use mathlib.Core.Bool.{Bool, true, false}
+use mathlib.Core.List.{List, [], _∷_}
+use Prim.Native.Nat.{ℕ}
+use Rattle.text.specs.Pick.{pick}
+use Rattle.text.specs.Same.{sameBytes, same-equal}
+use Rattle.trace.specs.declared.names.Name.{Name}
+use Rattle.trace.specs.declared.names.Name.the-variants.{Setup, Read, Write, Receive, Wake, Watch, Reset, PowerDown, Clock, TakeTx, TakeWritten, HasLeft, HostPending}
+use Rattle.trace.specs.declared.names.Named.{Named}
+
+-- the letters of a name, in ASCII; `_` is 95
+unfoldable pub letters : Name → List ℕ
+letters Setup = 115 ∷ 101 ∷ 116 ∷ 117 ∷ 112 ∷ []
+letters Read = 114 ∷ 101 ∷ 97 ∷ 100 ∷ []
+letters Write = 119 ∷ 114 ∷ 105 ∷ 116 ∷ 101 ∷ []
+letters Receive = 114 ∷ 101 ∷ 99 ∷ 101 ∷ 105 ∷ 118 ∷ 101 ∷ []
+letters Wake = 119 ∷ 97 ∷ 107 ∷ 101 ∷ []
+letters Watch = 119 ∷ 97 ∷ 116 ∷ 99 ∷ 104 ∷ []
+letters Reset = 114 ∷ 101 ∷ 115 ∷ 101 ∷ 116 ∷ []
+letters PowerDown = 112 ∷ 111 ∷ 119 ∷ 101 ∷ 114 ∷ 95 ∷ 100 ∷ 111 ∷ 119 ∷ 110 ∷ []
+letters Clock = 99 ∷ 108 ∷ 111 ∷ 99 ∷ 107 ∷ []
+letters TakeTx = 116 ∷ 97 ∷ 107 ∷ 101 ∷ 95 ∷ 116 ∷ 120 ∷ []
+letters TakeWritten = 116 ∷ 97 ∷ 107 ∷ 101 ∷ 95 ∷ 119 ∷ 114 ∷ 105 ∷ 116 ∷ 116 ∷ 101 ∷ 110 ∷ []
+letters HasLeft = 104 ∷ 97 ∷ 115 ∷ 95 ∷ 108 ∷ 101 ∷ 102 ∷ 116 ∷ []
+letters HostPending = 104 ∷ 111 ∷ 115 ∷ 116 ∷ 95 ∷ 112 ∷ 101 ∷ 110 ∷ 100 ∷ 105 ∷ 110 ∷ 103 ∷ []
+
+-- the first of some calls whose name a word is
+unfoldable pub named : List Name → List ℕ → Named
+named [] word = Named.Unknown
+named (n ∷ ns) word = pick (sameBytes word (letters n)) (Named.Call n) (named ns word)
+
+-- the call of all that a word names; the order says nothing, as no two have the same name
+abbrev pub lastNames : List Name
+lastNames = HostPending ∷ TakeWritten ∷ Setup ∷ []
+
+abbrev pub rareNames : List Name
+rareNames = Reset ∷ PowerDown ∷ HasLeft ∷ lastNames
+
+abbrev pub laterNames : List Name
+laterNames = TakeTx ∷ Clock ∷ Watch ∷ rareNames
+
+abbrev pub nameOf : List ℕ → Named
+nameOf word = named (Read ∷ Write ∷ Receive ∷ Wake ∷ laterNames) word
+
+-- ---- laws
+
+-- of the calls that are left: none, the first one, and another
+pub is-none : (word : List ℕ) → Named.Unknown ≡ named [] word
+unfolding named
+is-none word = refl
+
+module _ (n : Name) (ns : List Name) (word : List ℕ) where
+  pub is-first : sameBytes word (letters n) ≡ true → Named.Call n ≡ named (n ∷ ns) word
+  unfolding named
+  is-first e = rw e
+
+  pub is-other : sameBytes word (letters n) ≡ false → (r : Named) → r ≡ named ns word → r ≡ named (n ∷ ns) word
+  unfolding named
+  is-other e r q = rw e q
+
+-- a word names a call where it is the call's name, and nowhere else
+pub letters-name : (n : Name) → nameOf (letters n) ≡ Named.Call n
+unfolding named letters sameBytes
+letters-name Setup = refl
+letters-name Read = refl
+letters-name Write = refl
+letters-name Receive = refl
+letters-name Wake = refl
+letters-name Watch = refl
+letters-name Reset = refl
+letters-name PowerDown = refl
+letters-name Clock = refl
+letters-name TakeTx = refl
+letters-name TakeWritten = refl
+letters-name HasLeft = refl
+letters-name HostPending = refl
+
+named-letters : (ns : List Name) (word : List ℕ) (n : Name) → named ns word ≡ Named.Call n → word ≡ letters n
+unfolding named
+named-letters [] word n e = cc
+named-letters (m ∷ ns) word n e = by-test (sameBytes word (letters m)) refl e (named-letters ns word n)
+  where
+    by-test : (t : Bool) → sameBytes word (letters m) ≡ t → pick t (Named.Call m) (named ns word) ≡ Named.Call n
+        → (named ns word ≡ Named.Call n → word ≡ letters n) → word ≡ letters n
+    by-test true q e rest = let same : m ≡ n = cc in rw same at (same-equal word (letters m) q)
+    by-test false q e rest = rest e
+
+pub name-letters : (word : List ℕ) (n : Name) → nameOf word ≡ Named.Call n → word ≡ letters n
+name-letters word n e = named-letters _ word n e

@@ -1,2 +1,0 @@
--- Instants of numbers and marks.
-pub mod Instants
