@@ -7,7 +7,7 @@ use Rattle.model.specs.Numbers.{choose}
 use Rattle.model.specs.State
 use Rattle.model.specs.Registers.{Access, placeOf, sendByte, writePlace, concluded}
 use Rattle.model.specs.Calls
-use Rattle.model.specs.Calls.{Outcome, unless, afterSettling, settledAt, send, sendWork, writePlaced, writeWork, writeAt}
+use Rattle.model.specs.Calls.{Outcome, unless, afterSettling, settleAt, send, sendWork, writePlaced, writeWork, writeAt}
 use Rattle.model.specs.Tests.{dateEnd}
 use Rattle.model.specs.Replies.{writeNumber}
 use Rattle.model.specs.Keeps.EachCall.{write-within}
@@ -58,7 +58,7 @@ accessAt true cycle b p v u = sendByte cycle b u
 accessAt false cycle b p v u = writePlace p v u
 
 abbrev pub workAt : Bool → ℕ → ℕ → Place → ℕ → State.Uart ℕ ℕ → Outcome Write ℕ ℕ
-workAt fifo cycle b p v u = afterSettling (settledAt cycle u) (λ s. concluded (accessAt fifo cycle b p v s))
+workAt fifo cycle b p v u = afterSettling (settleAt cycle u) (λ s. concluded (accessAt fifo cycle b p v s))
 
 -- ---- the laws of an access
 

@@ -20,29 +20,29 @@ use Rattle.device.specs.declared.Core.{Core}
 use Rattle.calls.specs.Answers.{Accesses, Works, after, reportOf}
 use Rattle.calls.specs.Concludes as Concluding
 use Rattle.access.specs.WriteStructs.{writeCore}
-use Rattle.access.specs.declared.store.Put.{Put}
+use Rattle.access.specs.declared.store.PlaceWrite.{PlaceWrite}
 use Rattle.access.specs.declared.write.WriteCore.{WriteCore}
 
 -- the core with levels, interrupt and wake of the definition; reply and notices are the access's
-pub record Concluded (p : Put) (a : Arrays) (passes overflows : ℕ) (r : WriteCore) : Type 0 where
+pub record Concluded (p : PlaceWrite) (a : Arrays) (passes overflows : ℕ) (r : WriteCore) : Type 0 where
   pub shape : Shape (r .core) a
   pub same : abs (r .core) a ≡ Arm.arm (Settle.levels (abs (p .core) a))
   pub replies : r .reply ≡ p .reply
   pub reports : r .report ≡ reportOf (r .core) passes overflows (p .notices)
 
 -- whatever stands in the arrays that arming does not read
-abbrev pub ConcludesAny : Put → List ℕ → List ℕ → ℕ → ℕ → WriteCore → Type 0
+abbrev pub ConcludesAny : PlaceWrite → List ℕ → List ℕ → ℕ → ℕ → WriteCore → Type 0
 ConcludesAny p goneAt runDates passes overflows r =
     (a : Arrays) → a .goneAt ≡ goneAt → a .runDates ≡ runDates → Shape (p .core) a → Concluded p a passes overflows r
 
-pub concludes-any : (p : Put) {goneAt runDates : List ℕ} {passes overflows : ℕ} {c : Core} {r : WriteCore} → Concluding.ConcludesAny (p .core) goneAt runDates c
+pub concludes-any : (p : PlaceWrite) {goneAt runDates : List ℕ} {passes overflows : ℕ} {c : Core} {r : WriteCore} → Concluding.ConcludesAny (p .core) goneAt runDates c
     → r ≡ writeCore c (p .reply) passes overflows (p .notices) → ConcludesAny p goneAt runDates passes overflows r
 concludes-any p {passes = passes} {overflows = overflows} concludes e a eg er k =
     let x = concludes a eg er k in
     subst (λ (w : WriteCore). Concluded p a passes overflows w) (sym e) (record { shape = x .shape; same = x .same; replies = refl; reports = refl })
 
 module _ {t : Settle.Settled ℕ ℕ} {c₁ : Core} {a₁ : Arrays} {n o : ℕ} (s : Settles t c₁ a₁ n o) (work : State.Uart ℕ ℕ → Access Write ℕ ℕ)
-    {p : Put} {a₂ : Arrays} (x : Accesses (λ r. r) (work (abs c₁ a₁)) (p .core) a₂ (p .reply) (p .notices)) where
+    {p : PlaceWrite} {a₂ : Arrays} (x : Accesses (λ r. r) (work (abs c₁ a₁)) (p .core) a₂ (p .reply) (p .notices)) where
   -- what arming asks, where the access keeps the period
   pub access-ready : work (abs c₁ a₁) .state .control .period ≡ c₁ .control .period
       → Ready (p .core) (a₂ .goneAt) × Held 64 (p .core .runs) × (length (a₂ .runDates) ≡ 64)

@@ -31,7 +31,7 @@ use Rattle.device.specs.declared.Core.{Core}
 use Rattle.calls.specs.Changes.{withControlOf, shape-of}
 use Rattle.calls.specs.Answers.{Accesses}
 use Rattle.calls.specs.Queues.{withQueuesOf, queues-shape}
-use Rattle.access.specs.declared.load.Got.{Got}
+use Rattle.access.specs.declared.load.PlaceRead.{PlaceRead}
 
 -- ---- places other than FIFO
 
@@ -101,25 +101,25 @@ seen-shape looks c a k = choose-ind (λ (x : Core). Shape x a) looks (λ _. shap
 -- ---- FIFO
 
 -- the oldest byte and the core without it
-abbrev pub taken : Core → List ℕ → Notices → Got
+abbrev pub taken : Core → List ℕ → Notices → PlaceRead
 taken c rx m = record { core = withQueuesOf (c .flight) (Cursors.popped 128 (c .rx)) c; reply = Read.Value (getD rx (c .rx .start) 0); notices = m }
 
 -- from an empty FIFO 0, with a notice behind the others
-abbrev pub nothing : Core → Notices → Got
+abbrev pub nothing : Core → Notices → PlaceRead
 nothing c m = record { core = c; reply = Read.Value 0; notices = added UartEmptyRead m }
 
-unfoldable pub popped : Core → List ℕ → Notices → Got
+unfoldable pub popped : Core → List ℕ → Notices → PlaceRead
 popped c rx m = choose (ltb 0 (c .rx .count)) (taken c rx m) (nothing c m)
 
 -- what the code puts together is one of the two
 module _ (c : Core) (rx : List ℕ) (m : Notices) where
   pub pop-takes : 0 < c .rx .count → {rest : Cursor} → rest ≡ Cursors.popped 128 (c .rx) → {b : ℕ} → b ≡ getD rx (c .rx .start) 0
-      → _≡_ {A = Got} (record { core = withQueuesOf (c .flight) rest c; reply = Read.Value b; notices = m }) (popped c rx m)
+      → _≡_ {A = PlaceRead} (record { core = withQueuesOf (c .flight) rest c; reply = Read.Value b; notices = m }) (popped c rx m)
   unfolding popped
   pop-takes pos er eb = rw (er, eb) (sym (choose-true _ _ (lt-ltb 0 _ pos)))
 
   pub pop-misses : c .rx .count ≤ 0 → {n : Notices} → n ≡ added UartEmptyRead m
-      → _≡_ {A = Got} (record { core = c; reply = Read.Value 0; notices = n }) (popped c rx m)
+      → _≡_ {A = PlaceRead} (record { core = c; reply = Read.Value 0; notices = n }) (popped c rx m)
   unfolding popped
   pop-misses none en = rw en (sym (choose-false _ _ (le-ltb 0 _ none)))
 
@@ -127,7 +127,7 @@ module _ (s : Source) (c : Core) (a : Arrays) (k : Shape c a) where
   ns : List Unsupported
   ns = sourceNotes UartReceiveClock s
 
-  Pops : List ℕ → Got → Type 0
+  Pops : List ℕ → PlaceRead → Type 0
   Pops l g = Accesses asRead (pop ns l (abs c a)) (g .core) a (g .reply) (g .notices)
 
   taken-pops : 0 < c .rx .count → Pops (abs c a .rx) (taken c (a .rx) (noted ns))
@@ -147,7 +147,7 @@ module _ (s : Source) (c : Core) (a : Arrays) (k : Shape c a) where
       subst (λ (l : List ℕ). Pops l (nothing c (noted ns))) (sym (elems-none (slotOf (a .rx) 0) 128 (c .rx) (omega arith)))
       (record { shape = k; replies = refl; notes = empty-read-noted s; state = refl })
 
-  pop-accesses : {g : Got} → g ≡ popped c (a .rx) (noted (sourceNotes UartReceiveClock s))
+  pop-accesses : {g : PlaceRead} → g ≡ popped c (a .rx) (noted (sourceNotes UartReceiveClock s))
       → Accesses asRead (readPlace (sourceNotes UartReceiveClock s) Fifo (abs c a)) (g .core) a (g .reply) (g .notices)
   unfolding popped Pops ns readPlace
   pop-accesses e =
@@ -167,7 +167,7 @@ module _ (p : Place) (c : Core) (a : Arrays) (k : Shape c a) {yes : Bool} {s : S
   held-in : Shape seen a
   held-in = subst (λ (v : Core). Shape v a) (sym ec) (seen-shape yes c a k)
 
-  pub reads-fifo : p ≡ Fifo → {slots : List ℕ} → a .rx ≡ slots → {g : Got} → g ≡ popped seen slots m → Accesses asRead (readAt p (abs c a)) (g .core) a (g .reply) (g .notices)
+  pub reads-fifo : p ≡ Fifo → {slots : List ℕ} → a .rx ≡ slots → {g : PlaceRead} → g ≡ popped seen slots m → Accesses asRead (readAt p (abs c a)) (g .core) a (g .reply) (g .notices)
   reads-fifo ep ea {g} eg =
       subst (λ (x : Access (ReadOf ℕ) ℕ ℕ). Accesses asRead x (g .core) a (g .reply) (g .notices))
       (sym (seen-read ∙ ap (λ (q : Place). readPlace (sourceNotes UartReceiveClock s) q (abs seen a)) ep))

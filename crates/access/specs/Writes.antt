@@ -22,18 +22,18 @@ use Rattle.device.specs.declared.Core.{Core}
 use Rattle.calls.specs.Changes.{withControlOf, shape-of}
 use Rattle.calls.specs.Answers.{Accesses}
 use Rattle.calls.specs.Queues.{withQueuesOf, queues-shape}
-use Rattle.access.specs.declared.store.Put.{Put}
+use Rattle.access.specs.declared.store.PlaceWrite.{PlaceWrite}
 
 -- ---- Storage, and INT_CLR
 
-abbrev pub storedIn : Place → ℕ → Core → Put
+abbrev pub storedIn : Place → ℕ → Core → PlaceWrite
 storedIn p v c = record {
   core = withControlOf (withWords (stored p v (c .control .words)) (c .control)) c;
   reply = choose (holds p) Write.Accepted Write.NotAccepted;
   notices = noted (storedNotes p v);
 }
 
-abbrev pub clearedIn : ℕ → Core → Put
+abbrev pub clearedIn : ℕ → Core → PlaceWrite
 clearedIn v c = record {
   core = withControlOf (withLine (withIntRaw (without v (c .control .line .«int_raw»)) (c .control .line)) (c .control)) c;
   reply = Write.Accepted;
@@ -41,15 +41,15 @@ clearedIn v c = record {
 }
 
 -- what a write gives is what an access of the definition gives
-abbrev pub Puts : Access Write ℕ ℕ → Arrays → Put → Type 0
+abbrev pub Puts : Access Write ℕ ℕ → Arrays → PlaceWrite → Type 0
 Puts x a r = Accesses (λ w. w) x (r .core) a (r .reply) (r .notices)
 
 module _ (c : Core) (a : Arrays) (k : Shape c a) (v : ℕ) where
-  pub stored-puts : (p : Place) → {r : Put} → r ≡ storedIn p v c → Puts (storing p v (abs c a)) a r
+  pub stored-puts : (p : Place) → {r : PlaceWrite} → r ≡ storedIn p v c → Puts (storing p v (abs c a)) a r
   unfolding storing
   stored-puts p e = subst (Puts (storing p v (abs c a)) a) (sym e) (record { shape = shape-of c a _ k; replies = refl; notes = refl; state = refl })
 
-  pub cleared-puts : {r : Put} → r ≡ clearedIn v c → Puts (clearing v (abs c a)) a r
+  pub cleared-puts : {r : PlaceWrite} → r ≡ clearedIn v c → Puts (clearing v (abs c a)) a r
   unfolding clearing
   cleared-puts e = subst (Puts (clearing v (abs c a)) a) (sym e) (record { shape = shape-of c a _ k; replies = refl; notes = refl; state = refl })
 
@@ -83,7 +83,7 @@ module _ (v : ℕ) (c : Core) (a : Arrays) where
       ap₂ (λ (f : List (Sent ℕ)) (l : List ℕ). withInFlight f (withRx l (abs c a))) flight rx
 
 -- CONF0 resets first, and then the word is stored
-pub conf0-puts : (c : Core) (a : Arrays) → Shape c a → (v : ℕ) {c′ : Core} → c′ ≡ resetFifosOf v c → {r : Put} → r ≡ storedIn Place.Conf0 v c′
+pub conf0-puts : (c : Core) (a : Arrays) → Shape c a → (v : ℕ) {c′ : Core} → c′ ≡ resetFifosOf v c → {r : PlaceWrite} → r ≡ storedIn Place.Conf0 v c′
     → Puts (storing Place.Conf0 v (resetFifos v (abs c a))) a r
 conf0-puts c a k v ec {r} er =
     subst (λ (u : State.Uart ℕ ℕ). Puts (storing Place.Conf0 v u) a r) (reset-abs v c a)
@@ -95,7 +95,7 @@ conf0-puts c a k v ec {r} er =
 abbrev pub Stores : ℕ → Place → Type 0
 Stores v p = (u : State.Uart ℕ ℕ) → writePlace p v u ≡ storing p v u
 
-pub other-puts : (c : Core) (a : Arrays) → Shape c a → (v : ℕ) (p : Place) → Stores v p → {r : Put} → r ≡ storedIn p v c → Puts (writePlace p v (abs c a)) a r
+pub other-puts : (c : Core) (a : Arrays) → Shape c a → (v : ℕ) (p : Place) → Stores v p → {r : PlaceWrite} → r ≡ storedIn p v c → Puts (writePlace p v (abs c a)) a r
 other-puts c a k v p same {r} e = subst (λ (x : Access Write ℕ ℕ). Puts x a r) (sym (same (abs c a))) (stored-puts c a k v p e)
 
 -- ---- the period stays, so that the wake can be armed

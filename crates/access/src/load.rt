@@ -22,7 +22,7 @@ ghost use Rattle.calls.specs.Answers.{Accesses};
 ghost use Rattle.access.specs.Reads.{wordAt, forgottenCore, popped as Reads·popped};
 
 // A core after a read, its value and its notices.
-pub struct Got {
+pub struct PlaceRead {
     pub core: Core,
     pub reply: Read,
     pub notices: Notices,
@@ -41,7 +41,7 @@ fn with_mistimed(line: Line, rx_mistimed: Source) -> Line
 }
 
 // A mistimed reception is forgotten where the firmware is told of it.
-fn forgotten(mut core: Core, looks: bool) -> Core
+fn forget_mistimed(mut core: Core, looks: bool) -> Core
     ensures { λ r. ⌜ r ≡ choose looks (forgottenCore core) core ⌝ }
 {
     if looks {
@@ -56,7 +56,7 @@ fn forgotten(mut core: Core, looks: bool) -> Core
 }
 
 // What the firmware is told of: a mistimed reception where it looks at the receiver.
-fn told(source: Source, looks: bool) -> Source
+fn mistimed_at(source: Source, looks: bool) -> Source
     ensures { λ r. ⌜ r ≡ choose looks source Source.None ⌝ }
 {
     if looks { source } else { Source::None }
@@ -102,8 +102,10 @@ fn wide(x: u8) -> u32
     x as u32
 }
 
-// The oldest byte received; from an empty FIFO 0, with a notice.
-fn pop(mut core: Core, rx: &[u8; 128], notices: Notices) -> Got
+// uart.rs's pop: the oldest byte received; from an empty FIFO 0, with a notice.
+// ASSUMPTION: a read of an empty receive FIFO gives 0 and changes nothing. Only firmware that does not look at RXFIFO_CNT makes
+// it; a chip settles it.
+fn pop(mut core: Core, rx: &[u8; 128], notices: Notices) -> PlaceRead
     requires { ⌜ Held 128 (core .rx) × (length (now rx) ≡ 128) ⌝ }
     ensures { λ r. ⌜ r ≡ Reads·popped core (now (rx .entry)) notices ⌝ }
 {
@@ -112,14 +114,14 @@ fn pop(mut core: Core, rx: &[u8; 128], notices: Notices) -> Got
         let byte = wide(rx[first]);
         let rest = core.rx.popped(128);
         core.rx = rest;
-        Got {
+        PlaceRead {
             core,
             reply: Read::Value(byte),
             notices,
         }
     } else {
-        let noted = notices.with_empty_read();
-        Got {
+        let noted = notices.note_empty_read();
+        PlaceRead {
             core,
             reply: Read::Value(0),
             notices: noted,
@@ -127,7 +129,7 @@ fn pop(mut core: Core, rx: &[u8; 128], notices: Notices) -> Got
     }
 }
 
-pub fn read_at(core: Core, rx: &[u8; 128], place: Place) -> Got
+pub fn read_place(core: Core, rx: &[u8; 128], place: Place) -> PlaceRead
     requires { ⌜ Held 129 (core .flight) × Held 128 (core .rx) × (length (now rx) ≡ 128) ⌝ }
     ensures { λ r. ⌜ ((a : Arrays) → a .rx ≡ now (rx .entry) → Shape core a
         → Accesses asRead (readAt place (abs core a)) (r .core) a (r .reply) (r .notices)) ⌝ }
@@ -136,8 +138,8 @@ pub fn read_at(core: Core, rx: &[u8; 128], place: Place) -> Got
     let control = core.control;
     let line = control.line;
     let source = line.rx_mistimed;
-    let notices = replies::notices::receive_clock_notices(told(source, looks));
-    let seen = forgotten(core, looks);
+    let notices = replies::notices::receive_clock_notices(mistimed_at(source, looks));
+    let seen = forget_mistimed(core, looks);
     match place {
         Place::Fifo => pop(seen, rx, notices),
         Place::IntRaw
@@ -157,7 +159,7 @@ pub fn read_at(core: Core, rx: &[u8; 128], place: Place) -> Got
         | Place::MemRxStatus
         | Place::Unknown => {
             let reply = word_at(seen, place);
-            Got {
+            PlaceRead {
                 core: seen,
                 reply,
                 notices,

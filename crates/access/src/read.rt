@@ -8,7 +8,7 @@ use model::Refusal;
 use model::Report;
 use registers::places;
 use replies::notices::Notices;
-use replies::refusals::Checked;
+use replies::refusals::Verdict;
 use replies::report;
 ghost use mathlib.Core.Path.{_≡_};
 ghost use Prim.Native.Nat.{_<_};
@@ -27,7 +27,7 @@ pub struct ReadCore {
     pub report: Report,
 }
 
-fn answered(core: Core, reply: Read, passes: u64, overflows: u64, notices: Notices) -> ReadCore
+fn answer(core: Core, reply: Read, passes: u64, overflows: u64, notices: Notices) -> ReadCore
     ensures { λ r. ⌜ r ≡ readCore core reply passes overflows notices ⌝ }
 {
     let control = core.control;
@@ -40,7 +40,7 @@ fn answered(core: Core, reply: Read, passes: u64, overflows: u64, notices: Notic
     }
 }
 
-fn refused(core: Core, refusal: Refusal) -> ReadCore
+fn refuse(core: Core, refusal: Refusal) -> ReadCore
     ensures { λ r. ⌜ r ≡ refusedRead core refusal ⌝ }
 {
     let report = report::no_report();
@@ -51,7 +51,7 @@ fn refused(core: Core, refusal: Refusal) -> ReadCore
     }
 }
 
-fn read_settled<'a>(
+fn carry_out<'a>(
     core: Core,
     gone_at: &'a [u64; 129],
     flight: &'a [u8; 129],
@@ -63,14 +63,17 @@ fn read_settled<'a>(
     cycle: u64,
     place: Place,
 ) -> ReadCore
-    requires { ⌜ Ok core (arrays (now «gone_at») (now flight) (now tx) (now host) (now «run_dates») (now «run_counts») (now rx)) × (cycle < dateEnd) ⌝ }
+    requires { ⌜ Ok core (arrays (now «gone_at») (now flight) (now tx) (now host) (now «run_dates») (now «run_counts») (now rx))
+        × (cycle < dateEnd) ⌝ }
     ensures { λ r. ⌜ Works asRead
-        (readWork cycle place (abs core (arrays (now («gone_at» .entry)) (now (flight .entry)) (now (tx .entry)) (now (host .entry)) (now («run_dates» .entry)) (now («run_counts» .entry)) (now (rx .entry)))))
+        (readWork cycle place (abs core (arrays (now («gone_at» .entry)) (now (flight .entry)) (now (tx .entry)) (now (host .entry))
+        (now («run_dates» .entry)) (now («run_counts» .entry)) (now (rx .entry)))))
         (r .core)
-        (arrays (now («gone_at» .entry)) (now (flight .entry)) (now (tx .exit)) (now (host .entry)) (now («run_dates» .entry)) (now («run_counts» .exit)) (now (rx .exit)))
+        (arrays (now («gone_at» .entry)) (now (flight .entry)) (now (tx .exit)) (now (host .entry)) (now («run_dates» .entry))
+        (now («run_counts» .exit)) (now (rx .exit)))
         (r .reply) (r .report) ⌝ }
 {
-    let t = settle_at::settled_at(
+    let t = settle_at::settle_at(
         core,
         gone_at,
         flight,
@@ -82,11 +85,11 @@ fn read_settled<'a>(
         cycle,
     );
     let settled = t.core;
-    let got = crate::load::read_at(settled, rx, place);
+    let got = crate::load::read_place(settled, rx, place);
     let after = got.core;
     let reply = got.reply;
     let notices = got.notices;
-    answered(after, reply, t.passes, t.overflows, notices)
+    answer(after, reply, t.passes, t.overflows, notices)
 }
 
 pub fn read<'a>(
@@ -102,10 +105,13 @@ pub fn read<'a>(
     offset: u32,
 ) -> ReadCore
     requires { ⌜ Ok core (arrays (now «gone_at») (now flight) (now tx) (now host) (now «run_dates») (now «run_counts») (now rx)) ⌝ }
-    ensures { λ r. ⌜ Answers asRead readNumber (Calls·read cycle offset (abs core (arrays (now («gone_at» .entry)) (now (flight .entry)) (now (tx .entry)) (now (host .entry)) (now («run_dates» .entry)) (now («run_counts» .entry)) (now (rx .entry))))) core
-        (arrays (now («gone_at» .entry)) (now (flight .entry)) (now (tx .entry)) (now (host .entry)) (now («run_dates» .entry)) (now («run_counts» .entry)) (now (rx .entry)))
+    ensures { λ r. ⌜ Answers asRead readNumber (Calls·read cycle offset (abs core (arrays (now («gone_at» .entry)) (now (flight .entry))
+        (now (tx .entry)) (now (host .entry)) (now («run_dates» .entry)) (now («run_counts» .entry)) (now (rx .entry))))) core
+        (arrays (now («gone_at» .entry)) (now (flight .entry)) (now (tx .entry)) (now (host .entry)) (now («run_dates» .entry))
+        (now («run_counts» .entry)) (now (rx .entry)))
         (r .core)
-        (arrays (now («gone_at» .entry)) (now (flight .entry)) (now (tx .exit)) (now (host .entry)) (now («run_dates» .entry)) (now («run_counts» .exit)) (now (rx .exit)))
+        (arrays (now («gone_at» .entry)) (now (flight .entry)) (now (tx .exit)) (now (host .entry)) (now («run_dates» .entry))
+        (now («run_counts» .exit)) (now (rx .exit)))
         (r .reply) (r .report) ⌝ }
 {
     let map = core.map;
@@ -114,8 +120,8 @@ pub fn read<'a>(
     let control = core.control;
     let tests = replies::refusals::date_refusal(cycle, control.last);
     match tests {
-        Checked::Refused(refusal) => refused(core, refusal),
-        Checked::Passed => read_settled(
+        Verdict::Refused(refusal) => refuse(core, refusal),
+        Verdict::Passed => carry_out(
             core,
             gone_at,
             flight,

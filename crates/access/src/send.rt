@@ -1,5 +1,5 @@
 // uart.rs's `send`: a byte written to FIFO joins those in flight, once the UART is settled.
-use crate::store::Put;
+use crate::store::PlaceWrite;
 use device::Core;
 use model::Date;
 use model::Write;
@@ -25,6 +25,8 @@ fn starts_at(date: u64, last: Date) -> u64
 }
 
 // When a byte written at a cycle has gone.
+// ASSUMPTION: a byte keeps the time that it was given when it was written; a later change of CLKDIV, CLK_CONF or the APB clock is
+// for the bytes written after it. A capture of a byte whose CLKDIV is rewritten while it is sent settles it.
 fn gone_at_of(core: Core, gone_at: &[u64; 129], cycle: u64) -> u64
     requires { ⌜ Held 129 (core .flight) × (length (now «gone_at») ≡ 129) × (core .control .period ≤ periodLimit) ⌝ }
     ensures { λ r. ⌜ ((bytes : List ℕ) → r ≡ goneAtOf cycle (core .control) (flightOf (now («gone_at» .entry)) bytes (core .flight))) ⌝ }
@@ -37,19 +39,21 @@ fn gone_at_of(core: Core, gone_at: &[u64; 129], cycle: u64) -> u64
 }
 
 // With over 128 bytes in flight the byte is dropped.
-pub fn send_byte<'a>(
+pub fn send<'a>(
     mut core: Core,
     gone_at: &'a mut [u64; 129],
     flight: &'a mut [u8; 129],
     cycle: u64,
     byte: u8,
-) -> Put
-    requires { ⌜ Held 129 (core .flight) × (length (now «gone_at») ≡ 129) × (length (now flight) ≡ 129) × (core .control .period ≤ periodLimit) ⌝ }
-    ensures { λ r. ⌜ SendsAny cycle byte core (now («gone_at» .entry)) (now (flight .entry)) (r .core) (now («gone_at» .exit)) (now (flight .exit)) (r .reply) (r .notices) ⌝ }
+) -> PlaceWrite
+    requires { ⌜ Held 129 (core .flight) × (length (now «gone_at») ≡ 129) × (length (now flight) ≡ 129)
+        × (core .control .period ≤ periodLimit) ⌝ }
+    ensures { λ r. ⌜ SendsAny cycle byte core (now («gone_at» .entry)) (now (flight .entry)) (r .core)
+        (now («gone_at» .exit)) (now (flight .exit)) (r .reply) (r .notices) ⌝ }
 {
     if words::fifo_full(core.flight.count) {
         let notices = replies::notices::overflow_notices();
-        Put {
+        PlaceWrite {
             core,
             reply: Write::Accepted,
             notices,
@@ -65,7 +69,7 @@ pub fn send_byte<'a>(
         let notices = replies::notices::clock_notices(timing::source::unmodelled_source(
             words.clk_conf,
         ));
-        Put {
+        PlaceWrite {
             core,
             reply: Write::Accepted,
             notices,

@@ -15,7 +15,7 @@ ghost use Rattle.calls.specs.Answers.{Accesses};
 ghost use Rattle.access.specs.Writes.{storedIn, clearedIn, resetFifosOf};
 
 // A core after a write, whether the write is accepted, and its notices.
-pub struct Put {
+pub struct PlaceWrite {
     pub core: Core,
     pub reply: Write,
     pub notices: Notices,
@@ -32,7 +32,7 @@ fn accepted(held: bool) -> Write
     }
 }
 
-fn stored(mut core: Core, place: Place, value: u32) -> Put
+fn store(mut core: Core, place: Place, value: u32) -> PlaceWrite
     ensures { λ r. ⌜ r ≡ storedIn place value core ⌝ }
 {
     let mut control = core.control;
@@ -42,7 +42,7 @@ fn stored(mut core: Core, place: Place, value: u32) -> Put
     core.control = control;
     let reply = accepted(put.accepted);
     let notices = replies::modes::stored_notices(place, value);
-    Put {
+    PlaceWrite {
         core,
         reply,
         notices,
@@ -50,7 +50,7 @@ fn stored(mut core: Core, place: Place, value: u32) -> Put
 }
 
 // A write to INT_CLR.
-fn cleared(mut core: Core, value: u32) -> Put
+fn clear_interrupts(mut core: Core, value: u32) -> PlaceWrite
     ensures { λ r. ⌜ r ≡ clearedIn value core ⌝ }
 {
     let mut control = core.control;
@@ -59,7 +59,7 @@ fn cleared(mut core: Core, value: u32) -> Put
     control.line = line;
     core.control = control;
     let notices = replies::notices::none();
-    Put {
+    PlaceWrite {
         core,
         reply: Write::Accepted,
         notices,
@@ -73,7 +73,7 @@ fn cut_if(flight: Cursor, yes: bool) -> Cursor
     if yes { cut } else { flight }
 }
 
-fn emptied_if(rx: Cursor, yes: bool) -> Cursor
+fn empty_if(rx: Cursor, yes: bool) -> Cursor
     ensures { λ r. ⌜ r ≡ choose yes empty rx ⌝ }
 {
     let none = Cursor::new();
@@ -87,20 +87,21 @@ fn reset_fifos(mut core: Core, conf0: u32) -> Core
     let tx_reset = registers::fields::txfifo_rst(conf0);
     let rx_reset = registers::fields::rxfifo_rst(conf0);
     let flight = cut_if(core.flight, tx_reset);
-    let rx = emptied_if(core.rx, rx_reset);
+    let rx = empty_if(core.rx, rx_reset);
     core.flight = flight;
     core.rx = rx;
     core
 }
 
-pub fn write_place(core: Core, place: Place, value: u32) -> Put
-    ensures { λ r. ⌜ ((a : Arrays) → Shape core a → Accesses (λ x. x) (writePlace place value (abs core a)) (r .core) a (r .reply) (r .notices)) ⌝ }
+pub fn write_place(core: Core, place: Place, value: u32) -> PlaceWrite
+    ensures { λ r. ⌜ ((a : Arrays) → Shape core a → Accesses (λ x. x) (writePlace place value
+        (abs core a)) (r .core) a (r .reply) (r .notices)) ⌝ }
 {
     match place {
-        Place::IntClr => cleared(core, value),
+        Place::IntClr => clear_interrupts(core, value),
         Place::Conf0 => {
             let reset = reset_fifos(core, value);
-            stored(reset, place, value)
+            store(reset, place, value)
         }
         Place::Fifo
         | Place::IntRaw
@@ -116,6 +117,6 @@ pub fn write_place(core: Core, place: Place, value: u32) -> Put
         | Place::AtCmdChar
         | Place::MemConf
         | Place::MemRxStatus
-        | Place::Unknown => stored(core, place, value),
+        | Place::Unknown => store(core, place, value),
     }
 }

@@ -1,6 +1,6 @@
 // write: settle, then the write at a place, then levels, interrupt and wake.
 
-use crate::store::Put;
+use crate::store::PlaceWrite;
 use calls::settle_at;
 use device::Core;
 use model::Place;
@@ -9,7 +9,7 @@ use model::Report;
 use model::Write;
 use registers::places;
 use replies::notices::Notices;
-use replies::refusals::Checked;
+use replies::refusals::Verdict;
 use replies::report;
 ghost use mathlib.Core.Path.{_≡_};
 ghost use Prim.Native.Nat.{_<_, _%_};
@@ -34,7 +34,7 @@ pub struct WriteCore {
     pub report: Report,
 }
 
-fn answered(core: Core, reply: Write, passes: u64, overflows: u64, notices: Notices) -> WriteCore
+fn answer(core: Core, reply: Write, passes: u64, overflows: u64, notices: Notices) -> WriteCore
     ensures { λ r. ⌜ r ≡ writeCore core reply passes overflows notices ⌝ }
 {
     let control = core.control;
@@ -47,7 +47,7 @@ fn answered(core: Core, reply: Write, passes: u64, overflows: u64, notices: Noti
     }
 }
 
-fn refused(core: Core, refusal: Refusal) -> WriteCore
+fn refuse(core: Core, refusal: Refusal) -> WriteCore
     ensures { λ r. ⌜ r ≡ refusedWrite core refusal ⌝ }
 {
     let report = report::no_report();
@@ -89,7 +89,7 @@ fn low_byte(value: u32) -> u8
 }
 
 // A write to FIFO has one test more.
-fn tests_at(fifo: bool, cycle: u64, last: u64, left: usize, flying: usize) -> Checked
+fn tests_at(fifo: bool, cycle: u64, last: u64, left: usize, flying: usize) -> Verdict
     ensures { λ r. ⌜ verdict r ≡ testsAt fifo cycle last left flying ⌝ }
 {
     if fifo {
@@ -100,8 +100,8 @@ fn tests_at(fifo: bool, cycle: u64, last: u64, left: usize, flying: usize) -> Ch
 }
 
 // Every write raises levels, drives the interrupt and arms, accepted or not.
-fn concluded<'a>(
-    put: Put,
+fn conclude<'a>(
+    put: PlaceWrite,
     gone_at: &'a [u64; 129],
     run_dates: &'a [u64; 64],
     passes: u64,
@@ -112,12 +112,12 @@ fn concluded<'a>(
 {
     let reply = put.reply;
     let notices = put.notices;
-    let core = calls::conclude::concluded(put.core, gone_at, run_dates);
-    answered(core, reply, passes, overflows, notices)
+    let core = calls::conclude::conclude(put.core, gone_at, run_dates);
+    answer(core, reply, passes, overflows, notices)
 }
 
 // FIFO sends a byte, and any other place takes the word.
-fn write_settled<'a>(
+fn carry_out<'a>(
     core: Core,
     gone_at: &'a mut [u64; 129],
     flight: &'a mut [u8; 129],
@@ -132,14 +132,17 @@ fn write_settled<'a>(
     place: Place,
     value: u32,
 ) -> WriteCore
-    requires { ⌜ Ok core (arrays (now «gone_at») (now flight) (now tx) (now host) (now «run_dates») (now «run_counts») (now rx)) × (cycle < dateEnd) ⌝ }
+    requires { ⌜ Ok core (arrays (now «gone_at») (now flight) (now tx) (now host) (now «run_dates») (now «run_counts») (now rx))
+        × (cycle < dateEnd) ⌝ }
     ensures { λ r. ⌜ Works (λ x. x)
-        (workAt fifo cycle byte place value (abs core (arrays (now («gone_at» .entry)) (now (flight .entry)) (now (tx .entry)) (now (host .entry)) (now («run_dates» .entry)) (now («run_counts» .entry)) (now (rx .entry)))))
+        (workAt fifo cycle byte place value (abs core (arrays (now («gone_at» .entry)) (now (flight .entry)) (now (tx .entry))
+        (now (host .entry)) (now («run_dates» .entry)) (now («run_counts» .entry)) (now (rx .entry)))))
         (r .core)
-        (arrays (now («gone_at» .exit)) (now (flight .exit)) (now (tx .exit)) (now (host .entry)) (now («run_dates» .entry)) (now («run_counts» .exit)) (now (rx .exit)))
+        (arrays (now («gone_at» .exit)) (now (flight .exit)) (now (tx .exit)) (now (host .entry)) (now («run_dates» .entry))
+        (now («run_counts» .exit)) (now (rx .exit)))
         (r .reply) (r .report) ⌝ }
 {
-    let t = settle_at::settled_at(
+    let t = settle_at::settle_at(
         core,
         gone_at,
         flight,
@@ -151,11 +154,11 @@ fn write_settled<'a>(
         cycle,
     );
     if fifo {
-        let sent = crate::send::send_byte(t.core, gone_at, flight, cycle, byte);
-        concluded(sent, gone_at, run_dates, t.passes, t.overflows)
+        let sent = crate::send::send(t.core, gone_at, flight, cycle, byte);
+        conclude(sent, gone_at, run_dates, t.passes, t.overflows)
     } else {
         let put = crate::store::write_place(t.core, place, value);
-        concluded(put, gone_at, run_dates, t.passes, t.overflows)
+        conclude(put, gone_at, run_dates, t.passes, t.overflows)
     }
 }
 
@@ -173,10 +176,14 @@ pub fn write<'a>(
     value: u32,
 ) -> WriteCore
     requires { ⌜ Ok core (arrays (now «gone_at») (now flight) (now tx) (now host) (now «run_dates») (now «run_counts») (now rx)) ⌝ }
-    ensures { λ r. ⌜ Answers (λ x. x) writeNumber (Calls·write cycle offset value (abs core (arrays (now («gone_at» .entry)) (now (flight .entry)) (now (tx .entry)) (now (host .entry)) (now («run_dates» .entry)) (now («run_counts» .entry)) (now (rx .entry))))) core
-        (arrays (now («gone_at» .entry)) (now (flight .entry)) (now (tx .entry)) (now (host .entry)) (now («run_dates» .entry)) (now («run_counts» .entry)) (now (rx .entry)))
+    ensures { λ r. ⌜ Answers (λ x. x) writeNumber (Calls·write cycle offset value (abs core (arrays (now («gone_at» .entry))
+        (now (flight .entry)) (now (tx .entry)) (now (host .entry)) (now («run_dates» .entry)) (now («run_counts» .entry))
+        (now (rx .entry))))) core
+        (arrays (now («gone_at» .entry)) (now (flight .entry)) (now (tx .entry)) (now (host .entry)) (now («run_dates» .entry))
+        (now («run_counts» .entry)) (now (rx .entry)))
         (r .core)
-        (arrays (now («gone_at» .exit)) (now (flight .exit)) (now (tx .exit)) (now (host .entry)) (now («run_dates» .entry)) (now («run_counts» .exit)) (now (rx .exit)))
+        (arrays (now («gone_at» .exit)) (now (flight .exit)) (now (tx .exit)) (now (host .entry)) (now («run_dates» .entry))
+        (now («run_counts» .exit)) (now (rx .exit)))
         (r .reply) (r .report) ⌝ }
 {
     let map = core.map;
@@ -186,8 +193,8 @@ pub fn write<'a>(
     let control = core.control;
     let tests = tests_at(fifo, cycle, control.last, core.tx.count, core.flight.count);
     match tests {
-        Checked::Refused(refusal) => refused(core, refusal),
-        Checked::Passed => write_settled(
+        Verdict::Refused(refusal) => refuse(core, refusal),
+        Verdict::Passed => carry_out(
             core,
             gone_at,
             flight,

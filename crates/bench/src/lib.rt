@@ -1,4 +1,5 @@
-// Document 01's bench settings: offsets and reset words in the order of set-up, and the offsets of some places.
+// Document 01's bench settings, for the programs that test and measure: offsets and reset words in the order of set-up, and the
+// offsets of some places.
 
 pub const FIFO: u32 = 0;
 

@@ -1,4 +1,4 @@
-// What is put in the place of a client's bytes: the functions by which a trace is blanked.
+// What is put in the place of a client's bytes, by which a trace is blanked; specs/ has the theorems on blanked lists.
 
 ghost use mathlib.Core.Path.{_≡_};
 ghost use mathlib.Core.List.{map};

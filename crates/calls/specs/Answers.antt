@@ -21,7 +21,7 @@ use Rattle.model.specs.declared.Refusal.{Refusal}
 use Rattle.model.specs.declared.Report.{Report}
 use Rattle.model.specs.declared.Done.{Done}
 use Rattle.replies.specs.Refusals.{verdict, dates}
-use Rattle.replies.specs.declared.refusals.Checked.{Checked}
+use Rattle.replies.specs.declared.refusals.Verdict.{Verdict}
 use Rattle.replies.specs.Notices.{noted}
 use Rattle.replies.specs.Reports.{reported, report-of}
 use Rattle.replies.specs.declared.notices.Notices.{Notices}
@@ -131,11 +131,11 @@ done-armed s k = after (λ x. x) s _ (record { shape = k .shape; replies = refl;
 -- ---- what the tests say
 
 -- the verdict of a function of `refusals`, in each of its cases
-pub passes : {v : Checked} {o : Option Refusal} → verdict v ≡ o → v ≡ Checked.Passed → o ≡ none
+pub passes : {v : Verdict} {o : Option Refusal} → verdict v ≡ o → v ≡ Verdict.Passed → o ≡ none
 unfolding verdict
 passes e p = sym e ∙ ap verdict p
 
-pub refuses : {v : Checked} {o : Option Refusal} {q : Refusal} → verdict v ≡ o → v ≡ Checked.Refused q → o ≡ some q
+pub refuses : {v : Verdict} {o : Option Refusal} {q : Refusal} → verdict v ≡ o → v ≡ Verdict.Refused q → o ≡ some q
 unfolding verdict
 refuses e p = sym e ∙ ap verdict p
 

@@ -5,7 +5,7 @@ use lib.ListN.{length}
 use Rattle.model.specs.State.{withPoweredDownAt}
 use Rattle.model.specs.Settle
 use Rattle.model.specs.Arm.{arm}
-use Rattle.model.specs.Calls.{settledAt, quiet, cleared, resetWork}
+use Rattle.model.specs.Calls.{settleAt, quiet, cleared, resetWork}
 use Rattle.model.specs.declared.Date.{Date}
 use Rattle.queue.specs.Cursors.{Held}
 use Rattle.device.specs.Holds.{Arrays, abs, Ok}
@@ -27,11 +27,11 @@ module _ (cycle : ℕ) {c : Core} {a : Arrays} (ok : Ok c a) {from : Core} (up :
   pub from-ok : Ok from a
   from-ok = subst (λ (x : Core). Ok x a) (sym up) (put-down-ok cycle c a ok Date.None)
 
-  pub restarted : {c₁ : Core} {a₁ : Arrays} {n o : ℕ} {c₂ c₃ : Core} {r : DoneCore} → Settles (settledAt cycle (abs from a)) c₁ a₁ n o → c₂ ≡ clearedCore c₁
+  pub restarted : {c₁ : Core} {a₁ : Arrays} {n o : ℕ} {c₂ c₃ : Core} {r : DoneCore} → Settles (settleAt cycle (abs from a)) c₁ a₁ n o → c₂ ≡ clearedCore c₁
       → ConcludesAny c₂ (a₁ .goneAt) (a₁ .runDates) c₃ → r ≡ doneCore c₃ n o → Works (λ x. x) (resetWork cycle (abs c a)) (r .core) a₁ (r .reply) (r .report)
   unfolding resetWork quiet
   restarted {c₁} {a₁} {n} {o} {c₃ = c₃} s ec concludes same =
-      let settled = subst (λ (x : Core). Settles (settledAt cycle (abs x a)) c₁ a₁ n o) up s in
+      let settled = subst (λ (x : Core). Settles (settleAt cycle (abs x a)) c₁ a₁ n o) up s in
       let k = subst (λ (x : Core). ConcludesAny x (a₁ .goneAt) (a₁ .runDates) c₃) ec concludes a₁ refl refl (cleared-shape c₁ a₁ (s .ok .shape)) in
       subst (λ (x : DoneCore). Works (λ w. w) (resetWork cycle (abs c a)) (x .core) a₁ (x .reply) (x .report)) (sym same)
       (after (λ x. x) settled _

@@ -10,7 +10,7 @@ use Rattle.model.specs.State.{OnTheLine, Uart}
 use Rattle.model.specs.Settle.{Settled, begin, depart, settle, settleTo, settlingDate, settingsOf, leveled, pending, onTheLine}
 use Rattle.model.specs.Limits.{Within}
 use Rattle.model.specs.Tests.{dateEnd, periodLimit}
-use Rattle.model.specs.Calls.{dated, settledAt, added, clocked, reclocked, clockWork}
+use Rattle.model.specs.Calls.{dated, settleAt, added, clocked, reclocked, clockWork}
 use Rattle.model.specs.Keeps.Parts.{through}
 use Rattle.model.specs.Keeps.Dated.{moved-parts}
 use Rattle.calls.specs.Answers.{Works, doneCore}
@@ -54,14 +54,14 @@ few now u w s =
     (omega (arith, p, few-passes now u w), omega (arith, o, fewer-overflows now u, few-passes now u w))
 
 -- the same of one that moves the last date first
-pub few-at : (now : ℕ) (u : Uart ℕ ℕ) {c : Core} {a : Arrays} {n o : ℕ} → Within u → now < dateEnd → Settles (settledAt now u) c a n o → (n ≤ 2052) × (o ≤ 2052)
-unfolding settledAt
+pub few-at : (now : ℕ) (u : Uart ℕ ℕ) {c : Core} {a : Arrays} {n o : ℕ} → Within u → now < dateEnd → Settles (settleAt now u) c a n o → (n ≤ 2052) × (o ≤ 2052)
+unfolding settleAt
 few-at now u w h s = few now (dated now u) (through u (dated now u) (moved-parts now u h) w) s
 
 -- two settlings, the period set between them
 pub twice : (now : ℕ) (u : Uart ℕ ℕ) {c₁ : Core} {a₁ : Arrays} {n₁ o₁ : ℕ} {c₂ : Core} {a₂ : Arrays} {n₂ o₂ : ℕ} (period : ℕ)
-    → Settles (settledAt now u) c₁ a₁ n₁ o₁ → Settles (settle now (abs (clockedCore period c₁) a₁)) c₂ a₂ n₂ o₂
-    → Settles (reclocked now period (settledAt now u)) c₂ a₂ (n₁ + n₂) (o₁ + o₂)
+    → Settles (settleAt now u) c₁ a₁ n₁ o₁ → Settles (settle now (abs (clockedCore period c₁) a₁)) c₂ a₂ n₂ o₂
+    → Settles (reclocked now period (settleAt now u)) c₂ a₂ (n₁ + n₂) (o₁ + o₂)
 unfolding reclocked added clocked
 twice now u {n₁ = n₁} {o₁ = o₁} period first second = record {
   ok = second .ok;
@@ -81,14 +81,14 @@ module _ (now period : ℕ) (low : period ≤ periodLimit) {c₁ : Core} {a₁ :
 
   -- the sums fit
   pub sums-fit : {c : Core} {a : Arrays} {n₁ o₁ : ℕ} {c₂ : Core} {a₂ : Arrays} {n₂ o₂ : ℕ} → Ok c a → now < dateEnd
-      → Settles (settledAt now (abs c a)) c₁ a₁ n₁ o₁ → Settles (settle now (abs from a₁)) c₂ a₂ n₂ o₂ → (n₁ + n₂ ≤ 4104) × (o₁ + o₂ ≤ 4104)
+      → Settles (settleAt now (abs c a)) c₁ a₁ n₁ o₁ → Settles (settle now (abs from a₁)) c₂ a₂ n₂ o₂ → (n₁ + n₂ ≤ 4104) × (o₁ + o₂ ≤ 4104)
   sums-fit {c} {a} begun h first second =
       let one = few-at now (abs c a) (begun .within) h first in
       let two = few now (abs from a₁) (from-ok .within) second in
       (omega (arith, one .0, two .0), omega (arith, one .1, two .1))
 
   pub reclocks : {c : Core} {a : Arrays} {n₁ o₁ : ℕ} {c₂ : Core} {a₂ : Arrays} {n₂ o₂ : ℕ} {c₃ : Core} {r : DoneCore} → Ok c a
-      → Settles (settledAt now (abs c a)) c₁ a₁ n₁ o₁ → Settles (settle now (abs from a₁)) c₂ a₂ n₂ o₂ → ArmsAny c₂ (a₂ .goneAt) (a₂ .runDates) c₃
+      → Settles (settleAt now (abs c a)) c₁ a₁ n₁ o₁ → Settles (settle now (abs from a₁)) c₂ a₂ n₂ o₂ → ArmsAny c₂ (a₂ .goneAt) (a₂ .runDates) c₃
       → r ≡ doneCore c₃ (n₁ + n₂) (o₁ + o₂) → Works (λ x. x) (clockWork now period (abs c a)) (r .core) a₂ (r .reply) (r .report)
   unfolding clockWork
   reclocks {c} {a} _ first second arms same = armed-done (twice now (abs c a) period first (second-of second)) arms same

@@ -1,7 +1,7 @@
 -- A wake's work: settled from the cleared Deadline, and armed. Assumes nothing.
 use mathlib.Core.Path.{_≡_, sym, subst}
 use Prim.Native.Nat.{ℕ}
-use Rattle.model.specs.Calls.{settledAt, wakeWork}
+use Rattle.model.specs.Calls.{settleAt, wakeWork}
 use Rattle.device.specs.Holds.{Arrays, abs, Ok}
 use Rattle.device.specs.Settles.{Settles}
 use Rattle.device.specs.Arms.{ArmsAny}
@@ -15,7 +15,7 @@ module _ (cycle : ℕ) {c : Core} {a : Arrays} (ok : Ok c a) {from : Core} (call
   pub from-ok : Ok from a
   from-ok = subst (λ (x : Core). Ok x a) (sym called) (called-ok cycle c a ok)
 
-  pub woken : {c₁ : Core} {a₁ : Arrays} {n o : ℕ} {c₂ : Core} {r : DoneCore} → Settles (settledAt cycle (abs from a)) c₁ a₁ n o
+  pub woken : {c₁ : Core} {a₁ : Arrays} {n o : ℕ} {c₂ : Core} {r : DoneCore} → Settles (settleAt cycle (abs from a)) c₁ a₁ n o
       → ArmsAny c₁ (a₁ .goneAt) (a₁ .runDates) c₂ → r ≡ doneCore c₂ n o → Works (λ x. x) (wakeWork cycle (abs c a)) (r .core) a₁ (r .reply) (r .report)
   unfolding wakeWork
-  woken {c₁} {a₁} {n} {o} s arms same = armed-done (subst (λ (x : Core). Settles (settledAt cycle (abs x a)) c₁ a₁ n o) called s) arms same
+  woken {c₁} {a₁} {n} {o} s arms same = armed-done (subst (λ (x : Core). Settles (settleAt cycle (abs x a)) c₁ a₁ n o) called s) arms same

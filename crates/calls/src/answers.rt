@@ -29,7 +29,7 @@ pub fn done(core: Core, passes: u64, overflows: u64) -> DoneCore
     }
 }
 
-pub fn refused(core: Core, refusal: Refusal) -> DoneCore
+pub fn refuse(core: Core, refusal: Refusal) -> DoneCore
     ensures { λ r. ⌜ r ≡ refusedCore core refusal ⌝ }
 {
     let report = report::no_report();

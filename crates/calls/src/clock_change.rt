@@ -4,7 +4,7 @@ use crate::answers::DoneCore;
 use crate::settle_at;
 use device::Core;
 use device::settle;
-use replies::refusals::Checked;
+use replies::refusals::Verdict;
 use timing::clock::Clock;
 ghost use mathlib.Core.Path.{_≡_};
 ghost use Prim.Native.Nat.{_<_, _≤_};
@@ -16,7 +16,7 @@ ghost use Rattle.calls.specs.Changes.{clockedCore};
 ghost use Rattle.calls.specs.Answers.{Works, DoneWith};
 
 // The core with another period of the APB clock, in cycles; 0 counts as 1.
-fn clocked(mut core: Core, period: u64) -> Core
+fn with_period(mut core: Core, period: u64) -> Core
     ensures { λ r. ⌜ r ≡ clockedCore period core ⌝ }
 {
     let clock = Clock::new(period);
@@ -27,7 +27,7 @@ fn clocked(mut core: Core, period: u64) -> Core
 }
 
 // Passes and overflows are the sums over the two settlings.
-fn reclocked<'a>(
+fn carry_out<'a>(
     core: Core,
     gone_at: &'a [u64; 129],
     flight: &'a [u8; 129],
@@ -39,14 +39,17 @@ fn reclocked<'a>(
     cycle: u64,
     period: u64,
 ) -> DoneCore
-    requires { ⌜ Ok core (arrays (now «gone_at») (now flight) (now tx) (now host) (now «run_dates») (now «run_counts») (now rx)) × (cycle < dateEnd) × (period ≤ periodLimit) ⌝ }
+    requires { ⌜ Ok core (arrays (now «gone_at») (now flight) (now tx) (now host) (now «run_dates») (now «run_counts») (now rx))
+        × (cycle < dateEnd) × (period ≤ periodLimit) ⌝ }
     ensures { λ r. ⌜ Works (λ x. x)
-        (clockWork cycle period (abs core (arrays (now («gone_at» .entry)) (now (flight .entry)) (now (tx .entry)) (now (host .entry)) (now («run_dates» .entry)) (now («run_counts» .entry)) (now (rx .entry)))))
+        (clockWork cycle period (abs core (arrays (now («gone_at» .entry)) (now (flight .entry)) (now (tx .entry)) (now (host .entry))
+        (now («run_dates» .entry)) (now («run_counts» .entry)) (now (rx .entry)))))
         (r .core)
-        (arrays (now («gone_at» .entry)) (now (flight .entry)) (now (tx .exit)) (now (host .entry)) (now («run_dates» .entry)) (now («run_counts» .exit)) (now (rx .exit)))
+        (arrays (now («gone_at» .entry)) (now (flight .entry)) (now (tx .exit)) (now (host .entry)) (now («run_dates» .entry))
+        (now («run_counts» .exit)) (now (rx .exit)))
         (r .reply) (r .report) ⌝ }
 {
-    let first = settle_at::settled_at(
+    let first = settle_at::settle_at(
         core,
         gone_at,
         flight,
@@ -57,8 +60,8 @@ fn reclocked<'a>(
         rx,
         cycle,
     );
-    let from = clocked(first.core, period);
-    let second = settle::settled(
+    let from = with_period(first.core, period);
+    let second = settle::settle(
         from,
         gone_at,
         flight,
@@ -92,16 +95,18 @@ pub fn clock_change<'a>(
 ) -> DoneCore
     requires { ⌜ Ok core (arrays (now «gone_at») (now flight) (now tx) (now host) (now «run_dates») (now «run_counts») (now rx)) ⌝ }
     ensures { λ r. ⌜ DoneWith (clockChange cycle period) core
-        (arrays (now («gone_at» .entry)) (now (flight .entry)) (now (tx .entry)) (now (host .entry)) (now («run_dates» .entry)) (now («run_counts» .entry)) (now (rx .entry)))
+        (arrays (now («gone_at» .entry)) (now (flight .entry)) (now (tx .entry)) (now (host .entry)) (now («run_dates» .entry))
+        (now («run_counts» .entry)) (now (rx .entry)))
         (r .core)
-        (arrays (now («gone_at» .entry)) (now (flight .entry)) (now (tx .exit)) (now (host .entry)) (now («run_dates» .entry)) (now («run_counts» .exit)) (now (rx .exit)))
+        (arrays (now («gone_at» .entry)) (now (flight .entry)) (now (tx .exit)) (now (host .entry)) (now («run_dates» .entry))
+        (now («run_counts» .exit)) (now (rx .exit)))
         (r .reply) (r .report) ⌝ }
 {
     let control = core.control;
     let tests = replies::refusals::clock_refusal(cycle, control.last, period);
     match tests {
-        Checked::Refused(refusal) => answers::refused(core, refusal),
-        Checked::Passed => reclocked(
+        Verdict::Refused(refusal) => answers::refuse(core, refusal),
+        Verdict::Passed => carry_out(
             core,
             gone_at,
             flight,

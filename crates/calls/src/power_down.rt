@@ -5,7 +5,7 @@ use crate::settle_at;
 use device::Core;
 use model::Control;
 use model::Date;
-use replies::refusals::Checked;
+use replies::refusals::Verdict;
 ghost use mathlib.Core.Path.{_≡_};
 ghost use Rattle.model.specs.State.{withPoweredDownAt};
 ghost use Rattle.model.specs.Calls.{powerDown};
@@ -13,7 +13,7 @@ ghost use Rattle.device.specs.Holds.{Arrays, Ok};
 ghost use Rattle.calls.specs.Changes.{withControlOf};
 ghost use Rattle.calls.specs.Answers.{DoneWith};
 
-fn put(control: Control, powered_down_at: Date) -> Control
+fn control_down_at(control: Control, powered_down_at: Date) -> Control
     ensures { λ r. ⌜ r ≡ withPoweredDownAt «powered_down_at» control ⌝ }
 {
     let words = control.words;
@@ -35,7 +35,7 @@ fn put(control: Control, powered_down_at: Date) -> Control
 pub fn with_powered_down_at(mut core: Core, powered_down_at: Date) -> Core
     ensures { λ r. ⌜ r ≡ withControlOf (withPoweredDownAt «powered_down_at» (core .control)) core ⌝ }
 {
-    let control = put(core.control, powered_down_at);
+    let control = control_down_at(core.control, powered_down_at);
     core.control = control;
     core
 }
@@ -47,9 +47,9 @@ pub fn power_down(core: Core, cycle: u64) -> DoneCore
     let control = core.control;
     let tests = replies::refusals::date_refusal(cycle, control.last);
     match tests {
-        Checked::Refused(refusal) => answers::refused(core, refusal),
-        Checked::Passed => {
-            let moved = settle_at::dated(core, cycle);
+        Verdict::Refused(refusal) => answers::refuse(core, refusal),
+        Verdict::Passed => {
+            let moved = settle_at::with_last(core, cycle);
             let down = with_powered_down_at(moved, Date::At(dates::subcycles(cycle)));
             answers::done(down, 0, 0)
         }

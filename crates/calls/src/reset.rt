@@ -8,7 +8,7 @@ use model::Date;
 use model::Line;
 use model::Source;
 use queue::Cursor;
-use replies::refusals::Checked;
+use replies::refusals::Verdict;
 ghost use mathlib.Core.Path.{_≡_};
 ghost use Prim.Native.Nat.{_<_};
 ghost use Rattle.model.specs.Tests.{dateEnd};
@@ -19,7 +19,7 @@ ghost use Rattle.calls.specs.Changes.{clearedCore};
 ghost use Rattle.calls.specs.Answers.{Works, DoneWith};
 
 // When the line is free stays.
-fn cleared_line(line: Line) -> Line
+fn clear_line(line: Line) -> Line
     ensures { λ r. ⌜ r ≡ clearedLine line ⌝ }
 {
     Line {
@@ -31,13 +31,13 @@ fn cleared_line(line: Line) -> Line
 }
 
 // Words as at reset; no byte in flight, and none received.
-fn cleared(mut core: Core) -> Core
+fn clear(mut core: Core) -> Core
     ensures { λ r. ⌜ r ≡ clearedCore core ⌝ }
 {
     let map = core.map;
     let words = map.reset;
     let mut control = core.control;
-    let line = cleared_line(control.line);
+    let line = clear_line(control.line);
     control.words = words;
     control.line = line;
     core.control = control;
@@ -46,7 +46,7 @@ fn cleared(mut core: Core) -> Core
     core
 }
 
-fn restarted<'a>(
+fn carry_out<'a>(
     core: Core,
     gone_at: &'a [u64; 129],
     flight: &'a [u8; 129],
@@ -57,15 +57,18 @@ fn restarted<'a>(
     rx: &'a mut [u8; 128],
     cycle: u64,
 ) -> DoneCore
-    requires { ⌜ Ok core (arrays (now «gone_at») (now flight) (now tx) (now host) (now «run_dates») (now «run_counts») (now rx)) × (cycle < dateEnd) ⌝ }
+    requires { ⌜ Ok core (arrays (now «gone_at») (now flight) (now tx) (now host) (now «run_dates») (now «run_counts») (now rx))
+        × (cycle < dateEnd) ⌝ }
     ensures { λ r. ⌜ Works (λ x. x)
-        (resetWork cycle (abs core (arrays (now («gone_at» .entry)) (now (flight .entry)) (now (tx .entry)) (now (host .entry)) (now («run_dates» .entry)) (now («run_counts» .entry)) (now (rx .entry)))))
+        (resetWork cycle (abs core (arrays (now («gone_at» .entry)) (now (flight .entry)) (now (tx .entry)) (now (host .entry))
+        (now («run_dates» .entry)) (now («run_counts» .entry)) (now (rx .entry)))))
         (r .core)
-        (arrays (now («gone_at» .entry)) (now (flight .entry)) (now (tx .exit)) (now (host .entry)) (now («run_dates» .entry)) (now («run_counts» .exit)) (now (rx .exit)))
+        (arrays (now («gone_at» .entry)) (now (flight .entry)) (now (tx .exit)) (now (host .entry)) (now («run_dates» .entry))
+        (now («run_counts» .exit)) (now (rx .exit)))
         (r .reply) (r .report) ⌝ }
 {
     let from = power_down::with_powered_down_at(core, Date::None);
-    let t = settle_at::settled_at(
+    let t = settle_at::settle_at(
         from,
         gone_at,
         flight,
@@ -76,8 +79,8 @@ fn restarted<'a>(
         rx,
         cycle,
     );
-    let cleared = cleared(t.core);
-    let restarted = crate::conclude::concluded(cleared, gone_at, run_dates);
+    let cleared = clear(t.core);
+    let restarted = crate::conclude::conclude(cleared, gone_at, run_dates);
     answers::done(restarted, t.passes, t.overflows)
 }
 
@@ -94,16 +97,18 @@ pub fn reset<'a>(
 ) -> DoneCore
     requires { ⌜ Ok core (arrays (now «gone_at») (now flight) (now tx) (now host) (now «run_dates») (now «run_counts») (now rx)) ⌝ }
     ensures { λ r. ⌜ DoneWith (Calls·reset cycle) core
-        (arrays (now («gone_at» .entry)) (now (flight .entry)) (now (tx .entry)) (now (host .entry)) (now («run_dates» .entry)) (now («run_counts» .entry)) (now (rx .entry)))
+        (arrays (now («gone_at» .entry)) (now (flight .entry)) (now (tx .entry)) (now (host .entry)) (now («run_dates» .entry))
+        (now («run_counts» .entry)) (now (rx .entry)))
         (r .core)
-        (arrays (now («gone_at» .entry)) (now (flight .entry)) (now (tx .exit)) (now (host .entry)) (now («run_dates» .entry)) (now («run_counts» .exit)) (now (rx .exit)))
+        (arrays (now («gone_at» .entry)) (now (flight .entry)) (now (tx .exit)) (now (host .entry)) (now («run_dates» .entry))
+        (now («run_counts» .exit)) (now (rx .exit)))
         (r .reply) (r .report) ⌝ }
 {
     let control = core.control;
     let tests = replies::refusals::date_refusal(cycle, control.last);
     match tests {
-        Checked::Refused(refusal) => answers::refused(core, refusal),
-        Checked::Passed => restarted(
+        Verdict::Refused(refusal) => answers::refuse(core, refusal),
+        Verdict::Passed => carry_out(
             core,
             gone_at,
             flight,

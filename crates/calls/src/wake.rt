@@ -3,7 +3,7 @@ use crate::answers;
 use crate::answers::DoneCore;
 use crate::settle_at;
 use device::Core;
-use replies::refusals::Checked;
+use replies::refusals::Verdict;
 ghost use mathlib.Core.Path.{_≡_};
 ghost use Prim.Native.Nat.{_<_};
 ghost use Rattle.model.specs.Tests.{dateEnd};
@@ -23,7 +23,7 @@ fn called(core: Core, cycle: u64) -> Core
     device::arm::with_wake_of(core, wake)
 }
 
-fn woken<'a>(
+fn carry_out<'a>(
     core: Core,
     gone_at: &'a [u64; 129],
     flight: &'a [u8; 129],
@@ -34,15 +34,18 @@ fn woken<'a>(
     rx: &'a mut [u8; 128],
     cycle: u64,
 ) -> DoneCore
-    requires { ⌜ Ok core (arrays (now «gone_at») (now flight) (now tx) (now host) (now «run_dates») (now «run_counts») (now rx)) × (cycle < dateEnd) ⌝ }
+    requires { ⌜ Ok core (arrays (now «gone_at») (now flight) (now tx) (now host) (now «run_dates») (now «run_counts») (now rx))
+        × (cycle < dateEnd) ⌝ }
     ensures { λ r. ⌜ Works (λ x. x)
-        (wakeWork cycle (abs core (arrays (now («gone_at» .entry)) (now (flight .entry)) (now (tx .entry)) (now (host .entry)) (now («run_dates» .entry)) (now («run_counts» .entry)) (now (rx .entry)))))
+        (wakeWork cycle (abs core (arrays (now («gone_at» .entry)) (now (flight .entry)) (now (tx .entry)) (now (host .entry))
+        (now («run_dates» .entry)) (now («run_counts» .entry)) (now (rx .entry)))))
         (r .core)
-        (arrays (now («gone_at» .entry)) (now (flight .entry)) (now (tx .exit)) (now (host .entry)) (now («run_dates» .entry)) (now («run_counts» .exit)) (now (rx .exit)))
+        (arrays (now («gone_at» .entry)) (now (flight .entry)) (now (tx .exit)) (now (host .entry)) (now («run_dates» .entry))
+        (now («run_counts» .exit)) (now (rx .exit)))
         (r .reply) (r .report) ⌝ }
 {
     let from = called(core, cycle);
-    let t = settle_at::settled_at(
+    let t = settle_at::settle_at(
         from,
         gone_at,
         flight,
@@ -71,16 +74,18 @@ pub fn wake<'a>(
 ) -> DoneCore
     requires { ⌜ Ok core (arrays (now «gone_at») (now flight) (now tx) (now host) (now «run_dates») (now «run_counts») (now rx)) ⌝ }
     ensures { λ r. ⌜ DoneWith (Calls·wake cycle) core
-        (arrays (now («gone_at» .entry)) (now (flight .entry)) (now (tx .entry)) (now (host .entry)) (now («run_dates» .entry)) (now («run_counts» .entry)) (now (rx .entry)))
+        (arrays (now («gone_at» .entry)) (now (flight .entry)) (now (tx .entry)) (now (host .entry)) (now («run_dates» .entry))
+        (now («run_counts» .entry)) (now (rx .entry)))
         (r .core)
-        (arrays (now («gone_at» .entry)) (now (flight .entry)) (now (tx .exit)) (now (host .entry)) (now («run_dates» .entry)) (now («run_counts» .exit)) (now (rx .exit)))
+        (arrays (now («gone_at» .entry)) (now (flight .entry)) (now (tx .exit)) (now (host .entry)) (now («run_dates» .entry))
+        (now («run_counts» .exit)) (now (rx .exit)))
         (r .reply) (r .report) ⌝ }
 {
     let control = core.control;
     let tests = replies::refusals::date_refusal(cycle, control.last);
     match tests {
-        Checked::Refused(refusal) => answers::refused(core, refusal),
-        Checked::Passed => woken(
+        Verdict::Refused(refusal) => answers::refuse(core, refusal),
+        Verdict::Passed => carry_out(
             core,
             gone_at,
             flight,

@@ -2,7 +2,7 @@
 use crate::answers;
 use crate::answers::DoneCore;
 use device::Core;
-use replies::refusals::Checked;
+use replies::refusals::Verdict;
 ghost use mathlib.Core.Path.{_≡_};
 ghost use lib.ListN.{length};
 ghost use Rattle.model.specs.Calls.{watch as Calls·watch};
@@ -12,7 +12,7 @@ ghost use Rattle.device.specs.Arms.{Ready};
 ghost use Rattle.calls.specs.Changes.{watchedCore};
 ghost use Rattle.calls.specs.Answers.{DoneWith};
 
-fn watched(mut core: Core, cycle: u64, on: bool) -> Core
+fn with_watched(mut core: Core, cycle: u64, on: bool) -> Core
     ensures { λ r. ⌜ r ≡ watchedCore cycle on core ⌝ }
 {
     let mut control = core.control;
@@ -37,9 +37,9 @@ pub fn watch<'a>(
     let control = core.control;
     let tests = replies::refusals::date_refusal(cycle, control.last);
     match tests {
-        Checked::Refused(refusal) => answers::refused(core, refusal),
-        Checked::Passed => {
-            let from = watched(core, cycle, on);
+        Verdict::Refused(refusal) => answers::refuse(core, refusal),
+        Verdict::Passed => {
+            let from = with_watched(core, cycle, on);
             let armed = device::arm::arm(from, gone_at, run_dates);
             answers::done(armed, 0, 0)
         }

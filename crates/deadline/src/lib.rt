@@ -51,7 +51,7 @@ impl Deadline {
     }
 
     // `arm` of a value: whoever calls this needs no walk.
-    pub fn armed(self, at: u64) -> Deadline
+    pub fn after_arm(self, at: u64) -> Deadline
         ensures { λ r. ⌜ r ≡ armedAt self at ⌝ }
     {
         let mut d = self;
@@ -75,7 +75,7 @@ pub fn arm(due: Date, instant: Date) -> Date
 {
     match instant {
         Date::None => due,
-        Date::At(subcycle) => Deadline { due }.armed(dates::cycles(subcycle)).due,
+        Date::At(subcycle) => Deadline { due }.after_arm(dates::cycles(subcycle)).due,
     }
 }
 

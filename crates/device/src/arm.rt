@@ -38,7 +38,7 @@ pub fn last_gone(gone_at: &[u64; 129], flight: Cursor) -> Date
 }
 
 // When the transmit FIFO falls below its threshold.
-fn gone_below(gone_at: &[u64; 129], flight: Cursor, below: Below) -> Date
+fn below_threshold_at(gone_at: &[u64; 129], flight: Cursor, below: Below) -> Date
     requires { ⌜ Held 129 flight × (length (now «gone_at») ≡ 129) ⌝ }
     ensures { λ r. ⌜ ((bytes : List ℕ) → r ≡ goneBelow below (flightOf (now («gone_at» .entry)) bytes flight)) ⌝ }
 {
@@ -67,7 +67,7 @@ fn with_wake(control: Control, wake: Date) -> Control
 }
 
 // The wake once it is armed for each instant; the first run's date is read before.
-fn armed(core: Core, gone_at: &[u64; 129], run_date: u64) -> Date
+fn next_wake(core: Core, gone_at: &[u64; 129], run_date: u64) -> Date
     requires { ⌜ Ready core (now «gone_at») ⌝ }
     ensures { λ r. ⌜ Armed core (now («gone_at» .entry)) «run_date» r ⌝ }
 {
@@ -82,7 +82,7 @@ fn armed(core: Core, gone_at: &[u64; 129], run_date: u64) -> Date
     let comes = line::idle::timeout_at(settings, line);
     let timeout = line::next::only_if(settings.rx_tout_en, comes);
     let which = line::next::below_threshold(words.conf1, core.flight.count);
-    let below = gone_below(gone_at, core.flight, which);
+    let below = below_threshold_at(gone_at, core.flight, which);
     let gone = nth_gone(gone_at, core.flight, 0);
     let first = line::next::only_if(control.watched, gone);
     let due = control.wake;
@@ -104,6 +104,6 @@ pub fn arm<'a>(core: Core, gone_at: &'a [u64; 129], run_dates: &'a [u64; 64]) ->
 {
     let run = core.runs.start;
     let run_date = run_dates[run];
-    let wake = armed(core, gone_at, run_date);
+    let wake = next_wake(core, gone_at, run_date);
     with_wake_of(core, wake)
 }

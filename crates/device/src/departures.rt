@@ -29,7 +29,7 @@ pub fn gone(gone_at: &[u64; 129], flight: Cursor, date: u64) -> usize
 }
 
 // The cursors of the bytes in flight and of those that have left.
-pub struct Sent {
+pub struct Transmitter {
     pub flight: Cursor,
     pub tx: Cursor,
 }
@@ -41,7 +41,7 @@ pub fn leave<'a>(
     n: usize,
     bytes: &'a [u8; 129],
     left: &'a mut [u8; 1152],
-) -> Sent
+) -> Transmitter
     requires { ⌜ Held 129 flight × Held 1152 tx × (length (now bytes) ≡ 129) × (length (now left) ≡ 1152)
         × (n ≤ flight .count) × (tx .count + n ≤ 1152) ⌝ }
     ensures { λ r. ⌜ Leaves n (now (bytes .entry)) flight tx (now (left .entry)) (r .flight) (r .tx) (now (left .exit)) ⌝ }
@@ -58,7 +58,7 @@ pub fn leave<'a>(
         from = from.popped(129);
         i = i + 1;
     }
-    Sent {
+    Transmitter {
         flight: from,
         tx: to,
     }

@@ -1,5 +1,6 @@
-// The UART over parts: its numbers and marks with a cursor for each queue, and the slots of the queues in arrays lent beside
-// them. Carried over from inkemu's uart.rs and changed: the queues are rings in fixed slots.
+// The UART over parts: its numbers and marks with a cursor for each queue, the slots of the queues in arrays lent beside them; and
+// how it settles: bytes leave, bytes land, the wake is armed. What is decided stands in `line`; here the bytes follow. Carried
+// over from inkemu's uart.rs and changed: the queues are rings in fixed slots.
 pub mod arm;
 pub mod departures;
 pub mod pass;

@@ -19,12 +19,12 @@ pub struct Reception {
     pub rx: Cursor,
 }
 
-pub struct Passed {
+pub struct Pass {
     pub reception: Reception,
     pub found: Found,
 }
 
-fn chosen(yes: bool, new: u8, old: u8) -> u8
+fn choose(yes: bool, new: u8, old: u8) -> u8
     ensures { λ r. ⌜ r ≡ choose yes new old ⌝ }
 {
     if yes { new } else { old }
@@ -50,7 +50,7 @@ fn is_spent(yes: bool, n: u64) -> bool
 
 // One pass. A byte that starts comes off the host's queue, and a stored one goes to the back of the receive FIFO. Both stores
 // are made in every pass, of what stood there where nothing moves, so that the loop has no branch for them.
-pub fn pass<'a>(
+pub fn take_next_on_the_line<'a>(
     at: Reception,
     settings: Settings,
     date: u64,
@@ -58,7 +58,7 @@ pub fn pass<'a>(
     run_dates: &'a [u64; 64],
     run_counts: &'a mut [u64; 64],
     rx: &'a mut [u8; 128],
-) -> Passed
+) -> Pass
     requires { ⌜ Fit at (now host) (now «run_dates») (now «run_counts») (now rx) ⌝ }
     ensures { λ r. ⌜ Passes settings date at (now (host .entry)) (now («run_dates» .entry)) (now («run_counts» .entry)) (now (rx .entry))
         (r .reception) (now («run_counts» .exit)) (now (rx .exit)) (r .found) ⌝ }
@@ -71,12 +71,12 @@ pub fn pass<'a>(
     let receiving = at.receiving;
     let line = at.line;
     let waits = crate::runs::waiting(at.host.count, at.runs.count, run_date);
-    let m = line::pass::pass(settings, at.rx.count, date, waits, receiving, line);
+    let m = line::pass::take_next_on_the_line(settings, at.rx.count, date, waits, receiving, line);
     let found = m.found;
     let stored = line::fate::is_stored(found);
-    let byte = chosen(m.started, host[first], at.byte);
+    let byte = choose(m.started, host[first], at.byte);
     let old = rx[next];
-    rx[next] = chosen(stored, byte, old);
+    rx[next] = choose(stored, byte, old);
     run_counts[run] = less_if(count, m.started);
     let moved = m.line;
     let marked = m.receiving;
@@ -88,5 +88,5 @@ pub fn pass<'a>(
         runs: at.runs.popped_if(64, is_spent(m.started, count)),
         rx: at.rx.pushed_if(stored),
     };
-    Passed { reception, found }
+    Pass { reception, found }
 }

@@ -13,14 +13,14 @@ ghost use Rattle.device.specs.Ends.{Ends};
 ghost use Rattle.device.specs.Quiet.{startsLater, comesLater, quiet as Quiet·quiet};
 
 // The line after its passes, how many were made, and the bytes lost with UartRxOverflow.
-pub struct Ended {
+pub struct Passes {
     pub reception: Reception,
     pub passes: u64,
     pub overflows: u64,
 }
 
 // Pass by pass, to the first that finds nothing due.
-pub fn passes<'a>(
+pub fn take_all_on_the_line<'a>(
     from: Reception,
     settings: Settings,
     date: u64,
@@ -28,7 +28,7 @@ pub fn passes<'a>(
     run_dates: &'a [u64; 64],
     run_counts: &'a mut [u64; 64],
     rx: &'a mut [u8; 128],
-) -> Ended
+) -> Passes
     requires { ⌜ Fit from (now host) (now «run_dates») (now «run_counts») (now rx) ⌝ }
     ensures { λ r. ⌜ Ends settings date from (now (host .entry)) (now («run_dates» .entry)) (now («run_counts» .entry)) (now (rx .entry))
         (r .reception) (now («run_counts» .exit)) (now (rx .exit)) (r .passes) (r .overflows) ⌝ }
@@ -37,18 +37,26 @@ pub fn passes<'a>(
     let mut passes: u64 = 0;
     let mut overflows: u64 = 0;
     loop {
-        let p = crate::pass::pass(at, settings, date, host, run_dates, run_counts, rx);
+        let p = crate::pass::take_next_on_the_line(
+            at,
+            settings,
+            date,
+            host,
+            run_dates,
+            run_counts,
+            rx,
+        );
         let found = p.found;
         let reception = p.reception;
         at = reception;
         passes = passes + 1;
-        overflows = overflows + line::fate::lost(found);
+        overflows = overflows + line::fate::overflows(found);
         let more = line::fate::goes_on(found);
         if !more {
             break;
         }
     }
-    Ended {
+    Passes {
         reception: at,
         passes,
         overflows,
@@ -86,7 +94,7 @@ fn quiet(since: Date, receiving: Receiving, waits: Date, free: u64, date: u64) -
 }
 
 // All passes, the settings read from the words; where nothing is due they are not read, and the line stays as it is.
-pub fn through<'a>(
+pub fn settle_line<'a>(
     from: Reception,
     words: Words,
     period: u64,
@@ -95,9 +103,10 @@ pub fn through<'a>(
     run_dates: &'a [u64; 64],
     run_counts: &'a mut [u64; 64],
     rx: &'a mut [u8; 128],
-) -> Ended
+) -> Passes
     requires { ⌜ Fit from (now host) (now «run_dates») (now «run_counts») (now rx) × (period ≤ periodLimit) ⌝ }
-    ensures { λ r. ⌜ Ends (Timing·settings words period) date from (now (host .entry)) (now («run_dates» .entry)) (now («run_counts» .entry)) (now (rx .entry))
+    ensures { λ r. ⌜ Ends (Timing·settings words period) date from (now (host .entry)) (now («run_dates» .entry))
+        (now («run_counts» .entry)) (now (rx .entry))
         (r .reception) (now («run_counts» .exit)) (now (rx .exit)) (r .passes) (r .overflows) ⌝ }
 {
     let run = from.runs.start;
@@ -107,13 +116,13 @@ pub fn through<'a>(
     let receiving = from.receiving;
     let waits = crate::runs::waiting(from.host.count, from.runs.count, run_date);
     if quiet(since, receiving, waits, line.line_free_at, date) {
-        Ended {
+        Passes {
             reception: from,
             passes: 1,
             overflows: 0,
         }
     } else {
         let settings = timing::settings(words, period);
-        passes(from, settings, date, host, run_dates, run_counts, rx)
+        take_all_on_the_line(from, settings, date, host, run_dates, run_counts, rx)
     }
 }

@@ -37,25 +37,27 @@ pub fn last_date(runs: Cursor, run_dates: &[u64; 64]) -> u64
 }
 
 // Whether bytes for a date join the last run: it is no later than that run's.
-fn joins(runs: usize, last: u64, date: u64) -> bool
+fn joins_last(runs: usize, last: u64, date: u64) -> bool
     ensures { λ r. ⌜ r ≡ Joins·joins runs last date ⌝ }
 {
     if 0 < runs { date <= last } else { false }
 }
 
 // n bytes for a date join the last run, or make a run of their own.
-pub fn joined<'a>(
+pub fn join<'a>(
     runs: Cursor,
     run_dates: &'a mut [u64; 64],
     run_counts: &'a mut [u64; 64],
     date: u64,
     n: u64,
 ) -> Cursor
-    requires { ⌜ Held 64 runs × (length (now «run_dates») ≡ 64) × (length (now «run_counts») ≡ 64) × RoomFor runs (now «run_dates») (now «run_counts») date n ⌝ }
-    ensures { λ r. ⌜ Joins date n runs (now («run_dates» .entry)) (now («run_counts» .entry)) r (now («run_dates» .exit)) (now («run_counts» .exit)) ⌝ }
+    requires { ⌜ Held 64 runs × (length (now «run_dates») ≡ 64) × (length (now «run_counts») ≡ 64) × RoomFor runs (now «run_dates»)
+        (now «run_counts») date n ⌝ }
+    ensures { λ r. ⌜ Joins date n runs (now («run_dates» .entry)) (now («run_counts» .entry)) r (now («run_dates» .exit))
+        (now («run_counts» .exit)) ⌝ }
 {
     let last = runs.last(64);
-    if joins(runs.count, run_dates[last], date) {
+    if joins_last(runs.count, run_dates[last], date) {
         run_counts[last] = run_counts[last] + n;
         runs
     } else {

@@ -1,7 +1,7 @@
 // Settling: departures, then the line pass by pass, then levels and the interrupt.
 use crate::Core;
 use crate::departures;
-use crate::departures::Sent;
+use crate::departures::Transmitter;
 use crate::pass::Reception;
 use model::Line;
 ghost use mathlib.Core.Path.{_≡_};
@@ -11,7 +11,7 @@ ghost use Rattle.device.specs.Wholes.{arrays};
 ghost use Rattle.device.specs.Settles.{Settles, receptionOf, together as Settles·together};
 
 #[repr(C)]
-pub struct SettledCore {
+pub struct SettleCore {
     pub core: Core,
     pub passes: u64,
     pub overflows: u64,
@@ -36,7 +36,7 @@ fn reception(core: Core, line: Line) -> Reception
 }
 
 // The core with what a settling changed.
-fn together(core: Core, sent: Sent, at: Reception, line: Line, level: bool) -> Core
+fn together(core: Core, sent: Transmitter, at: Reception, line: Line, level: bool) -> Core
     ensures { λ r. ⌜ r ≡ Settles·together core (sent .flight) (sent .tx) at line level ⌝ }
 {
     let map = core.map;
@@ -63,7 +63,7 @@ fn together(core: Core, sent: Sent, at: Reception, line: Line, level: bool) -> C
 }
 
 // Settles the UART whose arrays are lent.
-pub fn settled<'a>(
+pub fn settle<'a>(
     core: Core,
     gone_at: &'a [u64; 129],
     flight: &'a [u8; 129],
@@ -73,12 +73,14 @@ pub fn settled<'a>(
     run_counts: &'a mut [u64; 64],
     rx: &'a mut [u8; 128],
     cycle: u64,
-) -> SettledCore
+) -> SettleCore
     requires { ⌜ Ok core (arrays (now «gone_at») (now flight) (now tx) (now host) (now «run_dates») (now «run_counts») (now rx)) ⌝ }
     ensures { λ r. ⌜ Settles
-        (settle cycle (abs core (arrays (now («gone_at» .entry)) (now (flight .entry)) (now (tx .entry)) (now (host .entry)) (now («run_dates» .entry)) (now («run_counts» .entry)) (now (rx .entry)))))
+        (settle cycle (abs core (arrays (now («gone_at» .entry)) (now (flight .entry)) (now (tx .entry)) (now (host .entry))
+        (now («run_dates» .entry)) (now («run_counts» .entry)) (now (rx .entry)))))
         (r .core)
-        (arrays (now («gone_at» .entry)) (now (flight .entry)) (now (tx .exit)) (now (host .entry)) (now («run_dates» .entry)) (now («run_counts» .exit)) (now (rx .exit)))
+        (arrays (now («gone_at» .entry)) (now (flight .entry)) (now (tx .exit)) (now (host .entry)) (now («run_dates» .entry))
+        (now («run_counts» .exit)) (now (rx .exit)))
         (r .passes) (r .overflows) ⌝ }
 {
     let control = core.control;
@@ -90,7 +92,7 @@ pub fn settled<'a>(
     let before = control.line;
     let line = line::levels::tx_done(core.flight.count, sent.flight.count, before);
     let from = reception(core, line);
-    let ended = crate::passes::through(
+    let ended = crate::passes::settle_line(
         from,
         words,
         control.period,
@@ -102,10 +104,10 @@ pub fn settled<'a>(
     );
     let at = ended.reception;
     let last = at.line;
-    let leveled = line::levels::levels(last, words.conf1, at.rx.count, sent.flight.count);
+    let leveled = line::levels::assert_levels(last, words.conf1, at.rx.count, sent.flight.count);
     let level = line::levels::level(leveled, words.int_ena);
     let settled = together(core, sent, at, leveled, level);
-    SettledCore {
+    SettleCore {
         core: settled,
         passes: ended.passes,
         overflows: ended.overflows,

@@ -23,12 +23,15 @@ pub extern "C" fn wondraxu_clock_change<'a>(
     cycle: u64,
     period: u64,
 ) -> PlainAnswer
-    requires { ⌜ Ok (coreOf core) (arrays (now «gone_at») (now flight) (now tx) (now host) (now «run_dates») (now «run_counts») (now rx)) ⌝ }
+    requires { ⌜ Ok (coreOf core) (arrays (now «gone_at») (now flight) (now tx) (now host) (now «run_dates») (now «run_counts»)
+        (now rx)) ⌝ }
     ensures { λ r. ⌜ Plainly plainDone
         (λ c c′. DoneWith (clockChange cycle period) c
-        (arrays (now («gone_at» .entry)) (now (flight .entry)) (now (tx .entry)) (now (host .entry)) (now («run_dates» .entry)) (now («run_counts» .entry)) (now (rx .entry)))
+        (arrays (now («gone_at» .entry)) (now (flight .entry)) (now (tx .entry)) (now (host .entry)) (now («run_dates» .entry))
+        (now («run_counts» .entry)) (now (rx .entry)))
         c′
-        (arrays (now («gone_at» .entry)) (now (flight .entry)) (now (tx .exit)) (now (host .entry)) (now («run_dates» .entry)) (now («run_counts» .exit)) (now (rx .exit))))
+        (arrays (now («gone_at» .entry)) (now (flight .entry)) (now (tx .exit)) (now (host .entry)) (now («run_dates» .entry))
+        (now («run_counts» .exit)) (now (rx .exit))))
         core r ⌝ }
 {
     let from = ffi::core_of(core);

@@ -1,4 +1,5 @@
-// exports: export_undated, export_receive, export_reset, export_write, export_read, export_wake, export_clock_change, export_take_tx, export_new, export_watch, export_power_down, export_take_written.
+// The calls for Rust and C, a module for each: the core in plain numbers by value, the slots of the queues by pointer. rust/build-lib
+// makes an object of each module.
 pub mod clock_change;
 pub mod new;
 pub mod power_down;

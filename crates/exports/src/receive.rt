@@ -24,12 +24,15 @@ pub extern "C" fn wondraxu_receive<'a, 'b>(
     at: u64,
     bytes: &'b [u8],
 ) -> PlainAnswer
-    requires { ⌜ Ok (coreOf core) (arrays (now «gone_at») (now flight) (now tx) (now host) (now «run_dates») (now «run_counts») (now rx)) ⌝ }
+    requires { ⌜ Ok (coreOf core) (arrays (now «gone_at») (now flight) (now tx) (now host) (now «run_dates») (now «run_counts»)
+        (now rx)) ⌝ }
     ensures { λ r. ⌜ Plainly plainDone
         (λ c c′. DoneWith (receive cycle at (now (bytes .entry))) c
-        (arrays (now («gone_at» .entry)) (now (flight .entry)) (now (tx .entry)) (now (host .entry)) (now («run_dates» .entry)) (now («run_counts» .entry)) (now (rx .entry)))
+        (arrays (now («gone_at» .entry)) (now (flight .entry)) (now (tx .entry)) (now (host .entry)) (now («run_dates» .entry))
+        (now («run_counts» .entry)) (now (rx .entry)))
         c′
-        (arrays (now («gone_at» .entry)) (now (flight .entry)) (now (tx .exit)) (now (host .exit)) (now («run_dates» .exit)) (now («run_counts» .exit)) (now (rx .exit))))
+        (arrays (now («gone_at» .entry)) (now (flight .entry)) (now (tx .exit)) (now (host .exit)) (now («run_dates» .exit))
+        (now («run_counts» .exit)) (now (rx .exit))))
         core r ⌝ }
 {
     let from = ffi::core_of(core);

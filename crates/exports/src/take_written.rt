@@ -23,7 +23,8 @@ pub extern "C" fn wondraxu_take_written<'a>(
     requires { ⌜ Held 129 (coreOf core .flight) × Held 1152 (coreOf core .tx) × (length (now flight) ≡ 129) × (length (now tx) ≡ 1152)
         × (coreOf core .tx .count + coreOf core .flight .count ≤ sentLimit) ⌝ }
     ensures { λ r. ⌜ ((a : Arrays) → a .flight ≡ now (flight .entry) → a .tx ≡ now (tx .entry) → Ok (coreOf core) a
-        → Plainly plainTaken (λ c c′ reply report. TakesWith (takeWritten (now (out .entry))) c a c′ a reply report (now (out .exit))) core r) ⌝ }
+        → Plainly plainTaken (λ c c′ reply report. TakesWith (takeWritten (now (out .entry))) c a c′ a reply report
+        (now (out .exit))) core r) ⌝ }
 {
     let from = ffi::core_of(core);
     let done = host::take_written::take_written(from, flight, tx, out);

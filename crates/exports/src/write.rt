@@ -25,13 +25,17 @@ pub extern "C" fn wondraxu_write<'a>(
     offset: u32,
     value: u32,
 ) -> PlainAnswer
-    requires { ⌜ Ok (coreOf core) (arrays (now «gone_at») (now flight) (now tx) (now host) (now «run_dates») (now «run_counts») (now rx)) ⌝ }
+    requires { ⌜ Ok (coreOf core) (arrays (now «gone_at») (now flight) (now tx) (now host) (now «run_dates») (now «run_counts»)
+        (now rx)) ⌝ }
     ensures { λ r. ⌜ Plainly plainWrite
         (λ c c′. Answers (λ x. x) writeNumber
-        (write cycle offset value (abs c (arrays (now («gone_at» .entry)) (now (flight .entry)) (now (tx .entry)) (now (host .entry)) (now («run_dates» .entry)) (now («run_counts» .entry)) (now (rx .entry))))) c
-        (arrays (now («gone_at» .entry)) (now (flight .entry)) (now (tx .entry)) (now (host .entry)) (now («run_dates» .entry)) (now («run_counts» .entry)) (now (rx .entry)))
+        (write cycle offset value (abs c (arrays (now («gone_at» .entry)) (now (flight .entry)) (now (tx .entry)) (now (host .entry))
+        (now («run_dates» .entry)) (now («run_counts» .entry)) (now (rx .entry))))) c
+        (arrays (now («gone_at» .entry)) (now (flight .entry)) (now (tx .entry)) (now (host .entry)) (now («run_dates» .entry))
+        (now («run_counts» .entry)) (now (rx .entry)))
         c′
-        (arrays (now («gone_at» .exit)) (now (flight .exit)) (now (tx .exit)) (now (host .entry)) (now («run_dates» .entry)) (now («run_counts» .exit)) (now (rx .exit))))
+        (arrays (now («gone_at» .exit)) (now (flight .exit)) (now (tx .exit)) (now (host .entry)) (now («run_dates» .entry))
+        (now («run_counts» .exit)) (now (rx .exit))))
         core r ⌝ }
 {
     let from = ffi::core_of(core);

@@ -6,7 +6,7 @@ use access::read::ReadCore;
 use access::write::WriteCore;
 use calls::answers::DoneCore;
 use device::Core;
-use host::taken::TakenCore;
+use host::answers::TakeCore;
 use model::Report;
 ghost use mathlib.Core.Path.{_≡_};
 ghost use Rattle.ffi.specs.Replies.{plainRead, plainWrite, plainDone, plainTaken};
@@ -61,7 +61,7 @@ pub fn done_answer(done: DoneCore) -> PlainAnswer
     answer(core, plain_reply, report)
 }
 
-pub fn taken_answer(done: TakenCore) -> PlainAnswer
+pub fn taken_answer(done: TakeCore) -> PlainAnswer
     ensures { λ r. ⌜ r ≡ plainAnswer (done .core) (plainTaken (done .reply)) (done .report) ⌝ }
 {
     let core = done.core;

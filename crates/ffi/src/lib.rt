@@ -1,4 +1,4 @@
-// ffi: plain, plain_replies, plain_answers.
+// The core, replies and reports in plain numbers, as Rust and C hold them: an exported function may neither take nor give an enum.
 pub mod answers;
 pub mod notices;
 pub mod replies;

@@ -52,7 +52,7 @@ fn number_of(refusal: Refusal) -> u32
     }
 }
 
-fn refused(refusal: Refusal) -> PlainReply
+fn refusal_reply(refusal: Refusal) -> PlainReply
     ensures { λ r. ⌜ r ≡ refusedReply refusal ⌝ }
 {
     PlainReply {
@@ -77,7 +77,7 @@ pub fn set_up_reply(reply: SetUp) -> PlainReply
 {
     match reply {
         SetUp::Ready => carried_out(true, 0),
-        SetUp::Refused(refusal) => refused(refusal),
+        SetUp::Refused(refusal) => refusal_reply(refusal),
     }
 }
 
@@ -87,7 +87,7 @@ pub fn read_reply(reply: Read) -> PlainReply
     match reply {
         Read::Value(value) => carried_out(true, value as u64),
         Read::NoValue => carried_out(false, 0),
-        Read::Refused(refusal) => refused(refusal),
+        Read::Refused(refusal) => refusal_reply(refusal),
     }
 }
 
@@ -97,7 +97,7 @@ pub fn write_reply(reply: Write) -> PlainReply
     match reply {
         Write::Accepted => carried_out(true, 0),
         Write::NotAccepted => carried_out(false, 0),
-        Write::Refused(refusal) => refused(refusal),
+        Write::Refused(refusal) => refusal_reply(refusal),
     }
 }
 
@@ -106,7 +106,7 @@ pub fn done_reply(reply: Done) -> PlainReply
 {
     match reply {
         Done::Done => carried_out(true, 0),
-        Done::Refused(refusal) => refused(refusal),
+        Done::Refused(refusal) => refusal_reply(refusal),
     }
 }
 
@@ -115,7 +115,7 @@ pub fn taken_reply(reply: Taken) -> PlainReply
 {
     match reply {
         Taken::Bytes(count) => carried_out(true, count as u64),
-        Taken::Refused(refusal) => refused(refusal),
+        Taken::Refused(refusal) => refusal_reply(refusal),
     }
 }
 

@@ -11,7 +11,7 @@ use lib.ListN.{length, take, getD}
 use Rattle.model.specs.State.{Run}
 use Rattle.model.specs.Settle
 use Rattle.model.specs.Calls
-use Rattle.model.specs.Calls.{unless, dated, settledAt, quiet, lastDate, hostDate, handOver, receiveWork}
+use Rattle.model.specs.Calls.{unless, dated, settleAt, quiet, lastDate, hostDate, handOver, receiveWork}
 use Rattle.model.specs.Tests.{dateEnd, hostFull, runsFull}
 use Rattle.model.specs.Keeps.Dated.{not-refused}
 use Rattle.model.specs.Limits.{sum, runCounts}
@@ -55,10 +55,10 @@ count-low c a ok pos =
     in
     omega (arith, low, ok .within .runSum, ok .within .host)
 
-module _ (cycle date k : ℕ) (c : Core) (a : Arrays) {c₁ : Core} {a₁ : Arrays} {n o : ℕ} (s : Settles (settledAt cycle (abs c a)) c₁ a₁ n o) (room : Room c a date k)
+module _ (cycle date k : ℕ) (c : Core) (a : Arrays) {c₁ : Core} {a₁ : Arrays} {n o : ℕ} (s : Settles (settleAt cycle (abs c a)) c₁ a₁ n o) (room : Room c a date k)
     (some-byte : 1 ≤ k) where
   keeps : Kept (dated cycle (abs c a)) (abs c₁ a₁)
-  unfolding settledAt
+  unfolding settleAt
   keeps =
       subst (Kept (dated cycle (abs c a))) (sym (ap (λ (t : Settle.Settled ℕ ℕ). t .state) (s .same))) (settle-keeps cycle (dated cycle (abs c a)))
 
@@ -90,7 +90,7 @@ module _ (cycle date k : ℕ) (c : Core) (a : Arrays) {c₁ : Core} {a₁ : Arra
 -- ---- what a hand-over asks, after the settling
 
 pub takes : (cycle date : ℕ) (bs : List ℕ) {c : Core} {a : Arrays} {d : ℕ} → Room c a date (length bs) → {c₁ : Core} {a₁ : Arrays} {n o : ℕ}
-    → Settles (settledAt cycle (abs c a)) c₁ a₁ n o → d ≡ date → Takes c₁ (a₁ .goneAt) (a₁ .host) (a₁ .runDates) (a₁ .runCounts) d (length bs)
+    → Settles (settleAt cycle (abs c a)) c₁ a₁ n o → d ≡ date → Takes c₁ (a₁ .goneAt) (a₁ .host) (a₁ .runDates) (a₁ .runCounts) d (length bs)
 takes cycle date bs {c} {a} room {c₁} {a₁} s e =
     let k = s .ok .shape in
     subst (λ (x : ℕ). Takes c₁ (a₁ .goneAt) (a₁ .host) (a₁ .runDates) (a₁ .runCounts) x (length bs)) (sym e)
@@ -107,7 +107,7 @@ takes cycle date bs {c} {a} room {c₁} {a₁} s e =
 
 -- settled, and handed over
 pub received : (cycle at : ℕ) (bs : List ℕ) {c : Core} {a : Arrays} → Ok c a → {c₁ : Core} {a₁ : Arrays} {n o d : ℕ} {c₂ : Core} {hosts′ dates′ counts′ : List ℕ} {r : DoneCore}
-    → Settles (settledAt cycle (abs c a)) c₁ a₁ n o → d ≡ hostDate cycle at
+    → Settles (settleAt cycle (abs c a)) c₁ a₁ n o → d ≡ hostDate cycle at
     → HandsAny d bs c₁ (a₁ .goneAt) (a₁ .host) (a₁ .runDates) (a₁ .runCounts) c₂ hosts′ dates′ counts′ → r ≡ doneCore c₂ n o
     → Works (λ x. x) (receiveWork cycle at bs (abs c a)) (r .core) (waitingArrays a₁ hosts′ dates′ counts′) (r .reply) (r .report)
 unfolding receiveWork quiet

@@ -18,7 +18,7 @@ use Rattle.queue.specs.declared.Cursor.{Cursor}
 use Rattle.device.specs.Holds.{Arrays, abs, Shape, Ok}
 use Rattle.device.specs.declared.Core.{Core}
 use Rattle.calls.specs.Answers.{Answers, Works, reportOf, carried, turned-away}
-use Rattle.host.specs.declared.taken.TakenCore.{TakenCore}
+use Rattle.host.specs.declared.answers.TakeCore.{TakeCore}
 
 -- the number of a reply
 abbrev pub takeNumber : Take ℕ ℕ → ℕ
@@ -54,13 +54,13 @@ emptied-shape c a flight f k = record {
 
 -- ---- the structs
 
-abbrev pub takenCore : Core → ℕ → ℕ → ℕ → TakenCore
+abbrev pub takenCore : Core → ℕ → ℕ → ℕ → TakeCore
 takenCore c n passes overflows = record { core = c; reply = Taken.Bytes n; report = reportOf c passes overflows (noted []) }
 
-abbrev pub undatedCore : Core → ℕ → TakenCore
+abbrev pub undatedCore : Core → ℕ → TakeCore
 undatedCore c n = record { core = c; reply = Taken.Bytes n; report = noReport }
 
-abbrev pub refusedTake : Core → Refusal → TakenCore
+abbrev pub refusedTake : Core → Refusal → TakeCore
 refusedTake c q = record { core = c; reply = Taken.Refused q; report = noReport }
 
 -- ---- refused, or carried out
@@ -77,12 +77,12 @@ module _ {call : Outcome (Take ℕ ℕ) ℕ ℕ} {tests : Option Refusal} (lent 
       (carried (λ t. t .taken) takeNumber (notTaken lent) work c a e t w z (k .0), k .1 ∙ sym (ap (λ (x : Outcome (Take ℕ ℕ) ℕ ℕ). contents (x .reply)) done))
 
   -- a test refuses, and the buffer keeps every byte
-  pub take-refused : {q : Refusal} {r : TakenCore} → tests ≡ some q → Ok c a → r ≡ refusedTake c q
+  pub take-refused : {q : Refusal} {r : TakeCore} → tests ≡ some q → Ok c a → r ≡ refusedTake c q
       → Answers (λ t. t .taken) takeNumber call c a (r .core) a (r .reply) (r .report) × (lent ≡ contents (call .reply))
   unfolding unless refusing notTaken contents
   take-refused {q} t ok same =
       let done : call ≡ refusing (notTaken lent q) (abs c a) = e ∙ ap (λ (x : Option Refusal). unless x (notTaken lent) work (abs c a)) t in (
-        subst (λ (x : TakenCore). Answers (λ t. t .taken) takeNumber call c a (x .core) a (x .reply) (x .report)) (sym same)
+        subst (λ (x : TakeCore). Answers (λ t. t .taken) takeNumber call c a (x .core) a (x .reply) (x .report)) (sym same)
             (turned-away (λ t. t .taken) takeNumber (notTaken lent) work c a e t ok),
         sym (ap (λ (x : Outcome (Take ℕ ℕ) ℕ ℕ). contents (x .reply)) done),
       )

@@ -3,7 +3,7 @@ use calls::answers;
 use calls::answers::DoneCore;
 use calls::settle_at;
 use device::Core;
-use replies::refusals::Checked;
+use replies::refusals::Verdict;
 use replies::refusals::Waiting;
 ghost use mathlib.Core.Path.{_≡_};
 ghost use Prim.Native.Nat.{_<_};
@@ -24,7 +24,9 @@ fn host_date(cycle: u64, at: u64) -> u64
 }
 
 // The bytes wait behind the others, and the wake is armed; none changes nothing.
-fn handed<'a, 'b>(
+// ASSUMPTION: the host sends at the baud rate and in the frame that the UART is set to, as a terminal set to match it does;
+// another rate would give framing errors, which the model does not have.
+fn hand_over<'a, 'b>(
     mut core: Core,
     gone_at: &'a [u64; 129],
     host: &'a mut [u8; 1024],
@@ -34,20 +36,21 @@ fn handed<'a, 'b>(
     bytes: &'b [u8],
 ) -> Core
     requires { ⌜ Takes core (now «gone_at») (now host) (now «run_dates») (now «run_counts») date (length (now bytes)) ⌝ }
-    ensures { λ r. ⌜ HandsAny date (now (bytes .entry)) core (now («gone_at» .entry)) (now (host .entry)) (now («run_dates» .entry)) (now («run_counts» .entry)) r (now (host .exit)) (now («run_dates» .exit)) (now («run_counts» .exit)) ⌝ }
+    ensures { λ r. ⌜ HandsAny date (now (bytes .entry)) core (now («gone_at» .entry)) (now (host .entry)) (now («run_dates» .entry))
+        (now («run_counts» .entry)) r (now (host .exit)) (now («run_dates» .exit)) (now («run_counts» .exit)) ⌝ }
 {
     let n = bytes.len();
     if n == 0 {
         return core;
     }
     let waiting = queue::copy::append(core.host, 1024, host, bytes);
-    let runs = device::runs::joined(core.runs, run_dates, run_counts, date, n as u64);
+    let runs = device::runs::join(core.runs, run_dates, run_counts, date, n as u64);
     core.host = waiting;
     core.runs = runs;
     device::arm::arm(core, gone_at, run_dates)
 }
 
-fn received<'a, 'b>(
+fn carry_out<'a, 'b>(
     core: Core,
     gone_at: &'a [u64; 129],
     flight: &'a [u8; 129],
@@ -60,14 +63,18 @@ fn received<'a, 'b>(
     at: u64,
     bytes: &'b [u8],
 ) -> DoneCore
-    requires { ⌜ Ok core (arrays (now «gone_at») (now flight) (now tx) (now host) (now «run_dates») (now «run_counts») (now rx)) × (cycle < dateEnd) × Room core (arrays (now «gone_at») (now flight) (now tx) (now host) (now «run_dates») (now «run_counts») (now rx)) (hostDate cycle at) (length (now bytes)) ⌝ }
+    requires { ⌜ Ok core (arrays (now «gone_at») (now flight) (now tx) (now host) (now «run_dates») (now «run_counts») (now rx))
+        × (cycle < dateEnd) × Room core (arrays (now «gone_at») (now flight) (now tx) (now host) (now «run_dates») (now «run_counts»)
+        (now rx)) (hostDate cycle at) (length (now bytes)) ⌝ }
     ensures { λ r. ⌜ Works (λ x. x)
-        (receiveWork cycle at (now (bytes .entry)) (abs core (arrays (now («gone_at» .entry)) (now (flight .entry)) (now (tx .entry)) (now (host .entry)) (now («run_dates» .entry)) (now («run_counts» .entry)) (now (rx .entry)))))
+        (receiveWork cycle at (now (bytes .entry)) (abs core (arrays (now («gone_at» .entry)) (now (flight .entry)) (now (tx .entry))
+        (now (host .entry)) (now («run_dates» .entry)) (now («run_counts» .entry)) (now (rx .entry)))))
         (r .core)
-        (arrays (now («gone_at» .entry)) (now (flight .entry)) (now (tx .exit)) (now (host .exit)) (now («run_dates» .exit)) (now («run_counts» .exit)) (now (rx .exit)))
+        (arrays (now («gone_at» .entry)) (now (flight .entry)) (now (tx .exit)) (now (host .exit)) (now («run_dates» .exit))
+        (now («run_counts» .exit)) (now (rx .exit)))
         (r .reply) (r .report) ⌝ }
 {
-    let t = settle_at::settled_at(
+    let t = settle_at::settle_at(
         core,
         gone_at,
         flight,
@@ -78,7 +85,7 @@ fn received<'a, 'b>(
         rx,
         cycle,
     );
-    let next = handed(
+    let next = hand_over(
         t.core,
         gone_at,
         host,
@@ -105,9 +112,11 @@ pub fn receive<'a, 'b>(
 ) -> DoneCore
     requires { ⌜ Ok core (arrays (now «gone_at») (now flight) (now tx) (now host) (now «run_dates») (now «run_counts») (now rx)) ⌝ }
     ensures { λ r. ⌜ DoneWith (Calls·receive cycle at (now (bytes .entry))) core
-        (arrays (now («gone_at» .entry)) (now (flight .entry)) (now (tx .entry)) (now (host .entry)) (now («run_dates» .entry)) (now («run_counts» .entry)) (now (rx .entry)))
+        (arrays (now («gone_at» .entry)) (now (flight .entry)) (now (tx .entry)) (now (host .entry)) (now («run_dates» .entry))
+        (now («run_counts» .entry)) (now (rx .entry)))
         (r .core)
-        (arrays (now («gone_at» .entry)) (now (flight .entry)) (now (tx .exit)) (now (host .exit)) (now («run_dates» .exit)) (now («run_counts» .exit)) (now (rx .exit)))
+        (arrays (now («gone_at» .entry)) (now (flight .entry)) (now (tx .exit)) (now (host .exit)) (now («run_dates» .exit))
+        (now («run_counts» .exit)) (now (rx .exit)))
         (r .reply) (r .report) ⌝ }
 {
     let control = core.control;
@@ -119,8 +128,8 @@ pub fn receive<'a, 'b>(
     let date = host_date(cycle, at);
     let tests = replies::refusals::receive_refusal(cycle, control.last, waiting, bytes.len(), date);
     match tests {
-        Checked::Refused(refusal) => answers::refused(core, refusal),
-        Checked::Passed => received(
+        Verdict::Refused(refusal) => answers::refuse(core, refusal),
+        Verdict::Passed => carry_out(
             core,
             gone_at,
             flight,

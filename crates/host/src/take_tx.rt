@@ -1,10 +1,10 @@
 // take_tx: settle, and hand out the bytes that have left. It arms nothing.
-use crate::taken;
-use crate::taken::TakenCore;
+use crate::answers;
+use crate::answers::TakeCore;
 use calls::settle_at;
 use device::Core;
 use queue::Cursor;
-use replies::refusals::Checked;
+use replies::refusals::Verdict;
 ghost use mathlib.Core.Path.{_≡_};
 ghost use Prim.Native.Nat.{_<_, _≤_};
 ghost use lib.ListN.{length};
@@ -14,7 +14,7 @@ ghost use Rattle.device.specs.Holds.{abs, Ok};
 ghost use Rattle.device.specs.Wholes.{arrays};
 ghost use Rattle.host.specs.Takes.{TakeWorks, TakesWith};
 
-fn taken<'a, 'b>(
+fn carry_out<'a, 'b>(
     core: Core,
     gone_at: &'a [u64; 129],
     flight: &'a [u8; 129],
@@ -25,15 +25,18 @@ fn taken<'a, 'b>(
     rx: &'a mut [u8; 128],
     cycle: u64,
     out: &'b mut [u8],
-) -> TakenCore
-    requires { ⌜ Ok core (arrays (now «gone_at») (now flight) (now tx) (now host) (now «run_dates») (now «run_counts») (now rx)) × (cycle < dateEnd) × (sentLimit ≤ length (now out)) ⌝ }
+) -> TakeCore
+    requires { ⌜ Ok core (arrays (now «gone_at») (now flight) (now tx) (now host) (now «run_dates») (now «run_counts») (now rx))
+        × (cycle < dateEnd) × (sentLimit ≤ length (now out)) ⌝ }
     ensures { λ r. ⌜ TakeWorks
-        (takeTxWork cycle (now (out .entry)) (abs core (arrays (now («gone_at» .entry)) (now (flight .entry)) (now (tx .entry)) (now (host .entry)) (now («run_dates» .entry)) (now («run_counts» .entry)) (now (rx .entry)))))
+        (takeTxWork cycle (now (out .entry)) (abs core (arrays (now («gone_at» .entry)) (now (flight .entry)) (now (tx .entry))
+        (now (host .entry)) (now («run_dates» .entry)) (now («run_counts» .entry)) (now (rx .entry)))))
         (r .core)
-        (arrays (now («gone_at» .entry)) (now (flight .entry)) (now (tx .exit)) (now (host .entry)) (now («run_dates» .entry)) (now («run_counts» .exit)) (now (rx .exit)))
+        (arrays (now («gone_at» .entry)) (now (flight .entry)) (now (tx .exit)) (now (host .entry)) (now («run_dates» .entry))
+        (now («run_counts» .exit)) (now (rx .exit)))
         (r .reply) (r .report) (now (out .exit)) ⌝ }
 {
-    let t = settle_at::settled_at(
+    let t = settle_at::settle_at(
         core,
         gone_at,
         flight,
@@ -47,7 +50,7 @@ fn taken<'a, 'b>(
     let mut settled = t.core;
     let count = queue::copy::copy_out(settled.tx, 1152, tx, out);
     settled.tx = Cursor::new();
-    taken::taken(settled, count, t.passes, t.overflows)
+    answers::done(settled, count, t.passes, t.overflows)
 }
 
 pub fn take_tx<'a, 'b>(
@@ -61,19 +64,21 @@ pub fn take_tx<'a, 'b>(
     rx: &'a mut [u8; 128],
     cycle: u64,
     out: &'b mut [u8],
-) -> TakenCore
+) -> TakeCore
     requires { ⌜ Ok core (arrays (now «gone_at») (now flight) (now tx) (now host) (now «run_dates») (now «run_counts») (now rx)) ⌝ }
     ensures { λ r. ⌜ TakesWith (takeTx cycle (now (out .entry))) core
-        (arrays (now («gone_at» .entry)) (now (flight .entry)) (now (tx .entry)) (now (host .entry)) (now («run_dates» .entry)) (now («run_counts» .entry)) (now (rx .entry)))
+        (arrays (now («gone_at» .entry)) (now (flight .entry)) (now (tx .entry)) (now (host .entry)) (now («run_dates» .entry))
+        (now («run_counts» .entry)) (now (rx .entry)))
         (r .core)
-        (arrays (now («gone_at» .entry)) (now (flight .entry)) (now (tx .exit)) (now (host .entry)) (now («run_dates» .entry)) (now («run_counts» .exit)) (now (rx .exit)))
+        (arrays (now («gone_at» .entry)) (now (flight .entry)) (now (tx .exit)) (now (host .entry)) (now («run_dates» .entry))
+        (now («run_counts» .exit)) (now (rx .exit)))
         (r .reply) (r .report) (now (out .exit)) ⌝ }
 {
     let control = core.control;
     let tests = replies::refusals::take_refusal(cycle, control.last, out.len());
     match tests {
-        Checked::Refused(refusal) => taken::refused(core, refusal),
-        Checked::Passed => taken(
+        Verdict::Refused(refusal) => answers::refuse(core, refusal),
+        Verdict::Passed => carry_out(
             core,
             gone_at,
             flight,

@@ -1,9 +1,9 @@
 // take_written: all that was written is handed out, the bytes that left and then those in flight. It does not settle.
-use crate::taken;
-use crate::taken::TakenCore;
+use crate::answers;
+use crate::answers::TakeCore;
 use device::Core;
 use queue::Cursor;
-use replies::refusals::Checked;
+use replies::refusals::Verdict;
 ghost use mathlib.Core.Path.{_≡_};
 ghost use Prim.Native.Nat.{_+_, _≤_};
 ghost use lib.ListN.{length};
@@ -15,7 +15,7 @@ ghost use Rattle.host.specs.Takes.{TakesWith};
 ghost use Rattle.host.specs.TakesWritten.{Filled};
 
 // The buffer's rest, from the count of left bytes on, is lent to the second copy.
-fn filled<'a>(core: Core, flight: &'a [u8; 129], tx: &'a [u8; 1152], out: &'a mut [u8]) -> usize
+fn fill<'a>(core: Core, flight: &'a [u8; 129], tx: &'a [u8; 1152], out: &'a mut [u8]) -> usize
     requires { ⌜ Held 129 (core .flight) × Held 1152 (core .tx) × (length (now flight) ≡ 129) × (length (now tx) ≡ 1152)
         × (core .tx .count + core .flight .count ≤ sentLimit) × (sentLimit ≤ length (now out)) ⌝ }
     ensures { λ r. ⌜ Filled core (now (flight .entry)) (now (tx .entry)) (now (out .entry)) r (now (out .exit)) ⌝ }
@@ -31,7 +31,7 @@ pub fn take_written<'a>(
     flight: &'a [u8; 129],
     tx: &'a [u8; 1152],
     out: &'a mut [u8],
-) -> TakenCore
+) -> TakeCore
     requires { ⌜ Held 129 (core .flight) × Held 1152 (core .tx) × (length (now flight) ≡ 129) × (length (now tx) ≡ 1152)
         × (core .tx .count + core .flight .count ≤ sentLimit) ⌝ }
     ensures { λ r. ⌜ ((a : Arrays) → a .flight ≡ now (flight .entry) → a .tx ≡ now (tx .entry) → Ok core a
@@ -39,13 +39,13 @@ pub fn take_written<'a>(
 {
     let tests = replies::refusals::written_refusal(out.len());
     match tests {
-        Checked::Refused(refusal) => taken::refused(core, refusal),
-        Checked::Passed => {
-            let count = filled(core, flight, tx, out);
+        Verdict::Refused(refusal) => answers::refuse(core, refusal),
+        Verdict::Passed => {
+            let count = fill(core, flight, tx, out);
             let mut rest = core;
             rest.flight = Cursor::new();
             rest.tx = Cursor::new();
-            taken::undated(rest, count)
+            answers::undated(rest, count)
         }
     }
 }

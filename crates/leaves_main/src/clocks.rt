@@ -38,7 +38,7 @@ fn earlier(due: Date, at: u64) {
     show::date(due);
     show::number(at);
     show::text(b" =");
-    let armed = Deadline { due }.armed(at);
+    let armed = Deadline { due }.after_arm(at);
     let after = armed.due;
     show::date(after);
     show::text(b"\n");

@@ -14,31 +14,31 @@ use Rattle.model.specs.declared.Line.{Line}
 use Rattle.model.specs.declared.Settings.{Settings}
 use Rattle.line.specs.declared.Receiving.{Receiving}
 use Rattle.line.specs.declared.Move.{Move}
-use Rattle.line.specs.declared.pass.Begun.{Begun}
+use Rattle.line.specs.declared.pass.FrameStart.{FrameStart}
 use Rattle.line.specs.Moves
 use Rattle.line.specs.Moves.{inFrame, beforeStart, idle, move}
 
 -- no byte starts
-abbrev pub kept : Receiving → Line → Begun
+abbrev pub kept : Receiving → Line → FrameStart
 kept r l = record { receiving = r; started = false; line = l }
 
 module _ (s : Settings) (date : ℕ) where
   -- a host byte waits for its start: it comes unless it is dated later, or a timeout is due by it
-  unfoldable pub started : ℕ → Line → Begun
+  unfoldable pub started : ℕ → Line → FrameStart
   started at l =
       choose (ltb date at) (kept Receiving.None l)
       (choose (dueBy at (timeoutAt s l)) (kept Receiving.None l) (record { receiving = Receiving.OnTheLine (frame s); started = true; line = start s at l }))
 
-  unfoldable pub lineFree : Date → Line → Begun
+  unfoldable pub lineFree : Date → Line → FrameStart
   lineFree Date.None l = kept Receiving.None l
   lineFree (Date.At run) l = started (later run (l .«line_free_at»)) l
 
-  unfoldable pub begun : Date → Receiving → Line → Begun
+  unfoldable pub begun : Date → Receiving → Line → FrameStart
   begun waiting Receiving.None l = lineFree waiting l
   begun waiting (Receiving.OnTheLine f) l = kept (Receiving.OnTheLine f) l
 
   -- what the pass does then
-  unfoldable pub moveOn : ℕ → Begun → Receiving → Move
+  unfoldable pub moveOn : ℕ → FrameStart → Receiving → Move
   moveOn held b Receiving.None = idle s held date (b .line)
   moveOn held b (Receiving.OnTheLine f) = inFrame s held date (b .started) f (b .line)
 
@@ -83,6 +83,6 @@ module _ (s : Settings) (date : ℕ) where
   begun-law held waiting (Receiving.OnTheLine f) l = refl
 
   -- the same, as the code comes to it
-  pub moved : (held : ℕ) (waiting : Date) (r : Receiving) (l : Line) {x : Receiving} {b : Begun} {m : Move} → b ≡ begun waiting r l → b .receiving ≡ x → m ≡ moveOn held b x
+  pub moved : (held : ℕ) (waiting : Date) (r : Receiving) (l : Line) {x : Receiving} {b : FrameStart} {m : Move} → b ≡ begun waiting r l → b .receiving ≡ x → m ≡ moveOn held b x
       → m ≡ move s held date waiting r l
-  moved held waiting r l {b = b} eb ex em = em ∙ ap (moveOn held b) (sym ex) ∙ ap (λ (y : Begun). moveOn held y (y .receiving)) eb ∙ begun-law held waiting r l
+  moved held waiting r l {b = b} eb ex em = em ∙ ap (moveOn held b) (sym ex) ∙ ap (λ (y : FrameStart). moveOn held y (y .receiving)) eb ∙ begun-law held waiting r l

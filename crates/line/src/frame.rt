@@ -39,6 +39,8 @@ fn hear(settings: Settings, line: Line) -> Line
 }
 
 // A start bit comes at a date: the line is free when the frame ends.
+// ASSUMPTION: a byte received keeps the bit time of its start bit; a later change of the rate is for the bytes that start after it.
+// A capture of a byte received while CLKDIV is rewritten settles it.
 pub fn start(settings: Settings, at: u64, line: Line) -> Line
     ensures { λ r. ⌜ r ≡ Line·start settings at line ⌝ }
 {
@@ -48,6 +50,8 @@ pub fn start(settings: Settings, at: u64, line: Line) -> Line
 }
 
 // What becomes of a byte that lands where so many are held.
+// ASSUMPTION: a byte that lands with the receiver's clock off or RXFIFO_RST set is lost, and one that finds 128 held is dropped
+// while the 128 stay. Input sent to a chip during its boot, and 200 bytes to a FIFO that nobody reads, settle it.
 pub fn fate(settings: Settings, held: usize, f: Frame) -> Fate
     ensures { λ r. ⌜ r ≡ Line·fate settings held f ⌝ }
 {
@@ -67,7 +71,7 @@ pub fn fate(settings: Settings, held: usize, f: Frame) -> Fate
 }
 
 // The idle line opens at the landing.
-fn opened(f: Frame, line: Line) -> Line
+fn open_idle_line(f: Frame, line: Line) -> Line
     ensures { λ r. ⌜ r ≡ Line·opened f line ⌝ }
 {
     let timed_on = f.timed_on;
@@ -76,16 +80,19 @@ fn opened(f: Frame, line: Line) -> Line
 }
 
 // A byte lands with its fate.
+// ASSUMPTION: the timeout is counted with the receiver's clock: a byte lost because that clock is off opens no idle line, and one
+// that RXFIFO_RST or a full FIFO drops was heard and opens one. A frame is decoded from its start bit: unheard at its start it is
+// lost, heard at start and end it is received. Bytes sent to a chip whose receiver clock is gated settle it.
 pub fn land(settings: Settings, fate: Fate, f: Frame, line: Line) -> Line
     ensures { λ r. ⌜ r ≡ Line·land settings fate f line ⌝ }
 {
     match fate {
-        Fate::Stored => opened(f, line),
+        Fate::Stored => open_idle_line(f, line),
         Fate::Overflowed => {
             let shown = !settings.dis_rx_dat_ovf;
-            opened(f, marks::raise_if(line, shown, marks::RXFIFO_OVF))
+            open_idle_line(f, marks::raise_if(line, shown, marks::RXFIFO_OVF))
         }
-        Fate::Cleared => opened(f, line),
+        Fate::Cleared => open_idle_line(f, line),
         Fate::ClockOff => line,
         Fate::Unheard => line,
     }

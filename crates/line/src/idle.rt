@@ -27,7 +27,9 @@ pub fn after_date(span: u64, at: Date) -> Date
     }
 }
 
-// When the timeout of the open idle line comes.
+// When the timeout of the open idle line comes: RX_TOUT_THRHD bit times after the last byte heard landed.
+// ASSUMPTION: a change of the bit time during an idle line times all of it again, from the landing, and a timeout that this puts
+// before the change comes at the change. Not documented; a logic analyser on a chip whose clock is switched then settles it.
 pub fn timeout_at(settings: Settings, line: Line) -> Date
     ensures { λ r. ⌜ r ≡ timeoutAt settings line ⌝ }
 {
@@ -36,6 +38,8 @@ pub fn timeout_at(settings: Settings, line: Line) -> Date
 }
 
 // The timeout comes: the idle line closes, even where nothing is raised.
+// ASSUMPTION: RXFIFO_TOUT needs a byte held and comes once in an idle line; a read of FIFO does not start the count again. A
+// logic analyser on the receive line of a chip, with a pin that the handler toggles, settles it.
 pub fn time_out(settings: Settings, held: usize, line: Line) -> Line
     ensures { λ r. ⌜ r ≡ timeOut settings held line ⌝ }
 {

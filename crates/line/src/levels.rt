@@ -55,8 +55,11 @@ fn below_empty(conf1: u32, flying: usize) -> bool
     in_fifo(flying) < wide(registers::fields::txfifo_empty_thrhd(conf1))
 }
 
-// The levels of both FIFOs raise their bits.
-pub fn levels(line: Line, conf1: u32, held: usize, flying: usize) -> Line
+// The levels of both FIFOs raise their bits: uart.rs's assert_levels.
+// ASSUMPTION: both are levels: a bit that is cleared while its condition holds is set again at once, and a set bit stays until it
+// is cleared; "more than" is strict. Clearing the bit on a chip above its threshold, and sending just as many bytes as the
+// threshold, settles it.
+pub fn assert_levels(line: Line, conf1: u32, held: usize, flying: usize) -> Line
     ensures { λ r. ⌜ r ≡ Levels·levels conf1 held flying line ⌝ }
 {
     let full = marks::raise_if(line, above_full(conf1, held), marks::RXFIFO_FULL);

@@ -1,4 +1,5 @@
-// line: control, instants, frames, upcoming, passing.
+// Every decision about the line, on numbers and marks alone: a frame's start and the fate of its byte, the idle line and its timeout, a
+// pass, levels and the interrupt, the next instant. No byte is in it. Carried over from inkemu's uart.rs and changed.
 pub mod fate;
 pub mod frame;
 pub mod idle;

@@ -1,4 +1,4 @@
-// The marks of the line: bits of INT_RAW, the source of a mistimed reception, the idle line.
+// The marks of the line: the five bits of INT_RAW that the model sets, the source of a mistimed reception, the idle line.
 use model::Date;
 use model::Line;
 use model::Source;
@@ -8,14 +8,19 @@ ghost use Rattle.model.specs.Numbers.{choose};
 ghost use Rattle.model.specs.State.{withIntRaw, withIdleSince};
 ghost use Rattle.model.specs.Line.{latest as Line·latest, noteSource};
 
+// INT_RAW bit 0: more bytes received than RXFIFO_FULL_THRHD.
 pub const RXFIFO_FULL: u32 = 1 << 0;
 
+// Bit 1: fewer bytes in the transmit FIFO than TXFIFO_EMPTY_THRHD.
 pub const TXFIFO_EMPTY: u32 = 1 << 1;
 
+// Bit 4: a byte found the receive FIFO full.
 pub const RXFIFO_OVF: u32 = 1 << 4;
 
+// Bit 8: the line was idle for RX_TOUT_THRHD bit times with a byte held.
 pub const RXFIFO_TOUT: u32 = 1 << 8;
 
+// Bit 14: the last byte in flight has gone.
 pub const TX_DONE: u32 = 1 << 14;
 
 // The bits of `mask` rise in INT_RAW where the test passes; none falls.

@@ -17,7 +17,7 @@ ghost use Rattle.line.specs.Begins.{kept as Begins·kept, started as Beg
 ghost use Rattle.line.specs.Begins.{lineFree as Begins·lineFree, begun as Begins·begun};
 
 // Nothing is due.
-fn resting(started: bool, receiving: Receiving, line: Line) -> Move
+fn rest(started: bool, receiving: Receiving, line: Line) -> Move
     ensures { λ r. ⌜ r ≡ Moves·resting started receiving line ⌝ }
 {
     Move {
@@ -29,7 +29,7 @@ fn resting(started: bool, receiving: Receiving, line: Line) -> Move
 }
 
 // The timeout comes.
-fn timing_out(
+fn time_out(
     settings: Settings,
     held: usize,
     started: bool,
@@ -47,7 +47,7 @@ fn timing_out(
 }
 
 // The byte on the line lands.
-fn landing(settings: Settings, held: usize, started: bool, f: Frame, line: Line) -> Move
+fn land(settings: Settings, held: usize, started: bool, f: Frame, line: Line) -> Move
     ensures { λ r. ⌜ r ≡ Moves·landing settings held started f line ⌝ }
 {
     let fate = crate::frame::fate(settings, held, f);
@@ -71,26 +71,26 @@ fn in_frame(settings: Settings, held: usize, date: u64, started: bool, f: Frame,
     ensures { λ r. ⌜ r ≡ inFrame settings held date started f line ⌝ }
 {
     if timeout_due(settings, date, line) {
-        return timing_out(settings, held, started, Receiving::OnTheLine(f), line);
+        return time_out(settings, held, started, Receiving::OnTheLine(f), line);
     }
     if date < line.line_free_at {
-        return resting(started, Receiving::OnTheLine(f), line);
+        return rest(started, Receiving::OnTheLine(f), line);
     }
-    landing(settings, held, started, f, line)
+    land(settings, held, started, f, line)
 }
 
 // What is on the line once a start that is due has come, and whether one has.
-pub struct Begun {
+pub struct FrameStart {
     pub receiving: Receiving,
     pub started: bool,
     pub line: Line,
 }
 
 // No byte starts.
-fn kept(receiving: Receiving, line: Line) -> Begun
+fn keep(receiving: Receiving, line: Line) -> FrameStart
     ensures { λ r. ⌜ r ≡ Begins·kept receiving line ⌝ }
 {
-    Begun {
+    FrameStart {
         receiving,
         started: false,
         line,
@@ -98,18 +98,18 @@ fn kept(receiving: Receiving, line: Line) -> Begun
 }
 
 // A waiting host byte starts at its date once that has come, unless a timeout dated at or before it comes first.
-fn started(settings: Settings, date: u64, at: u64, line: Line) -> Begun
+fn start(settings: Settings, date: u64, at: u64, line: Line) -> FrameStart
     ensures { λ r. ⌜ r ≡ Begins·started settings date at line ⌝ }
 {
     if date < at {
-        return kept(Receiving::None, line);
+        return keep(Receiving::None, line);
     }
     if timeout_due(settings, at, line) {
-        return kept(Receiving::None, line);
+        return keep(Receiving::None, line);
     }
     let f = crate::frame::frame(settings);
     let after = crate::frame::start(settings, at, line);
-    Begun {
+    FrameStart {
         receiving: Receiving::OnTheLine(f),
         started: true,
         line: after,
@@ -117,22 +117,28 @@ fn started(settings: Settings, date: u64, at: u64, line: Line) -> Begun
 }
 
 // The line is free.
-fn line_free(settings: Settings, date: u64, waiting: Date, line: Line) -> Begun
+fn line_free(settings: Settings, date: u64, waiting: Date, line: Line) -> FrameStart
     ensures { λ r. ⌜ r ≡ Begins·lineFree settings date waiting line ⌝ }
 {
     match waiting {
-        Date::None => kept(Receiving::None, line),
-        Date::At(run) => started(settings, date, dates::later(run, line.line_free_at), line),
+        Date::None => keep(Receiving::None, line),
+        Date::At(run) => start(settings, date, dates::later(run, line.line_free_at), line),
     }
 }
 
 // The next host byte starts where its start is due and no byte is on the line.
-fn begin(settings: Settings, date: u64, waiting: Date, receiving: Receiving, line: Line) -> Begun
+fn begin(
+    settings: Settings,
+    date: u64,
+    waiting: Date,
+    receiving: Receiving,
+    line: Line,
+) -> FrameStart
     ensures { λ r. ⌜ r ≡ Begins·begun settings date waiting receiving line ⌝ }
 {
     match receiving {
         Receiving::None => line_free(settings, date, waiting, line),
-        Receiving::OnTheLine(f) => kept(Receiving::OnTheLine(f), line),
+        Receiving::OnTheLine(f) => keep(Receiving::OnTheLine(f), line),
     }
 }
 
@@ -141,15 +147,15 @@ fn idle(settings: Settings, held: usize, date: u64, line: Line) -> Move
     ensures { λ r. ⌜ r ≡ Moves·idle settings held date line ⌝ }
 {
     if timeout_due(settings, date, line) {
-        timing_out(settings, held, false, Receiving::None, line)
+        time_out(settings, held, false, Receiving::None, line)
     } else {
-        resting(false, Receiving::None, line)
+        rest(false, Receiving::None, line)
     }
 }
 
 // What the first thing due on the line by a date does, where so many bytes are held and the first run of waiting host
 // bytes has a date: uart.rs's take_next_on_the_line. A start comes first, so that a frame is looked at in one place.
-pub fn pass(
+pub fn take_next_on_the_line(
     settings: Settings,
     held: usize,
     date: u64,

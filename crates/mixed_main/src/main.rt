@@ -43,8 +43,10 @@ fn row_sent<'a>(
     rx: &'a mut [u8; 128],
     base: u64,
 ) -> Tally
-    requires { ⌜ Ok (from .core) (arrays (now «gone_at») (now flight) (now tx) (now host) (now «run_dates») (now «run_counts») (now rx)) × (base ≤ 100000000) ⌝ }
-    ensures { λ r. ⌜ Ok (r .core) (arrays (now («gone_at» .exit)) (now (flight .exit)) (now (tx .exit)) (now (host .exit)) (now («run_dates» .exit)) (now («run_counts» .exit)) (now (rx .exit))) ⌝ }
+    requires { ⌜ Ok (from .core) (arrays (now «gone_at») (now flight) (now tx) (now host) (now «run_dates») (now «run_counts») (now rx))
+        × (base ≤ 100000000) ⌝ }
+    ensures { λ r. ⌜ Ok (r .core) (arrays (now («gone_at» .exit)) (now (flight .exit)) (now (tx .exit)) (now (host .exit))
+        (now («run_dates» .exit)) (now («run_counts» .exit)) (now (rx .exit))) ⌝ }
 {
     let mut core = from.core;
     let mut sum = from.sum;
@@ -106,7 +108,8 @@ fn looked<'a>(
     offset: u32,
 ) -> Look
     requires { ⌜ Ok (from .core) (arrays (now «gone_at») (now flight) (now tx) (now host) (now «run_dates») (now «run_counts») (now rx)) ⌝ }
-    ensures { λ r. ⌜ Ok (r .core) (arrays (now («gone_at» .exit)) (now (flight .exit)) (now (tx .exit)) (now (host .exit)) (now («run_dates» .exit)) (now («run_counts» .exit)) (now (rx .exit))) ⌝ }
+    ensures { λ r. ⌜ Ok (r .core) (arrays (now («gone_at» .exit)) (now (flight .exit)) (now (tx .exit)) (now (host .exit))
+        (now («run_dates» .exit)) (now («run_counts» .exit)) (now (rx .exit))) ⌝ }
 {
     let before = from.core;
     let seen = access::read::read(
@@ -143,8 +146,10 @@ fn byte_read<'a>(
     rx: &'a mut [u8; 128],
     cycle: u64,
 ) -> Tally
-    requires { ⌜ Ok (status .core) (arrays (now «gone_at») (now flight) (now tx) (now host) (now «run_dates») (now «run_counts») (now rx)) ⌝ }
-    ensures { λ r. ⌜ Ok (r .core) (arrays (now («gone_at» .exit)) (now (flight .exit)) (now (tx .exit)) (now (host .exit)) (now («run_dates» .exit)) (now («run_counts» .exit)) (now (rx .exit))) ⌝ }
+    requires { ⌜ Ok (status .core) (arrays (now «gone_at») (now flight) (now tx) (now host) (now «run_dates») (now «run_counts»)
+        (now rx)) ⌝ }
+    ensures { λ r. ⌜ Ok (r .core) (arrays (now («gone_at» .exit)) (now (flight .exit)) (now (tx .exit)) (now (host .exit))
+        (now («run_dates» .exit)) (now («run_counts» .exit)) (now (rx .exit))) ⌝ }
 {
     let core = status.core;
     if status.value & 0x3FF == 0 {
@@ -188,7 +193,8 @@ fn raised<'a>(
     cycle: u64,
 ) -> Look
     requires { ⌜ Ok (from .core) (arrays (now «gone_at») (now flight) (now tx) (now host) (now «run_dates») (now «run_counts») (now rx)) ⌝ }
-    ensures { λ r. ⌜ Ok (r .core) (arrays (now («gone_at» .exit)) (now (flight .exit)) (now (tx .exit)) (now (host .exit)) (now («run_dates» .exit)) (now («run_counts» .exit)) (now (rx .exit))) ⌝ }
+    ensures { λ r. ⌜ Ok (r .core) (arrays (now («gone_at» .exit)) (now (flight .exit)) (now (tx .exit)) (now (host .exit))
+        (now («run_dates» .exit)) (now («run_counts» .exit)) (now (rx .exit))) ⌝ }
 {
     let woken = calls::wake::wake(
         from.core,
@@ -232,7 +238,8 @@ fn emptied<'a>(
     cycle: u64,
 ) -> Tally
     requires { ⌜ Ok (from .core) (arrays (now «gone_at») (now flight) (now tx) (now host) (now «run_dates») (now «run_counts») (now rx)) ⌝ }
-    ensures { λ r. ⌜ Ok (r .core) (arrays (now («gone_at» .exit)) (now (flight .exit)) (now (tx .exit)) (now (host .exit)) (now («run_dates» .exit)) (now («run_counts» .exit)) (now (rx .exit))) ⌝ }
+    ensures { λ r. ⌜ Ok (r .core) (arrays (now («gone_at» .exit)) (now (flight .exit)) (now (tx .exit)) (now (host .exit))
+        (now («run_dates» .exit)) (now («run_counts» .exit)) (now (rx .exit))) ⌝ }
 {
     let status = looked(
         from,
@@ -272,7 +279,8 @@ fn interrupt<'a>(
     cycle: u64,
 ) -> Tally
     requires { ⌜ Ok (from .core) (arrays (now «gone_at») (now flight) (now tx) (now host) (now «run_dates») (now «run_counts») (now rx)) ⌝ }
-    ensures { λ r. ⌜ Ok (r .core) (arrays (now («gone_at» .exit)) (now (flight .exit)) (now (tx .exit)) (now (host .exit)) (now («run_dates» .exit)) (now («run_counts» .exit)) (now (rx .exit))) ⌝ }
+    ensures { λ r. ⌜ Ok (r .core) (arrays (now («gone_at» .exit)) (now (flight .exit)) (now (tx .exit)) (now (host .exit))
+        (now («run_dates» .exit)) (now («run_counts» .exit)) (now (rx .exit))) ⌝ }
 {
     let told = raised(
         from,
@@ -332,8 +340,10 @@ fn handled<'a>(
     rx: &'a mut [u8; 128],
     base: u64,
 ) -> Tally
-    requires { ⌜ Ok (from .core) (arrays (now «gone_at») (now flight) (now tx) (now host) (now «run_dates») (now «run_counts») (now rx)) × (base ≤ 100000000) ⌝ }
-    ensures { λ r. ⌜ Ok (r .core) (arrays (now («gone_at» .exit)) (now (flight .exit)) (now (tx .exit)) (now (host .exit)) (now («run_dates» .exit)) (now («run_counts» .exit)) (now (rx .exit))) ⌝ }
+    requires { ⌜ Ok (from .core) (arrays (now «gone_at») (now flight) (now tx) (now host) (now «run_dates») (now «run_counts») (now rx))
+        × (base ≤ 100000000) ⌝ }
+    ensures { λ r. ⌜ Ok (r .core) (arrays (now («gone_at» .exit)) (now (flight .exit)) (now (tx .exit)) (now (host .exit))
+        (now («run_dates» .exit)) (now («run_counts» .exit)) (now (rx .exit))) ⌝ }
 {
     let mut tally = from;
     let mut i: u64 = 0;
@@ -374,7 +384,8 @@ fn shown<'a>(
     cycle: u64,
 ) -> Tally
     requires { ⌜ Ok (from .core) (arrays (now «gone_at») (now flight) (now tx) (now host) (now «run_dates») (now «run_counts») (now rx)) ⌝ }
-    ensures { λ r. ⌜ Ok (r .core) (arrays (now («gone_at» .exit)) (now (flight .exit)) (now (tx .exit)) (now (host .exit)) (now («run_dates» .exit)) (now («run_counts» .exit)) (now (rx .exit))) ⌝ }
+    ensures { λ r. ⌜ Ok (r .core) (arrays (now («gone_at» .exit)) (now (flight .exit)) (now (tx .exit)) (now (host .exit))
+        (now («run_dates» .exit)) (now («run_counts» .exit)) (now (rx .exit))) ⌝ }
 {
     let mut buffer = [0u8; 1152];
     let done = host::take_tx::take_tx(
@@ -409,8 +420,10 @@ fn answered<'a>(
     rx: &'a mut [u8; 128],
     base: u64,
 ) -> Tally
-    requires { ⌜ Ok (from .core) (arrays (now «gone_at») (now flight) (now tx) (now host) (now «run_dates») (now «run_counts») (now rx)) × (base ≤ 90000000) ⌝ }
-    ensures { λ r. ⌜ Ok (r .core) (arrays (now («gone_at» .exit)) (now (flight .exit)) (now (tx .exit)) (now (host .exit)) (now («run_dates» .exit)) (now («run_counts» .exit)) (now (rx .exit))) ⌝ }
+    requires { ⌜ Ok (from .core) (arrays (now «gone_at») (now flight) (now tx) (now host) (now «run_dates») (now «run_counts») (now rx))
+        × (base ≤ 90000000) ⌝ }
+    ensures { λ r. ⌜ Ok (r .core) (arrays (now («gone_at» .exit)) (now (flight .exit)) (now (tx .exit)) (now (host .exit))
+        (now («run_dates» .exit)) (now («run_counts» .exit)) (now (rx .exit))) ⌝ }
 {
     let row = *b"basket 7, row 12";
     let given = host::receive::receive(
@@ -455,8 +468,10 @@ fn round<'a>(
     rx: &'a mut [u8; 128],
     base: u64,
 ) -> Tally
-    requires { ⌜ Ok (from .core) (arrays (now «gone_at») (now flight) (now tx) (now host) (now «run_dates») (now «run_counts») (now rx)) × (base ≤ 90000000) ⌝ }
-    ensures { λ r. ⌜ Ok (r .core) (arrays (now («gone_at» .exit)) (now (flight .exit)) (now (tx .exit)) (now (host .exit)) (now («run_dates» .exit)) (now («run_counts» .exit)) (now (rx .exit))) ⌝ }
+    requires { ⌜ Ok (from .core) (arrays (now «gone_at») (now flight) (now tx) (now host) (now «run_dates») (now «run_counts») (now rx))
+        × (base ≤ 90000000) ⌝ }
+    ensures { λ r. ⌜ Ok (r .core) (arrays (now («gone_at» .exit)) (now (flight .exit)) (now (tx .exit)) (now (host .exit))
+        (now («run_dates» .exit)) (now («run_counts» .exit)) (now (rx .exit))) ⌝ }
 {
     let sent = row_sent(
         from,
@@ -505,7 +520,8 @@ fn enabled<'a>(
     rx: &'a mut [u8; 128],
 ) -> Tally
     requires { ⌜ Ok new (arrays (now «gone_at») (now flight) (now tx) (now host) (now «run_dates») (now «run_counts») (now rx)) ⌝ }
-    ensures { λ r. ⌜ Ok (r .core) (arrays (now («gone_at» .exit)) (now (flight .exit)) (now (tx .exit)) (now (host .exit)) (now («run_dates» .exit)) (now («run_counts» .exit)) (now (rx .exit))) ⌝ }
+    ensures { λ r. ⌜ Ok (r .core) (arrays (now («gone_at» .exit)) (now (flight .exit)) (now (tx .exit)) (now (host .exit))
+        (now («run_dates» .exit)) (now («run_counts» .exit)) (now (rx .exit))) ⌝ }
 {
     let raised = access::write::write(
         new,
@@ -549,7 +565,8 @@ fn run<'a>(
     rx: &'a mut [u8; 128],
 ) -> Tally
     requires { ⌜ Ok new (arrays (now «gone_at») (now flight) (now tx) (now host) (now «run_dates») (now «run_counts») (now rx)) ⌝ }
-    ensures { λ r. ⌜ Ok (r .core) (arrays (now («gone_at» .exit)) (now (flight .exit)) (now (tx .exit)) (now (host .exit)) (now («run_dates» .exit)) (now («run_counts» .exit)) (now (rx .exit))) ⌝ }
+    ensures { λ r. ⌜ Ok (r .core) (arrays (now («gone_at» .exit)) (now (flight .exit)) (now (tx .exit)) (now (host .exit))
+        (now («run_dates» .exit)) (now («run_counts» .exit)) (now (rx .exit))) ⌝ }
 {
     let mut tally = enabled(new, gone_at, flight, tx, host, run_dates, run_counts, rx);
     let mut row: u64 = 0;

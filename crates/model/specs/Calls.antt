@@ -94,8 +94,8 @@ module _ {H W : Type 0} where
   unfoldable pub dated : ℕ → Uart H W → Uart H W
   dated now u = withControl (withLast now (u .control)) u
 
-  unfoldable pub settledAt : ℕ → Uart H W → Settled H W
-  settledAt now u = settle now (dated now u)
+  unfoldable pub settleAt : ℕ → Uart H W → Settled H W
+  settleAt now u = settle now (dated now u)
 
   unfoldable pub quiet : {R : Type 0} → R → Uart H W → Access R H W
   quiet r u = record { reply = r; notes = []; state = u }
@@ -103,19 +103,19 @@ module _ {H W : Type 0} where
   -- ---- register access
 
   unfoldable pub readWork : ℕ → Place → Uart H W → Outcome (ReadOf H) H W
-  readWork now p u = afterSettling (settledAt now u) (readAt p)
+  readWork now p u = afterSettling (settleAt now u) (readAt p)
 
   unfoldable pub readPlaced : ℕ → Place → Uart H W → Outcome (ReadOf H) H W
   readPlaced now p u = unless (refuseDate now (u .control) none) refused (readWork now p) u
 
   unfoldable pub writeWork : ℕ → Place → ℕ → Uart H W → Outcome Write H W
-  writeWork now p v u = afterSettling (settledAt now u) (λ s. concluded (writePlace p v s))
+  writeWork now p v u = afterSettling (settleAt now u) (λ s. concluded (writePlace p v s))
 
   unfoldable pub writePlaced : ℕ → Place → ℕ → Uart H W → Outcome Write H W
   writePlaced now p v u = unless (refuseDate now (u .control) none) Write.Refused (writeWork now p v) u
 
   unfoldable pub sendWork : ℕ → W → Uart H W → Outcome Write H W
-  sendWork now b u = afterSettling (settledAt now u) (λ s. concluded (sendByte now b s))
+  sendWork now b u = afterSettling (settleAt now u) (λ s. concluded (sendByte now b s))
 
   -- a write to FIFO
   unfoldable pub send : ℕ → W → Uart H W → Outcome Write H W
@@ -131,7 +131,7 @@ module _ {H W : Type 0} where
   handOver date (b ∷ bs) u = arm (withHost (u .host ++ (b ∷ bs)) (joined date (length (b ∷ bs)) (u .hostRuns)) u)
 
   unfoldable pub receiveWork : ℕ → ℕ → List H → Uart H W → Outcome Done H W
-  receiveWork now at bs u = afterSettling (settledAt now u) (λ s. quiet Done.Done (handOver (hostDate now at) bs s))
+  receiveWork now at bs u = afterSettling (settleAt now u) (λ s. quiet Done.Done (handOver (hostDate now at) bs s))
 
   unfoldable pub receive : ℕ → ℕ → List H → Uart H W → Outcome Done H W
   receive now at bs u =
@@ -147,7 +147,7 @@ module _ {H W : Type 0} where
 
   -- only a wake clears the Deadline
   unfoldable pub wakeWork : ℕ → Uart H W → Outcome Done H W
-  wakeWork now u = afterSettling (settledAt now (withControl (withWake (called now (u .control .wake)) (u .control)) u)) (λ s. quiet Done.Done (arm s))
+  wakeWork now u = afterSettling (settleAt now (withControl (withWake (called now (u .control .wake)) (u .control)) u)) (λ s. quiet Done.Done (arm s))
 
   unfoldable pub wake : ℕ → Uart H W → Outcome Done H W
   wake now u = unless (refuseDate now (u .control) none) Done.Refused (wakeWork now) u
@@ -177,7 +177,7 @@ module _ {H W : Type 0} where
   reclocked now period s = added s (settle now (clocked period (s .state)))
 
   unfoldable pub clockWork : ℕ → ℕ → Uart H W → Outcome Done H W
-  clockWork now period u = afterSettling (reclocked now period (settledAt now u)) (λ s. quiet Done.Done (arm s))
+  clockWork now period u = afterSettling (reclocked now period (settleAt now u)) (λ s. quiet Done.Done (arm s))
 
   unfoldable pub clockChange : ℕ → ℕ → Uart H W → Outcome Done H W
   clockChange now period u =
@@ -190,7 +190,7 @@ module _ {H W : Type 0} where
   -- a reset first ends a power-down and settles
   unfoldable pub resetWork : ℕ → Uart H W → Outcome Done H W
   resetWork now u =
-      afterSettling (settledAt now (withControl (withPoweredDownAt Date.None (u .control)) u)) (λ s. quiet Done.Done (arm (levels (cleared s))))
+      afterSettling (settleAt now (withControl (withPoweredDownAt Date.None (u .control)) u)) (λ s. quiet Done.Done (arm (levels (cleared s))))
 
   unfoldable pub reset : ℕ → Uart H W → Outcome Done H W
   reset now u = unless (refuseDate now (u .control) none) Done.Refused (resetWork now) u
@@ -206,7 +206,7 @@ module _ {H W : Type 0} where
 
   module _ {L : Type 0} where
     unfoldable pub takeTxWork : ℕ → List L → Uart H W → Outcome (Take W L) H W
-    takeTxWork now lent u = afterSettling (settledAt now u) (λ s. quiet (filled (s .tx) lent) (withTx [] s))
+    takeTxWork now lent u = afterSettling (settleAt now u) (λ s. quiet (filled (s .tx) lent) (withTx [] s))
 
     unfoldable pub takeTx : ℕ → List L → Uart H W → Outcome (Take W L) H W
     takeTx now lent u =

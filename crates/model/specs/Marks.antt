@@ -15,7 +15,7 @@ use Rattle.model.specs.Arm.{called, nthGone, firstGone, lastGone, belowT
 use Rattle.model.specs.Replies.{number, notices, noReport, report, ReadOf, word, byte, noValue, refused, readNumber, writeNumber, doneNumber, takenNumber}
 use Rattle.model.specs.Registers.{placeAmong, placeOf, loaded, holds, stored, noteIf, sourceNotes, statusWord, fsmStatus, looks, pop, gives, readPlace, readLooking, readAt, conf0Notes, storedNotes, startsAt, goneAt, sent, dropped, sendByte, resetFifos, storing, clearing, writePlace, concluded}
 use Rattle.model.specs.Tests.{among, repeated, pastEnd, wentBack, transmitFull, hostFull, runsFull, periodTooLong, bufferTooShort, refuseIf, refuseDate}
-use Rattle.model.specs.Calls.{refusing, unless, unsettled, afterSettling, undated, joined, lastDate, hostDate, clearedLine, filled, notTaken, dated, settledAt, quiet, readWork, readPlaced, writeWork, writePlaced, sendWork, send, handOver, receiveWork, receive, wakeWork, wake, writeAt}
+use Rattle.model.specs.Calls.{refusing, unless, unsettled, afterSettling, undated, joined, lastDate, hostDate, clearedLine, filled, notTaken, dated, settleAt, quiet, readWork, readPlaced, writeWork, writePlaced, sendWork, send, handOver, receiveWork, receive, wakeWork, wake, writeAt}
 use Rattle.model.specs.Calls
 use Rattle.model.specs.SetUp.{wordsAmong, mapOf, newControl, new}
 use Rattle.model.specs.Call.{Call, Written, Request, Reply, reads, writes, does, takes, left, pends, Answer}
@@ -202,5 +202,5 @@ unfoldable pub marks : List Row
 marks = p1 ++ p2 ++ p3 ++ p4 ++ p5 ++ p6 ++ p7 ++ p8 ++ p9 ++ p10
 
 pub marks-hold : allHold marks ≡ true
-unfolding upBy4 benchWords bench valueIs dateIs isOverflow isEmptyRead onlyNotice meets reading putting handing waking played holdsRow allHold p1 p2 p3 filledUp p4 p5 p6 timeoutOn p7 p8 p9 p10 marks choose dueBy onlyIf earliest inCycles stopHalfBits frameHalfBits sourcePeriod unmodelled unmodelledSource halfBitTime bitTime byteTime timeoutTime settings raiseIf latest noteSource afterDate opened timeoutAt timeOut frame start fate land gone txDone leave depart popRun received nothingDue timedOut landed inFrame begun beforeStart idle lineFree passOn pass goesOn lost onTheLine counted passesFrom pending begin passes aboveFull inFifo emptyThreshold belowEmpty assertLevels intStatus drive noLaterThan settlingDate levels leveled settingsOf settleTo settle called nthGone firstGone lastGone belowThresholdAt nextStart landingOf nextLanding instants armAll arm number notices noReport report readNumber writeNumber doneNumber takenNumber placeAmong placeOf loaded holds stored noteIf sourceNotes statusWord fsmStatus looks pop gives readPlace readLooking readAt conf0Notes storedNotes startsAt goneAt sent dropped sendByte resetFifos storing clearing writePlace concluded among repeated pastEnd wentBack transmitFull hostFull runsFull periodTooLong bufferTooShort refuseIf refuseDate refusing unless unsettled afterSettling undated joined lastDate hostDate clearedLine filled notTaken dated settledAt quiet readWork readPlaced writeWork writePlaced sendWork send handOver receiveWork receive wakeWork wake writeAt Calls.read Calls.write wordsAmong mapOf newControl new numberOf answering stepBy writing step
+unfolding upBy4 benchWords bench valueIs dateIs isOverflow isEmptyRead onlyNotice meets reading putting handing waking played holdsRow allHold p1 p2 p3 filledUp p4 p5 p6 timeoutOn p7 p8 p9 p10 marks choose dueBy onlyIf earliest inCycles stopHalfBits frameHalfBits sourcePeriod unmodelled unmodelledSource halfBitTime bitTime byteTime timeoutTime settings raiseIf latest noteSource afterDate opened timeoutAt timeOut frame start fate land gone txDone leave depart popRun received nothingDue timedOut landed inFrame begun beforeStart idle lineFree passOn pass goesOn lost onTheLine counted passesFrom pending begin passes aboveFull inFifo emptyThreshold belowEmpty assertLevels intStatus drive noLaterThan settlingDate levels leveled settingsOf settleTo settle called nthGone firstGone lastGone belowThresholdAt nextStart landingOf nextLanding instants armAll arm number notices noReport report readNumber writeNumber doneNumber takenNumber placeAmong placeOf loaded holds stored noteIf sourceNotes statusWord fsmStatus looks pop gives readPlace readLooking readAt conf0Notes storedNotes startsAt goneAt sent dropped sendByte resetFifos storing clearing writePlace concluded among repeated pastEnd wentBack transmitFull hostFull runsFull periodTooLong bufferTooShort refuseIf refuseDate refusing unless unsettled afterSettling undated joined lastDate hostDate clearedLine filled notTaken dated settleAt quiet readWork readPlaced writeWork writePlaced sendWork send handOver receiveWork receive wakeWork wake writeAt Calls.read Calls.write wordsAmong mapOf newControl new numberOf answering stepBy writing step
 marks-hold = refl

@@ -1,5 +1,5 @@
-// What register access decides from numbers and marks alone: the place of an offset, and the words read. Carried over from
-// inkemu's uart.rs and changed.
+// The registers: an offset's place, the fields of a word, the nine words that are stored, the words that a read makes up. Carried over
+// from inkemu's uart.rs and changed.
 pub mod fields;
 pub mod places;
 pub mod storage;

@@ -33,107 +33,107 @@ pub fn read(words: Words, place: Place) -> Read
 }
 
 // The words after a write, and whether the place is held.
-pub struct Stored {
+pub struct StorageWrite {
     pub words: Words,
     pub accepted: bool,
 }
 
-pub fn write(mut words: Words, place: Place, value: u32) -> Stored
+pub fn write(mut words: Words, place: Place, value: u32) -> StorageWrite
     ensures { λ r. ⌜ (r .words ≡ stored place value words) × (r .accepted ≡ holds place) ⌝ }
 {
     match place {
-        Place::Fifo => Stored {
+        Place::Fifo => StorageWrite {
             words: words,
             accepted: false,
         },
-        Place::IntRaw => Stored {
+        Place::IntRaw => StorageWrite {
             words: words,
             accepted: false,
         },
-        Place::IntSt => Stored {
+        Place::IntSt => StorageWrite {
             words: words,
             accepted: false,
         },
         Place::IntEna => {
             words.int_ena = value;
-            Stored {
+            StorageWrite {
                 words: words,
                 accepted: true,
             }
         }
-        Place::IntClr => Stored {
+        Place::IntClr => StorageWrite {
             words: words,
             accepted: false,
         },
         Place::Clkdiv => {
             words.clkdiv = value;
-            Stored {
+            StorageWrite {
                 words: words,
                 accepted: true,
             }
         }
-        Place::Status => Stored {
+        Place::Status => StorageWrite {
             words: words,
             accepted: false,
         },
-        Place::FsmStatus => Stored {
+        Place::FsmStatus => StorageWrite {
             words: words,
             accepted: false,
         },
         Place::Conf0 => {
             words.conf0 = value;
-            Stored {
+            StorageWrite {
                 words: words,
                 accepted: true,
             }
         }
         Place::Conf1 => {
             words.conf1 = value;
-            Stored {
+            StorageWrite {
                 words: words,
                 accepted: true,
             }
         }
         Place::ClkConf => {
             words.clk_conf = value;
-            Stored {
+            StorageWrite {
                 words: words,
                 accepted: true,
             }
         }
         Place::IdleConf => {
             words.idle_conf = value;
-            Stored {
+            StorageWrite {
                 words: words,
                 accepted: true,
             }
         }
         Place::Rs485Conf => {
             words.rs485_conf = value;
-            Stored {
+            StorageWrite {
                 words: words,
                 accepted: true,
             }
         }
         Place::AtCmdChar => {
             words.at_cmd_char = value;
-            Stored {
+            StorageWrite {
                 words: words,
                 accepted: true,
             }
         }
         Place::MemConf => {
             words.mem_conf = value;
-            Stored {
+            StorageWrite {
                 words: words,
                 accepted: true,
             }
         }
-        Place::MemRxStatus => Stored {
+        Place::MemRxStatus => StorageWrite {
             words: words,
             accepted: false,
         },
-        Place::Unknown => Stored {
+        Place::Unknown => StorageWrite {
             words: words,
             accepted: false,
         },

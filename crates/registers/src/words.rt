@@ -8,12 +8,14 @@ ghost use Rattle.model.specs.Line.{fifoBytes};
 ghost use Rattle.model.specs.Settle.{inFifo};
 ghost use Rattle.model.specs.Registers.{statusWord, fsmStatus};
 
-// The transmit FIFO holds 128 bytes beside the one in the shift register.
+// The transmit FIFO holds 128 bytes: the ROM waits while TXFIFO_CNT is 128 or more.
 const FIFO_BYTES: usize = 128;
 
+// STATUS bits 16-25 TXFIFO_CNT; bits 0-9 are RXFIFO_CNT.
 const TXFIFO_CNT_SHIFT: u32 = 16;
 
-// ST_UTX_OUT, bits 4-7, is 1 while a byte is being sent.
+// FSM_STATUS bits 4-7 ST_UTX_OUT: 0 while the transmitter is idle, the only value that software tests.
+// ASSUMPTION: while a byte is being sent the field reads 1. The other states are not documented.
 const ST_UTX_OUT_BUSY: u32 = 1 << 4;
 
 // The bytes in the transmit FIFO: all in flight but the first, which is in the shift register.

@@ -6,17 +6,17 @@ use mathlib.Core.Option.{Option, none, some}
 use Rattle.model.specs.Tests.{pastEnd, wentBack, transmitFull, hostFull, runsFull, periodTooLong, bufferTooShort, refuseIf}
 use Rattle.model.specs.declared.Refusal.{Refusal}
 use Rattle.model.specs.declared.Refusal.the-variants.{DatePastEnd, DateWentBack, TransmitFull, HostFull, RunsFull, PeriodTooLong, BufferTooShort}
-use Rattle.replies.specs.declared.refusals.Checked.{Checked}
-use Rattle.replies.specs.declared.refusals.Checked.the-variants.{Passed, Refused}
+use Rattle.replies.specs.declared.refusals.Verdict.{Verdict}
+use Rattle.replies.specs.declared.refusals.Verdict.the-variants.{Passed, Refused}
 use Rattle.replies.specs.declared.refusals.Waiting.{Waiting}
 
 -- each case of the enum as the definition's answer
-unfoldable pub verdict : Checked → Option Refusal
+unfoldable pub verdict : Verdict → Option Refusal
 verdict Passed = none
 verdict (Refused r) = some r
 
 -- a contract that gives the verdict determines the answer
-pub verdict-one : (a b : Checked) → verdict a ≡ verdict b → a ≡ b
+pub verdict-one : (a b : Verdict) → verdict a ≡ verdict b → a ≡ b
 unfolding verdict
 verdict-one Passed Passed e = refl
 verdict-one Passed (Refused r) e = cc

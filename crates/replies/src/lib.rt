@@ -1,4 +1,4 @@
-// replies: notices, offsets, refusals, word_notices.
+// What a call answers beside its value: the tests that refuse it, its notices, its report.
 pub mod modes;
 pub mod notices;
 pub mod offsets;

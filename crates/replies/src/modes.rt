@@ -17,29 +17,29 @@ ghost use Rattle.replies.specs.Modes.{lowModes};
 const ONE_BLOCK_EACH: u32 = 9;
 
 // A mode of CONF0 that is refused by name where its bit is set.
-fn refused_mode(others: Notices, conf0: u32, n: u32, mode: Feature) -> Notices
+fn refuse_mode(others: Notices, conf0: u32, n: u32, mode: Feature) -> Notices
     requires { ⌜ n < 32 ⌝ }
     ensures { λ r. ⌜ r ≡ addedIf (bit n conf0) (Unsupported.UartFeature mode) others ⌝ }
 {
     let set = (conf0 >> n) & 1 == 1;
-    others.noted_if(set, Unsupported::UartFeature(mode))
+    others.note_if(set, Unsupported::UartFeature(mode))
 }
 
 // One mode alone, refused by name where it is set.
-fn refused_if(test: bool, mode: Feature) -> Notices
+fn refuse_if(test: bool, mode: Feature) -> Notices
     ensures { λ r. ⌜ r ≡ noted (noteIf test (Unsupported.UartFeature mode) []) ⌝ }
 {
-    none().noted_if(test, Unsupported::UartFeature(mode))
+    none().note_if(test, Unsupported::UartFeature(mode))
 }
 
 // The first four modes of CONF0 that are refused by name, in the order of their bits.
 fn low_modes(value: u32) -> Notices
     ensures { λ r. ⌜ r ≡ lowModes value (noted []) ⌝ }
 {
-    let broken = refused_mode(none(), value, 8, Feature::TxBreak);
-    let looped = refused_mode(broken, value, 14, Feature::Loopback);
-    let held = refused_mode(looped, value, 15, Feature::TxFlowControl);
-    refused_mode(held, value, 16, Feature::Irda)
+    let broken = refuse_mode(none(), value, 8, Feature::TxBreak);
+    let looped = refuse_mode(broken, value, 14, Feature::Loopback);
+    let held = refuse_mode(looped, value, 15, Feature::TxFlowControl);
+    refuse_mode(held, value, 16, Feature::Irda)
 }
 
 // The other three behind them, and then a stop code of 0.
@@ -48,10 +48,10 @@ fn conf0_notices(value: u32) -> Notices
 {
     let no_stop_bit = registers::fields::stop_bit_num(value) == 0;
     let low = low_modes(value);
-    let rx = refused_mode(low, value, 19, Feature::InvertedRx);
-    let tx = refused_mode(rx, value, 22, Feature::InvertedTx);
-    let baud = refused_mode(tx, value, 27, Feature::Autobaud);
-    baud.noted_if(no_stop_bit, Unsupported::UartFeature(Feature::NoStopBit))
+    let rx = refuse_mode(low, value, 19, Feature::InvertedRx);
+    let tx = refuse_mode(rx, value, 22, Feature::InvertedTx);
+    let baud = refuse_mode(tx, value, 27, Feature::Autobaud);
+    baud.note_if(no_stop_bit, Unsupported::UartFeature(Feature::NoStopBit))
 }
 
 // What a stored word gives: CONF1's RX_FLOW_EN, an RS485_CONF other than 0, FIFO sizes other than one block each.
@@ -60,9 +60,9 @@ pub fn stored_notices(place: Place, value: u32) -> Notices
 {
     match place {
         Place::Conf0 => conf0_notices(value),
-        Place::Conf1 => refused_if(registers::fields::rx_flow_en(value), Feature::RxFlowControl),
-        Place::Rs485Conf => refused_if(value != 0, Feature::Rs485),
-        Place::MemConf => refused_if(
+        Place::Conf1 => refuse_if(registers::fields::rx_flow_en(value), Feature::RxFlowControl),
+        Place::Rs485Conf => refuse_if(value != 0, Feature::Rs485),
+        Place::MemConf => refuse_if(
             registers::fields::fifo_sizes(value) != ONE_BLOCK_EACH,
             Feature::FifoSize,
         ),

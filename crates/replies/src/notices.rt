@@ -29,7 +29,7 @@ pub fn none() -> Notices
 
 impl Notices {
     // One more behind the others; a ninth, which no call has, would be left out.
-    fn noted(mut self, what: Unsupported) -> Notices
+    fn note(mut self, what: Unsupported) -> Notices
         ensures { λ r. ⌜ r ≡ added what self ⌝ }
     {
         let at = self.count;
@@ -43,17 +43,17 @@ impl Notices {
     }
 
     // One more where the test passes.
-    pub fn noted_if(self, test: bool, what: Unsupported) -> Notices
+    pub fn note_if(self, test: bool, what: Unsupported) -> Notices
         ensures { λ r. ⌜ r ≡ addedIf test what self ⌝ }
     {
-        if test { self.noted(what) } else { self }
+        if test { self.note(what) } else { self }
     }
 
     // A read of FIFO found it empty.
-    pub fn with_empty_read(self) -> Notices
+    pub fn note_empty_read(self) -> Notices
         ensures { λ r. ⌜ r ≡ added Unsupported.UartEmptyRead self ⌝ }
     {
-        self.noted(Unsupported::UartEmptyRead)
+        self.note(Unsupported::UartEmptyRead)
     }
 }
 
@@ -61,7 +61,7 @@ impl Notices {
 fn one(what: Unsupported) -> Notices
     ensures { λ r. ⌜ r ≡ noted (what ∷ []) ⌝ }
 {
-    none().noted(what)
+    none().note(what)
 }
 
 // A FIFO write that is dropped.

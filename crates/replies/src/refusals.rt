@@ -27,7 +27,7 @@ const RUNS_LIMIT: usize = 64;
 const PERIOD_LIMIT: u64 = 1000000;
 
 // What the tests of a call say.
-pub enum Checked {
+pub enum Verdict {
     Passed,
     Refused(Refusal),
 }
@@ -107,18 +107,18 @@ fn buffer_too_short(room: usize) -> bool
 }
 
 // Refused where the test passes, and else what the later tests say.
-fn refuse_if(test: bool, refusal: Refusal, rest: Checked) -> Checked
+fn refuse_if(test: bool, refusal: Refusal, rest: Verdict) -> Verdict
     ensures { λ r. ⌜ verdict r ≡ refuseIf test refusal (verdict rest) ⌝ }
 {
     if test {
-        Checked::Refused(refusal)
+        Verdict::Refused(refusal)
     } else {
         rest
     }
 }
 
 // 2 and 3 come first in every dated call.
-fn date_first(cycle: u64, last: u64, rest: Checked) -> Checked
+fn date_first(cycle: u64, last: u64, rest: Verdict) -> Verdict
     ensures { λ r. ⌜ verdict r ≡ dates cycle last (verdict rest) ⌝ }
 {
     let past = past_end(cycle);
@@ -128,49 +128,49 @@ fn date_first(cycle: u64, last: u64, rest: Checked) -> Checked
 }
 
 // A dated call with no test of its own.
-pub fn date_refusal(cycle: u64, last: u64) -> Checked
+pub fn date_refusal(cycle: u64, last: u64) -> Verdict
     ensures { λ r. ⌜ verdict r ≡ datesOnly cycle last ⌝ }
 {
-    date_first(cycle, last, Checked::Passed)
+    date_first(cycle, last, Verdict::Passed)
 }
 
 // A FIFO write.
-pub fn send_refusal(cycle: u64, last: u64, left: usize, flying: usize) -> Checked
+pub fn send_refusal(cycle: u64, last: u64, left: usize, flying: usize) -> Verdict
     ensures { λ r. ⌜ verdict r ≡ sending cycle last left flying ⌝ }
 {
     let full = transmit_full(left, flying);
     date_first(
         cycle,
         last,
-        refuse_if(full, Refusal::TransmitFull, Checked::Passed),
+        refuse_if(full, Refusal::TransmitFull, Verdict::Passed),
     )
 }
 
 // The clock change.
-pub fn clock_refusal(cycle: u64, last: u64, period: u64) -> Checked
+pub fn clock_refusal(cycle: u64, last: u64, period: u64) -> Verdict
     ensures { λ r. ⌜ verdict r ≡ clocking cycle last period ⌝ }
 {
     let long = period_too_long(period);
     date_first(
         cycle,
         last,
-        refuse_if(long, Refusal::PeriodTooLong, Checked::Passed),
+        refuse_if(long, Refusal::PeriodTooLong, Verdict::Passed),
     )
 }
 
 // take_tx.
-pub fn take_refusal(cycle: u64, last: u64, room: usize) -> Checked
+pub fn take_refusal(cycle: u64, last: u64, room: usize) -> Verdict
     ensures { λ r. ⌜ verdict r ≡ takingTx cycle last room ⌝ }
 {
     date_first(cycle, last, written_refusal(room))
 }
 
 // take_written, which is undated.
-pub fn written_refusal(room: usize) -> Checked
+pub fn written_refusal(room: usize) -> Verdict
     ensures { λ r. ⌜ verdict r ≡ takingWritten room ⌝ }
 {
     let short = buffer_too_short(room);
-    refuse_if(short, Refusal::BufferTooShort, Checked::Passed)
+    refuse_if(short, Refusal::BufferTooShort, Verdict::Passed)
 }
 
 // The host's side of a receive: how many bytes wait, in how many runs, and the last run's date in subcycles.
@@ -181,11 +181,11 @@ pub struct Waiting {
 }
 
 // `receive` of `new` bytes dated `date`, in subcycles.
-pub fn receive_refusal(cycle: u64, last: u64, waiting: Waiting, new: usize, date: u64) -> Checked
+pub fn receive_refusal(cycle: u64, last: u64, waiting: Waiting, new: usize, date: u64) -> Verdict
     ensures { λ r. ⌜ verdict r ≡ receiving cycle last waiting new date ⌝ }
 {
     let full = host_full(waiting.bytes, new);
     let runs = runs_full(new, waiting.runs, waiting.last_date, date);
-    let host = refuse_if(runs, Refusal::RunsFull, Checked::Passed);
+    let host = refuse_if(runs, Refusal::RunsFull, Verdict::Passed);
     date_first(cycle, last, refuse_if(full, Refusal::HostFull, host))
 }

@@ -1,4 +1,4 @@
-// Text as the replay format has it: lines and words. All of it works on slices that the caller lends; nothing here
+// Text as the replay format has it: lines, words, numbers and bytes, read and spelled, over slices that the caller lends. Nothing here
 // reads or writes a file.
 pub mod digits;
 pub mod hex;

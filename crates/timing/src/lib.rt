@@ -20,6 +20,8 @@ fn wide(x: u32) -> u64
 }
 
 // Codes 0 and 1 count 2 half bits, 2 counts 3, 3 counts 4.
+// ASSUMPTION: code 0, which no source defines, lasts one stop bit; it is refused by name when written. A frame timed on a chip
+// set that way settles it.
 fn stop_half_bits(code: u32) -> u64
     ensures { λ r. ⌜ r ≡ stopHalfBits code ⌝ }
 {
@@ -41,6 +43,8 @@ pub fn frame_half_bits(conf0: u32) -> u64
 }
 
 // CLKDIV in sixteenths.
+// ASSUMPTION: the divider is what the register holds, down to 0: with CLKDIV 0 a byte takes no time. No source says what the chip
+// does below a divider of 1; a byte timed on a chip with CLKDIV 0 settles it.
 fn divider(clkdiv: u32) -> u64
     ensures { λ r. ⌜ r ≡ Timing·divider clkdiv ⌝ }
 {

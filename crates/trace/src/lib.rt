@@ -1,4 +1,4 @@
-// trace: names, forms, steps, last_word, numbers, lines.
+// A line of the replay format as a call: its name, its numbers and its last word, or what is wrong with it.
 pub mod arguments;
 pub mod faults;
 pub mod last_argument;

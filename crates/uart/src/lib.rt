@@ -16,7 +16,8 @@ ghost use mathlib.Core.Path.{_≡_};
 ghost use Rattle.model.specs.Settle.{settle};
 ghost use Rattle.model.specs.Replies.{asRead, readNumber, writeNumber, doneNumber};
 ghost use Rattle.model.specs.Calls.{read as Calls·read, write as Calls·write, wake as Calls·wake, reset as Calls·reset};
-ghost use Rattle.model.specs.Calls.{watch as Calls·watch, receive as Calls·receive, clockChange, powerDown, takeTx, takeWritten, hasLeft, hostPending};
+ghost use Rattle.model.specs.Calls.{watch as Calls·watch, receive as Calls·receive, clockChange, powerDown};
+ghost use Rattle.model.specs.Calls.{takeTx, takeWritten, hasLeft, hostPending};
 ghost use Rattle.device.specs.Settles.{Settles};
 ghost use Rattle.uart.specs.Whole.{arraysOf, meaning, Good, Answered, Took, SetsUp};
 
@@ -38,7 +39,7 @@ pub struct Uart {
 
 // A settled UART, the passes made and the bytes lost with UartRxOverflow.
 #[repr(C)]
-pub struct Settled {
+pub struct AfterSettle {
     pub uart: Uart,
     pub passes: u64,
     pub overflows: u64,
@@ -108,14 +109,14 @@ impl Uart {
     }
 
     // All that is due at a cycle is done. The work is `settled`'s, over the arrays lent to it.
-    pub fn settle(mut self, cycle: u64) -> Settled
+    pub fn settle(mut self, cycle: u64) -> AfterSettle
         requires { ⌜ Good self ⌝ }
         ensures { λ r. ⌜ Settles (settle cycle (meaning self)) (r .uart .core) (arraysOf (r .uart)) (r .passes) (r .overflows) ⌝ }
     {
         let mut tx = self.tx;
         let mut run_counts = self.run_counts;
         let mut rx = self.rx;
-        let done = settle::settled(
+        let done = settle::settle(
             self.core,
             &self.gone_at,
             &self.flight,
@@ -131,7 +132,7 @@ impl Uart {
         self.tx = tx;
         self.run_counts = run_counts;
         self.rx = rx;
-        Settled {
+        AfterSettle {
             uart: self,
             passes: done.passes,
             overflows: done.overflows,
@@ -314,7 +315,8 @@ impl Uart {
     // The host hands over bytes that may start at a cycle.
     pub fn receive(mut self, cycle: u64, at: u64, bytes: &[u8]) -> AfterDone
         requires { ⌜ Good self ⌝ }
-        ensures { λ r. ⌜ Answered (λ x. x) doneNumber (Calls·receive cycle at (now (bytes .entry))) self (r .uart) (r .reply) (r .report) ⌝ }
+        ensures { λ r. ⌜ Answered (λ x. x) doneNumber (Calls·receive cycle at (now (bytes .entry))) self (r .uart) (r .reply)
+            (r .report) ⌝ }
     {
         let mut tx = self.tx;
         let mut host = self.host;

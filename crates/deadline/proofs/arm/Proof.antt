@@ -18,8 +18,8 @@ enum-known-instant c = search needs
 cycles-requires : tie.Need-cycles-requires
 cycles-requires c κs = tt
 
-armed-requires : tie.Need-armed-requires
-armed-requires c κs = tt
+after-arm-requires : tie.Need-after-arm-requires
+after-arm-requires c κs = tt
 
 returns : tie.Need-returns
 unfolding inCycles
@@ -28,11 +28,11 @@ returns c = sym (ap (λ d. armed (inCycles d) (c .before .before .args .due)) (c
 returns-2 : tie.Need-returns-2
 unfolding inCycles
 returns-2 c =
-    ap (λ (d : Deadline). d .due) (c .armed .ensures)
+    ap (λ (d : Deadline). d .due) (c .after-arm .ensures)
     ∙ ap (λ n. armed (Date.At n) (c .before .before .before .before .before .args .due)) (c .before .cycles .ensures)
     ∙ sym (ap (λ d. armed (inCycles d) (c .before .before .before .before .before .args .due)) (c .before .before .before .instant .given .1))
 
 pub arm-spec : {M : Type 1} → statement M
 arm-spec =
     tie.close
-    (tie.spec enum-told enum-known-instant cycles-requires armed-requires returns returns-2)
+    (tie.spec enum-told enum-known-instant cycles-requires after-arm-requires returns returns-2)

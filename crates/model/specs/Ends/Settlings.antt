@@ -8,7 +8,7 @@ use Rattle.model.specs.State.{Uart, withWake, withPoweredDownAt, withCon
 use Rattle.model.specs.Settle.{Settled, pending, settlingDate, settle}
 use Rattle.model.specs.Arm.{called}
 use Rattle.model.specs.Replies.{noReport, report}
-use Rattle.model.specs.Calls.{Outcome, unsettled, afterSettling, undated, dated, settledAt, clocked, added, reclocked, readWork, writeWork, sendWork, receiveWork}
+use Rattle.model.specs.Calls.{Outcome, unsettled, afterSettling, undated, dated, settleAt, clocked, added, reclocked, readWork, writeWork, sendWork, receiveWork}
 use Rattle.model.specs.Calls.{wakeWork, watchWork, powerDownWork, clockWork, resetWork, takeTxWork, takeWrittenWork, hasLeft, hostPending}
 use Rattle.model.specs.Call.{Call, Request}
 use Rattle.model.specs.Run.{numberOf, answering, step}
@@ -70,7 +70,7 @@ unfolding sum noReport
 no-date = record { passes = refl; overflows = refl }
 
 carried-counts : (c : Request) (u : Uart ℕ ℕ) → Counts (settlings c u) (carriedOut c u .answer .report)
-unfolding settlings carriedOut answering settledAt undated
+unfolding settlings carriedOut answering settleAt undated
     readWork writtenAt sendWork writeWork receiveWork wakeWork resetWork powerDownWork watchWork clockWork reclocked takeTxWork takeWrittenWork hasLeft hostPending
 carried-counts (Call.read now offset) u = one _ _
 carried-counts (Call.write now x) u = choose-ind (λ (o : Outcome Write ℕ ℕ). Counts (settlings (Call.write now x) u) (o .report)) _ (λ _. one _ _) (λ _. one _ _)

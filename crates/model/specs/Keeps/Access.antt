@@ -16,7 +16,7 @@ use Rattle.model.specs.Replies.{refused}
 use Rattle.model.specs.Registers.{Access, pop, gives, readLooking, readAt, looks, startsAt, goneAt, sent, dropped, sendByte, resetFifos, storing, clearing, writePlace, concluded}
 use Rattle.model.specs.Tests.{sentLimit, transmitFull}
 use Rattle.model.specs.Calls
-use Rattle.model.specs.Calls.{afterSettling, dated, settledAt, readWork, writeWork, sendWork}
+use Rattle.model.specs.Calls.{afterSettling, dated, settleAt, readWork, writeWork, sendWork}
 use Rattle.model.specs.Limits.{All, flightDates, Fits}
 use Rattle.model.specs.Laws.Lists.{lastOf, chain-take, chain-snoc, all-take, all-snoc, all-last, map-take}
 use Rattle.model.specs.Laws.Choose.{choose-ind}
@@ -25,7 +25,7 @@ use Rattle.model.specs.Keeps.Parts.{FlightWithin, Parts, putFlight, putR
 use Rattle.model.specs.Keeps.Kept.{Kept, settle-keeps}
 use Rattle.model.specs.Keeps.Settling.{levels-parts}
 use Rattle.model.specs.Keeps.Wake.{arm-parts}
-use Rattle.model.specs.Keeps.Dated.{not-refused, dated-parts, settledAt-parts}
+use Rattle.model.specs.Keeps.Dated.{not-refused, dated-parts, settleAt-parts}
 use Rattle.model.specs.declared.Date.the-variants.{At}
 use Rattle.model.specs.declared.Place.{Place}
 use Rattle.model.specs.declared.Unsupported.{Unsupported}
@@ -82,7 +82,7 @@ module _ {H W : Type 0} where
 
   pub readPlaced-parts : (now : ℕ) (at : Place) (u : Uart H W) → Parts u → Parts (Calls.readPlaced now at u .state)
   unfolding Calls.readPlaced readWork afterSettling readAt
-  readPlaced-parts now at u p = dated-parts refused _ u p now none (λ h _. readLooking-parts (looks at) at _ (settledAt-parts now u h p))
+  readPlaced-parts now at u p = dated-parts refused _ u p now none (λ h _. readLooking-parts (looks at) at _ (settleAt-parts now u h p))
 
   -- ---- write
 
@@ -104,7 +104,7 @@ module _ {H W : Type 0} where
   pub writePlaced-parts : (now : ℕ) (at : Place) (v : ℕ) (u : Uart H W) → Parts u → Parts (Calls.writePlaced now at v u .state)
   unfolding Calls.writePlaced writeWork afterSettling
   writePlaced-parts now at v u p =
-      dated-parts Write.Refused _ u p now none (λ h _. concluded-parts _ (writePlace-parts at v _ (settledAt-parts now u h p)))
+      dated-parts Write.Refused _ u p now none (λ h _. concluded-parts _ (writePlace-parts at v _ (settleAt-parts now u h p)))
 
   -- ---- send
 
@@ -119,7 +119,7 @@ module _ {H W : Type 0} where
       (omega (arith, k .sent, leb-false)) (p .flight)))
 
   pub send-parts : (now : ℕ) (b : W) (u : Uart H W) → Parts u → Parts (Calls.send now b u .state)
-  unfolding Calls.send sendWork afterSettling settledAt dated
+  unfolding Calls.send sendWork afterSettling settleAt dated
   send-parts now b u p =
       dated-parts Write.Refused _ u p now _
-      (λ h e. concluded-parts _ (sendByte-parts now b (dated now u) _ (settle-keeps now (dated now u)) (not-refused _ _ none e .0) (settledAt-parts now u h p)))
+      (λ h e. concluded-parts _ (sendByte-parts now b (dated now u) _ (settle-keeps now (dated now u)) (not-refused _ _ none e .0) (settleAt-parts now u h p)))

@@ -7,7 +7,7 @@ use mathlib.Core.Option.{Option, none, some, Option·some-ne-none}
 use borrow.Author.Tests.{leb-false}
 use Rattle.model.specs.State.{Uart}
 use Rattle.model.specs.Tests.{dateEnd, pastEnd, wentBack, refuseIf, refuseDate}
-use Rattle.model.specs.Calls.{Outcome, refusing, unless, dated, settledAt}
+use Rattle.model.specs.Calls.{Outcome, refusing, unless, dated, settleAt}
 use Rattle.model.specs.Keeps.Parts.{Parts, putClock}
 use Rattle.model.specs.Keeps.Settling.{settle-parts}
 use Rattle.model.specs.declared.Refusal.{Refusal}
@@ -42,6 +42,6 @@ module _ {H W : Type 0} (now : ℕ) (u : Uart H W) (h : now < dateEnd) (p : Part
   unfolding dated
   moved-parts = putClock p (record { low = p .clock .low; high = p .clock .high; last = h; wake = p .clock .wake })
 
-  pub settledAt-parts : Parts (settledAt now u .state)
-  unfolding settledAt
-  settledAt-parts = settle-parts now (dated now u) moved-parts
+  pub settleAt-parts : Parts (settleAt now u .state)
+  unfolding settleAt
+  settleAt-parts = settle-parts now (dated now u) moved-parts

@@ -13,7 +13,7 @@ use Rattle.model.specs.State.{Uart, withTx}
 use Rattle.model.specs.Registers.{placeOf}
 use Rattle.model.specs.Tests.{sentLimit, runsLimit, periodLimit, hostFull, runsFull, periodTooLong}
 use Rattle.model.specs.Calls
-use Rattle.model.specs.Calls.{unsettled, afterSettling, undated, lastDate, hostDate, clearedLine, dated, settledAt, quiet, handOver, added, clocked, reclocked, cleared, receiveWork, wakeWork, watchWork, powerDownWork, clockWork, resetWork, takeTxWork, takeWrittenWork}
+use Rattle.model.specs.Calls.{unsettled, afterSettling, undated, lastDate, hostDate, clearedLine, dated, settleAt, quiet, handOver, added, clocked, reclocked, cleared, receiveWork, wakeWork, watchWork, powerDownWork, clockWork, resetWork, takeTxWork, takeWrittenWork}
 use Rattle.model.specs.Limits.{Chain, All, Fits, Within}
 use Rattle.model.specs.Laws.PlaceCases.{write-ind}
 use Rattle.model.specs.Keeps.Parts.{FlightWithin, Parts, putClock, putFlight, putRx, putHost, putLine, through}
@@ -21,7 +21,7 @@ use Rattle.model.specs.Keeps.Kept.{Kept, settle-keeps, fewer-waiting, fe
 use Rattle.model.specs.Keeps.Settling.{levels-parts, settle-parts}
 use Rattle.model.specs.Keeps.Wake.{called-within, arm-parts}
 use Rattle.model.specs.Keeps.Host.{joined-within}
-use Rattle.model.specs.Keeps.Dated.{not-refused, unless-parts, dated-parts, moved-parts, settledAt-parts}
+use Rattle.model.specs.Keeps.Dated.{not-refused, unless-parts, dated-parts, moved-parts, settleAt-parts}
 use Rattle.model.specs.Keeps.Access.{readPlaced-parts, writePlaced-parts, send-parts}
 use Rattle.model.specs.declared.Place.{Place}
 use Rattle.model.specs.declared.Done.{Done}
@@ -55,12 +55,12 @@ module _ {H W : Type 0} where
       (p .host)))
 
   receive-parts : (now at : ℕ) (bs : List H) (u : Uart H W) → Parts u → Parts (Calls.receive now at bs u .state)
-  unfolding Calls.receive receiveWork afterSettling quiet settledAt dated hostDate
+  unfolding Calls.receive receiveWork afterSettling quiet settleAt dated hostDate
   receive-parts now at bs u p =
       dated-parts Done.Refused _ u p now _
       (λ h e. let five = not-refused _ _ _ e in
       handOver-parts (hostDate now at) bs (dated now u) _ (settle-keeps now (dated now u)) (min-le-right _ _) (five .0) (not-refused _ _ none (five .1) .0)
-      (settledAt-parts now u h p))
+      (settleAt-parts now u h p))
 
   -- ---- wake, watch, clock, power-down, reset
 
@@ -68,7 +68,7 @@ module _ {H W : Type 0} where
   unfolding Calls.wake wakeWork afterSettling quiet
   wake-parts now u p =
       dated-parts Done.Refused _ u p now none
-      (λ h _. arm-parts _ (settledAt-parts now _ h (putClock p
+      (λ h _. arm-parts _ (settleAt-parts now _ h (putClock p
       (record { low = p .clock .low; high = p .clock .high; last = p .clock .last; wake = called-within now (u .control .wake) (p .clock .wake) }))))
 
   watch-parts : (now : ℕ) (b : Bool) (u : Uart H W) → Parts u → Parts (Calls.watch now b u .state)
@@ -88,7 +88,7 @@ module _ {H W : Type 0} where
   unfolding Calls.clockChange clockWork afterSettling reclocked added quiet periodTooLong
   clockChange-parts now period u p =
       dated-parts Done.Refused _ u p now _
-      (λ h e. arm-parts _ (settle-parts now _ (clocked-parts period _ (ltb-false _ _ (not-refused _ _ none e .0)) (settledAt-parts now u h p))))
+      (λ h e. arm-parts _ (settle-parts now _ (clocked-parts period _ (ltb-false _ _ (not-refused _ _ none e .0)) (settleAt-parts now u h p))))
 
   cleared-parts : (u : Uart H W) → Parts u → Parts (cleared u)
   unfolding cleared clearedLine
@@ -98,7 +98,7 @@ module _ {H W : Type 0} where
   reset-parts : (now : ℕ) (u : Uart H W) → Parts u → Parts (Calls.reset now u .state)
   unfolding Calls.reset resetWork afterSettling quiet
   reset-parts now u p =
-      dated-parts Done.Refused _ u p now none (λ h _. arm-parts _ (levels-parts _ (cleared-parts _ (settledAt-parts now _ h p))))
+      dated-parts Done.Refused _ u p now none (λ h _. arm-parts _ (levels-parts _ (cleared-parts _ (settleAt-parts now _ h p))))
 
   -- ---- taking what was sent
 
@@ -109,7 +109,7 @@ module _ {H W : Type 0} where
   module _ {L : Type 0} where
     takeTx-parts : (now : ℕ) (lent : List L) (u : Uart H W) → Parts u → Parts (Calls.takeTx now lent u .state)
     unfolding Calls.takeTx takeTxWork afterSettling quiet
-    takeTx-parts now lent u p = dated-parts _ _ u p now _ (λ h _. taken-parts (settledAt now u .state) (settledAt-parts now u h p))
+    takeTx-parts now lent u p = dated-parts _ _ u p now _ (λ h _. taken-parts (settleAt now u .state) (settleAt-parts now u h p))
 
     takeWritten-parts : (lent : List L) (u : Uart H W) → Parts u → Parts (Calls.takeWritten lent u .state)
     unfolding Calls.takeWritten takeWrittenWork undated

@@ -13,7 +13,7 @@ use Rattle.model.specs.Replies.{ReadOf}
 use Rattle.model.specs.Registers.{Access, placeOf, pop, gives, readPlace, sendByte, sent, dropped, storing, clearing, resetFifos, writePlace}
 use Rattle.model.specs.Tests.{dateEnd, pastEnd, wentBack, sentLimit, transmitFull, refuseIf, refuseDate}
 use Rattle.model.specs.Calls
-use Rattle.model.specs.Calls.{Outcome, refusing, unless, settledAt, readPlaced, readWork, writePlaced, writeWork, send, sendWork, writeAt}
+use Rattle.model.specs.Calls.{Outcome, refusing, unless, settleAt, readPlaced, readWork, writePlaced, writeWork, send, sendWork, writeAt}
 use Rattle.model.specs.Call.{Call, Written, reads, writes}
 use Rattle.model.specs.Run.{answering, stepBy, writing, step}
 use Rattle.model.specs.declared.Place.{Place}
@@ -25,7 +25,7 @@ use Rattle.model.specs.declared.Write.{Write}
 
 -- the state as the settling of a call at `now` leaves it
 abbrev pub settled : ℕ → Uart ℕ ℕ → Uart ℕ ℕ
-settled now u = settledAt now u .state
+settled now u = settleAt now u .state
 
 -- neither 2 nor 3
 pub record InTime {H W : Type 0} (now : ℕ) (u : Uart H W) : Type 0 where

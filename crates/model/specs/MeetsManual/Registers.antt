@@ -18,14 +18,14 @@ use Rattle.model.specs.Arm.{arm}
 use Rattle.model.specs.Replies.{word, report}
 use Rattle.model.specs.Registers.{placeOf, loaded, looks, statusWord, pop, gives, readPlace, readLooking, readAt, clearing, writePlace, concluded}
 use Rattle.model.specs.SetUp.{fifoCounts}
-use Rattle.model.specs.Calls.{afterSettling, dated, settledAt, readWork, writeWork}
+use Rattle.model.specs.Calls.{afterSettling, dated, settleAt, readWork, writeWork}
 use Rattle.model.specs.Call.{Call, Written, reads}
 use Rattle.model.specs.Run.{Step, answering, step}
 use Rattle.model.specs.Limits.{Within}
 use Rattle.model.specs.Laws.PlaceCases.{readPlace-ind}
 use Rattle.model.specs.Laws.Bits.{bit-and, bit-without}
 use Rattle.model.specs.Keeps.Parts.{apart, together}
-use Rattle.model.specs.Keeps.Dated.{settledAt-parts}
+use Rattle.model.specs.Keeps.Dated.{settleAt-parts}
 use Rattle.model.specs.MeetsManual.Rises.{rawBit, fullIn, emptyIn, levels-raise}
 use Rattle.model.specs.MeetsManual.FiveBits.{FiveBits, settling-rises}
 use Rattle.model.specs.MeetsManual.Answers.{settled, InTime, read-answer, clear-answer}
@@ -89,7 +89,7 @@ module _ (now : ℕ) (u : Uart ℕ ℕ) (t : InTime now u) where
   unfolding answering readWork afterSettling readAt looks readLooking readPlace gives
   status-read offset e within =
       let v : Uart ℕ ℕ = settled now u in
-      let limits : Within v = together v (settledAt-parts now u (t .beforeEnd) (apart u within)) in (
+      let limits : Within v = together v (settleAt-parts now u (t .beforeEnd) (apart u within)) in (
         statusWord (v .map .«idle_status») (length (v .inFlight)) (length (v .rx)),
         ap (λ (s : Step ℕ ℕ ℕ). s .answer .reply) (read-answer t offset Status e),
         low-count _ _ (length (v .rx)) (limits .status) (limits .received),
@@ -99,7 +99,7 @@ module _ (now : ℕ) (u : Uart ℕ ℕ) (t : InTime now u) where
   -- the level that a read reports is whether INT_ST is other than 0: it is driven as the settling ends, and no read changes it
   pub level-read : (offset : ℕ) (p : Place) → placeOf (u .map .offsets) offset ≡ p
       → step (Call.read now offset) u .answer .report .level ≡ not (eqb (intStatus (settled now u .control)) 0)
-  unfolding answering readWork afterSettling readAt report settledAt settle settleTo leveled levels drive intStatus
+  unfolding answering readWork afterSettling readAt report settleAt settle settleTo leveled levels drive intStatus
   level-read offset p e = ap (λ (s : Step ℕ ℕ ℕ). s .answer .report .level) (read-answer t offset p e) ∙ level-kept (looks p) p (settled now u)
 
   -- ---- INT_RAW, INT_ENA, INT_ST
@@ -151,6 +151,6 @@ module _ (now : ℕ) (u : Uart ℕ ℕ) (t : InTime now u) where
   -- last date moved
   pub raw-read-rises : (offset : ℕ) → placeOf (u .map .offsets) offset ≡ IntRaw
       → (step (Call.read now offset) u .answer .reply ≡ reads (word (lineOf (settled now u) .«int_raw»)))
-      × FiveBits (settlingDate now (u .control)) (dated now u) (settled now u) (settledAt now u .overflows)
-  unfolding settledAt settle settlingDate dated
+      × FiveBits (settlingDate now (u .control)) (dated now u) (settled now u) (settleAt now u .overflows)
+  unfolding settleAt settle settlingDate dated
   raw-read-rises offset e = (raw-read offset e, settling-rises _ (dated now u))

@@ -14,7 +14,7 @@ use Rattle.model.specs.Settle.{levels, settle}
 use Rattle.model.specs.Arm.{arm, nthGone, lastGone}
 use Rattle.model.specs.Registers.{Access, placeOf, startsAt, goneAt, sent, concluded}
 use Rattle.model.specs.Tests.{sentLimit}
-use Rattle.model.specs.Calls.{afterSettling, dated, settledAt, sendWork}
+use Rattle.model.specs.Calls.{afterSettling, dated, settleAt, sendWork}
 use Rattle.model.specs.Call.{Call, Written}
 use Rattle.model.specs.Run.{Step, answering, step}
 use Rattle.model.specs.Keeps.Rest.{settleTo-words, settleTo-period}
@@ -95,7 +95,7 @@ held-twice a d = omega arith
 module _ (now : ℕ) (u : Uart ℕ ℕ) (x : Written) (stop : Manual.StopBits) (t : InTime now u) (e : placeOf (u .map .offsets) (x .offset) ≡ Fifo)
     (room : length (u .tx) + length (u .inFlight) < sentLimit) (code : field 4 2 (u .control .words .conf0) ≡ Manual.stopCode stop) where
   settled-lasts : byteTime (settled now u .control .words) (settled now u .control .period) ≡ frameTime (u .control .words) (u .control .period) stop
-  unfolding settledAt settle dated
+  unfolding settleAt settle dated
   settled-lasts = ap₂ byteTime (settleTo-words _ (dated now u)) (settleTo-period _ (dated now u)) ∙ byte-lasts (u .control .words) (u .control .period) stop code
 
   -- a byte that is taken has gone a frame after it starts, which is now or when the last one in flight has gone

@@ -13,7 +13,7 @@ use Rattle.model.specs.Arm.{arm, called}
 use Rattle.model.specs.Replies.{ReadOf}
 use Rattle.model.specs.Registers.{Access, placeOf, pop, gives, readPlace, looks, readLooking, readAt, sendByte, sent, dropped, storing, clearing, resetFifos, writePlace, concluded}
 use Rattle.model.specs.Calls
-use Rattle.model.specs.Calls.{Outcome, refusing, unless, unsettled, undated, quiet, settledAt, dated, added, clocked, reclocked, cleared, handOver, afterSettling, readWork, sendWork, writePlaced, writeWork, send, wakeWork, clockWork, resetWork}
+use Rattle.model.specs.Calls.{Outcome, refusing, unless, unsettled, undated, quiet, settleAt, dated, added, clocked, reclocked, cleared, handOver, afterSettling, readWork, sendWork, writePlaced, writeWork, send, wakeWork, clockWork, resetWork}
 use Rattle.model.specs.Call.{Call, Written, Request}
 use Rattle.model.specs.Run.{answering, stepBy, writing, step}
 use Rattle.model.specs.Laws.Choose.{choose-ind}
@@ -93,13 +93,13 @@ module _ (now : ℕ) (R : Uart ℕ ℕ → Uart ℕ ℕ → Type 0) (k : Walk no
   unfolding settle settlingDate
   walk-settle u = k .settling _ (no-later (u .control .«powered_down_at») (subcycles now)) u
 
-  walk-settled : (u : Uart ℕ ℕ) → R u (settledAt now u .state)
-  unfolding settledAt dated
+  walk-settled : (u : Uart ℕ ℕ) → R u (settleAt now u .state)
+  unfolding settleAt dated
   walk-settled u = k .on u (dated now u) _ (k .alike u _ refl) (walk-settle (dated now u))
 
-  walk-after : {A : Type 0} (u : Uart ℕ ℕ) (work : Uart ℕ ℕ → Access A ℕ ℕ) → ((v : Uart ℕ ℕ) → R v (work v .state)) → R u (afterSettling (settledAt now u) work .state)
+  walk-after : {A : Type 0} (u : Uart ℕ ℕ) (work : Uart ℕ ℕ → Access A ℕ ℕ) → ((v : Uart ℕ ℕ) → R v (work v .state)) → R u (afterSettling (settleAt now u) work .state)
   unfolding afterSettling
-  walk-after u work h = k .on u (settledAt now u .state) _ (walk-settled u) (h (settledAt now u .state))
+  walk-after u work h = k .on u (settleAt now u .state) _ (walk-settled u) (h (settleAt now u .state))
 
   walk-unless : {A : Type 0} (o : Option Refusal) (reply : Refusal → A) (work : Uart ℕ ℕ → Outcome A ℕ ℕ) (u : Uart ℕ ℕ) → R u (work u .state) → R u (unless o reply work u .state)
   unfolding refusing
@@ -160,9 +160,9 @@ module _ (now : ℕ) (R : Uart ℕ ℕ → Uart ℕ ℕ → Type 0) (k : Walk no
   walk-hand-over date (b ∷ bs) u = k .alike u _ refl
 
   -- a settling after a change elsewhere, and the next wake armed
-  walk-armed : (u v : Uart ℕ ℕ) → watchedParts v ≡ watchedParts u → R u (arm (settledAt now v .state))
+  walk-armed : (u v : Uart ℕ ℕ) → watchedParts v ≡ watchedParts u → R u (arm (settleAt now v .state))
   unfolding arm
-  walk-armed u v e = k .on u v _ (k .alike u v e) (k .on v (settledAt now v .state) _ (walk-settled v) (k .alike (settledAt now v .state) _ refl))
+  walk-armed u v e = k .on u v _ (k .alike u v e) (k .on v (settleAt now v .state) _ (walk-settled v) (k .alike (settleAt now v .state) _ refl))
 
   walk-wake : (u : Uart ℕ ℕ) → R u (wakeWork now u .state)
   unfolding wakeWork afterSettling quiet
@@ -172,7 +172,7 @@ module _ (now : ℕ) (R : Uart ℕ ℕ → Uart ℕ ℕ → Type 0) (k : Walk no
   walk-clock : (period : ℕ) (u : Uart ℕ ℕ) → R u (clockWork now period u .state)
   unfolding clockWork afterSettling reclocked added clocked arm quiet
   walk-clock period u =
-      let v : Uart ℕ ℕ = settledAt now u .state in
+      let v : Uart ℕ ℕ = settleAt now u .state in
       let w : Uart ℕ ℕ = clocked period v in
       k .on u v _ (walk-settled u) (k .on v w _ (k .alike v w refl) (k .on w (settle now w .state) _ (walk-settle w) (k .alike (settle now w .state) _ refl)))
 
@@ -180,7 +180,7 @@ module _ (now : ℕ) (R : Uart ℕ ℕ → Uart ℕ ℕ → Type 0) (k : Walk no
   unfolding resetWork afterSettling quiet arm
   walk-reset u clr =
       let v : Uart ℕ ℕ = withControl (withPoweredDownAt Date.None (u .control)) u in
-      let w : Uart ℕ ℕ = settledAt now v .state in
+      let w : Uart ℕ ℕ = settleAt now v .state in
       k .on u v _ (k .alike u v refl)
       (k .on v w _ (walk-settled v) (k .on w (cleared w) _ (clr w) (k .on (cleared w) (levels (cleared w)) _ (k .raising (cleared w)) (k .alike (levels (cleared w)) _ refl))))
 

@@ -17,7 +17,7 @@ use Rattle.model.specs.Line.{raiseIf, fifoBytes, afterDate, timeoutAt, f
 use Rattle.model.specs.Settle.{Pass, txDone, leave, depart, received, nothingDue, timedOut, landed, inFrame, begun, passOn, pass, goesOn, lost, counted, passesFrom, pending, begin, passes, levels, leveled, settingsOf, settleTo, settle, settlingDate}
 use Rattle.model.specs.Replies.{byte}
 use Rattle.model.specs.Registers.{placeOf, pop, looks, readPlace, readLooking, readAt}
-use Rattle.model.specs.Calls.{dated, settledAt, afterSettling, readWork}
+use Rattle.model.specs.Calls.{dated, settleAt, afterSettling, readWork}
 use Rattle.model.specs.Call.{Call, reads}
 use Rattle.model.specs.Run.{Step, answering, step}
 use Rattle.model.specs.Limits.{Within, isHeard}
@@ -113,7 +113,7 @@ pub byte-read : (now offset : ℕ) (u : Uart ℕ ℕ) (l : OnTheLine ℕ) → In
     → l .frame .heard ≡ true → bit 25 (u .control .words .«clk_conf») ≡ true → bit 17 (u .control .words .conf0) ≡ false → u .rx ≡ []
     → lineOf u .«line_free_at» ≤ settlingDate now (u .control)
     → step (Call.read now offset) u .answer .reply ≡ reads (byte (l .byte))
-unfolding answering readWork afterSettling readAt looks readLooking readPlace settledAt settle settlingDate dated
+unfolding answering readWork afterSettling readAt looks readLooking readPlace settleAt settle settlingDate dated
 byte-read now offset u l t limits e on heard clock rst empty come =
     let closed : lineOf u .«idle_since» ≡ Date.None = limits .idleLine (ap isHeard on ∙ heard) in
     let stored = landing-settled (settlingDate now (u .control)) (dated now u) l closed on heard clock rst (rw empty (omega arith)) come in

@@ -14,7 +14,7 @@ use Rattle.model.specs.Settle.{Pass, txDone, leave, depart, nothingDue, 
 use Rattle.model.specs.Arm.{arm}
 use Rattle.model.specs.Registers.{Access, placeOf, sendByte, sent, dropped, storing, clearing, resetFifos, writePlace, concluded}
 use Rattle.model.specs.Calls
-use Rattle.model.specs.Calls.{Outcome, refusing, clearedLine, cleared, settledAt, afterSettling, sendWork, writeWork, writePlaced, send}
+use Rattle.model.specs.Calls.{Outcome, refusing, clearedLine, cleared, settleAt, afterSettling, sendWork, writeWork, writePlaced, send}
 use Rattle.model.specs.Call.{Call, Written, Request, writes}
 use Rattle.model.specs.Run.{Step, answering, stepBy, writing, step}
 use Rattle.model.specs.Laws.Choose.{choose-ind}
@@ -50,7 +50,7 @@ module _ {H W : Type 0} where
 -- a refused write leaves all as it was; another leaves the byte on the line and its landing date as settling leaves them
 pub data LineLeft (now : ℕ) (u : Uart ℕ ℕ) (s : Step ℕ ℕ ℕ) : Type 0 where
   refused : (r : Refusal) → s .answer .reply ≡ writes (Write.Refused r) → s .state ≡ u → LineLeft now u s
-  settled : onLine (s .state) ≡ onLine (settledAt now u .state) → LineLeft now u s
+  settled : onLine (s .state) ≡ onLine (settleAt now u .state) → LineLeft now u s
 
 -- whatever is written wherever: CLKDIV too gives the byte on the line no new rate
 pub write-leaves-line : (now : ℕ) (x : Written) (u : Uart ℕ ℕ) → LineLeft now u (step (Call.write now x) u)
@@ -66,7 +66,7 @@ write-leaves-line now x u =
     b = x .value % 256
 
     v : Uart ℕ ℕ
-    v = settledAt now u .state
+    v = settleAt now u .state
 
     Left : Outcome Write ℕ ℕ → Type 0
     Left o = LineLeft now u (answering writes o)

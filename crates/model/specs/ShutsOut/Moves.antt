@@ -17,7 +17,7 @@ use Rattle.model.specs.Replies.{Take, report}
 use Rattle.model.specs.Registers.{Access, placeOf, sourceNotes, goneAt, sent, dropped, sendByte, concluded}
 use Rattle.model.specs.Tests.{dateEnd, sentLimit, hostLimit, hostFull, runsFull, bufferTooShort, refuseIf}
 use Rattle.model.specs.Calls
-use Rattle.model.specs.Calls.{Outcome, afterSettling, quiet, settledAt, dated, filled, hostDate, lastDate, sendWork, takeTxWork, receiveWork}
+use Rattle.model.specs.Calls.{Outcome, afterSettling, quiet, settleAt, dated, filled, hostDate, lastDate, sendWork, takeTxWork, receiveWork}
 use Rattle.model.specs.Call.{Call, Written, writes, does, takes}
 use Rattle.model.specs.Run.{Step, answering, stepBy, step}
 use Rattle.model.specs.SetUp.{mapOf, newControl, new}
@@ -41,19 +41,19 @@ module _ (now : ℕ) (u : Uart ℕ ℕ) (x : Written) (t : InTime now u) (e : pl
 
   -- its report with these notices
   abbrev reported : List Unsupported → Report
-  reported ns = report (settledAt now u .passes) (settledAt now u .overflows) ns (given .state)
+  reported ns = report (settleAt now u .passes) (settleAt now u .overflows) ns (given .state)
 
   send-answer : (a : Access Write ℕ ℕ) → sendByte now (x .value % 256) (settled now u) ≡ a
       → (given .answer .reply ≡ writes (a .reply)) × (given .state .inFlight ≡ a .state .inFlight)
       × (given .answer .report ≡ reported (a .notes))
   unfolding answering sendWork afterSettling concluded arm levels
   send-answer a h =
-      let q : given ≡ answering writes (afterSettling (settledAt now u) (λ _. concluded a)) =
-      fifo-answer t x e room ∙ ap (λ (b : Access Write ℕ ℕ). answering writes (afterSettling (settledAt now u) (λ _. concluded b))) h in (
+      let q : given ≡ answering writes (afterSettling (settleAt now u) (λ _. concluded a)) =
+      fifo-answer t x e room ∙ ap (λ (b : Access Write ℕ ℕ). answering writes (afterSettling (settleAt now u) (λ _. concluded b))) h in (
         ap (λ (z : Step ℕ ℕ ℕ). z .answer .reply) q,
         ap (λ (z : Step ℕ ℕ ℕ). z .state .inFlight) q,
         ap (λ (z : Step ℕ ℕ ℕ). z .answer .report) q
-            ∙ ap (λ (z : Step ℕ ℕ ℕ). report (settledAt now u .passes) (settledAt now u .overflows) (a .notes) (z .state)) (sym q),
+            ∙ ap (λ (z : Step ℕ ℕ ℕ). report (settleAt now u .passes) (settleAt now u .overflows) (a .notes) (z .state)) (sym q),
       )
 
   -- with 128 bytes in flight, and with fewer, the byte joins them, and no notice but the clock's is given
@@ -99,7 +99,7 @@ pub byte-handed-out : (now : ℕ) (u : Uart ℕ ℕ) (lent : List ℕ) (s : Sent
     → s .goneAt ≤ settlingDate now (u .control)
     → step (Call.takeTx now lent) u .answer .reply
     ≡ takes (filled (u .tx ++ (s .byte ∷ map (λ x. x .byte) (take (gone (settlingDate now (u .control)) ss) ss))) lent)
-unfolding step stepBy answering Calls.takeTx takeTxWork afterSettling quiet settledAt settle settlingDate dated refuseIf bufferTooShort
+unfolding step stepBy answering Calls.takeTx takeTxWork afterSettling quiet settleAt settle settlingDate dated refuseIf bufferTooShort
 byte-handed-out now u lent s ss t long e h =
     ap (λ (o : Outcome (Take ℕ ℕ) ℕ ℕ). takes (o .reply))
     (carried-out _ (takeTxWork now lent) u
@@ -117,7 +117,7 @@ module _ (offsets ws : List ℕ) (now : ℕ) (early : now < dateEnd) where
   new-in-time = record { beforeEnd = early; notBack = omega arith }
 
   none-flying : settled now fresh .inFlight ≡ []
-  unfolding settledAt settle dated new depart leave gone
+  unfolding settleAt settle dated new depart leave gone
   none-flying = settleTo-inFlight _ (dated now fresh)
 
   -- neither 4 nor any other number at a first write to FIFO: the byte is in flight

@@ -14,7 +14,7 @@ use Rattle.model.specs.State.{Run, OnTheLine, Uart, lineOf}
 use Rattle.model.specs.Line.{raiseIf, noteSource, afterDate, timeoutAt, timeOut, start}
 use Rattle.model.specs.Settle.{Pass, Settled, txDone, leave, depart, nothingDue, timedOut, landed, begun, idle, lineFree, passOn, pass, counted, passesFrom, pending, begin, passes, assertLevels, drive, levels, leveled, settingsOf, settleTo, settle, settlingDate}
 use Rattle.model.specs.Registers.{Access, pop, gives, readPlace, readLooking, readAt, looks, placeOf}
-use Rattle.model.specs.Calls.{dated, settledAt, afterSettling, readWork}
+use Rattle.model.specs.Calls.{dated, settleAt, afterSettling, readWork}
 use Rattle.model.specs.Call.{Call}
 use Rattle.model.specs.Run.{Step, answering, step}
 use Rattle.model.specs.Laws.Choose.{choose-ind}
@@ -145,11 +145,11 @@ module _ {H W : Type 0} where
 -- once its date has come, the timeout has closed the idle line, enabled or not: seen after a read anywhere
 pub timeout-closes-line : (now offset : ℕ) (u : Uart ℕ ℕ) → InTime now u → Still u → dueBy (settlingDate now (u .control)) (timeoutAt (settingsOf u) (lineOf u)) ≡ true
     → lineOf (step (Call.read now offset) u .state) .«idle_since» ≡ Date.None
-unfolding answering readWork afterSettling readAt settledAt settle settlingDate dated settingsOf
+unfolding answering readWork afterSettling readAt settleAt settle settlingDate dated settingsOf
 timeout-closes-line now offset u t h due =
     let p : Place = placeOf (u .map .offsets) offset in
     ap (λ (x : Step ℕ ℕ ℕ). lineOf (x .state) .«idle_since») (read-answer t offset p refl)
-    ∙ looking-idle (looks p) p (settledAt now u .state)
+    ∙ looking-idle (looks p) p (settleAt now u .state)
     ∙ settling-closes _ (dated now u) (record { line = h .line; waiting = h .waiting }) due
 
 off-tout : (conf1 clkConf held : ℕ) (b : Bool) → bit 21 conf1 ≡ false → Manual.RXFIFO-TOUT conf1 clkConf b held ≡ false
@@ -159,7 +159,7 @@ off-tout conf1 clkConf held false e = refl
 
 -- with RX_TOUT_EN clear no settling raises RXFIFO_TOUT
 pub disabled-raises-nothing : (now : ℕ) (u : Uart ℕ ℕ) → bit 21 (u .control .words .conf1) ≡ false → rawBit 8 (settled now u) ≡ rawBit 8 u
-unfolding settledAt settle dated timeoutCame
+unfolding settleAt settle dated timeoutCame
 disabled-raises-nothing now u e =
     settling-rises _ (dated now u) .tout
     ∙ ap (λ (b : Bool). rawBit 8 u || b) (no-pass _ _ _ (λ held f. off-tout (u .control .words .conf1) (u .control .words .«clk_conf») held (isTimeout f) e) _ true _)

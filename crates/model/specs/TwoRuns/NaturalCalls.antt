@@ -12,7 +12,7 @@ use Rattle.model.specs.Arm.{arm}
 use Rattle.model.specs.Replies.{ReadOf, word, byte, report}
 use Rattle.model.specs.Registers.{Access, loaded, pop, gives, readPlace, readLooking, readAt, goneAt, sent, dropped, sendByte, resetFifos, storing, clearing, writePlace, concluded}
 use Rattle.model.specs.Calls
-use Rattle.model.specs.Calls.{Outcome, refusing, unless, unsettled, afterSettling, undated, filled, notTaken, dated, settledAt, quiet, readWork, readPlaced, writeWork, writePlaced, sendWork, send, joined, handOver, receiveWork, wakeWork, watchWork, powerDownWork, added, clocked, reclocked, clockWork, cleared, resetWork, written, takeTxWork, takeWrittenWork}
+use Rattle.model.specs.Calls.{Outcome, refusing, unless, unsettled, afterSettling, undated, filled, notTaken, dated, settleAt, quiet, readWork, readPlaced, writeWork, writePlaced, sendWork, send, joined, handOver, receiveWork, wakeWork, watchWork, powerDownWork, added, clocked, reclocked, clockWork, cleared, resetWork, written, takeTxWork, takeWrittenWork}
 use Rattle.model.specs.Call.{Call, Reply}
 use Rattle.model.specs.Run.{Step, answering, stepBy, runBy}
 use Rattle.model.specs.TwoRuns.Natural.{mapSettled, bytes-nat, lastGone-nat, pending-nat, levels-nat, settle-nat, arm-nat}
@@ -110,7 +110,7 @@ module _ {H H′ W W′ : Type 0} (f : H → H′) (g : W → W′) where
   readLooking-nat false p u = readPlace-nat _ p u
 
   readPlaced-nat : (now : ℕ) (p : Place) (u : Uart H W) → readPlaced now p (mapUart f g u) ≡ mapOutcome (mapReadOf f) f g (readPlaced now p u)
-  unfolding readPlaced readWork readAt settledAt dated mapReadOf
+  unfolding readPlaced readWork readAt settleAt dated mapReadOf
   readPlaced-nat now p u = unless-nat (mapReadOf f) f g _ _ _ _ _ u (λ r. refl) (settled-nat (mapReadOf f) f g now _ _ _ (λ v. readLooking-nat _ p v))
 
   storing-nat : (p : Place) (v : ℕ) (u : Uart H W) → storing p v (mapUart f g u) ≡ mapAccess itself f g (storing p v u)
@@ -160,7 +160,7 @@ module _ {H H′ W W′ : Type 0} (f : H → H′) (g : W → W′) where
   sendByte-nat now b u = rw (length-map (u .inFlight) (mapSent g)) (choose-nat (mapAccess itself f g) _ (dropped-nat u) (sent-nat now b u))
 
   putting-nat : (now : ℕ) (x : Put W) (u : Uart H W) → putting now (mapPut g x) (mapUart f g u) ≡ mapOutcome itself f g (putting now x u)
-  unfolding putting mapPut send sendWork writePlaced writeWork settledAt dated
+  unfolding putting mapPut send sendWork writePlaced writeWork settleAt dated
   putting-nat now (Put.byte b) u =
       rw (length-map (u .tx) g, length-map (u .inFlight) (mapSent g))
       (unless-nat itself f g _ _ _ _ _ u (λ r. refl) (settled-nat itself f g now _ _ _ (λ v. ap concluded (sendByte-nat now b v) ∙ concluded-nat itself f g _)))
@@ -176,7 +176,7 @@ module _ {H H′ W W′ : Type 0} (f : H → H′) (g : W → W′) where
       rw (length-map bs f, ← map-append f (u .host) (b ∷ bs)) (arm-nat f g (withHost (u .host ++ (b ∷ bs)) (joined date (length (b ∷ bs)) (u .hostRuns)) u))
 
   receive-nat : (now at : ℕ) (bs : List H) (u : Uart H W) → Calls.receive now at (map f bs) (mapUart f g u) ≡ mapOutcome itself f g (Calls.receive now at bs u)
-  unfolding Calls.receive receiveWork settledAt dated
+  unfolding Calls.receive receiveWork settleAt dated
   receive-nat now at bs u =
       rw (length-map (u .host) f, length-map bs f)
       (unless-nat itself f g _ _ _ _ _ u (λ r. refl) (settled-nat itself f g now _ _ _ (λ v. quiet-nat itself f g Done.Done _ refl (handOver-nat _ bs v))))
@@ -191,7 +191,7 @@ module _ {H H′ W W′ : Type 0} (f : H → H′) (g : W → W′) where
   armed-nat v = quiet-nat itself f g Done.Done (arm v) refl (arm-nat f g v)
 
   wake-nat : (now : ℕ) (u : Uart H W) → Calls.wake now (mapUart f g u) ≡ mapOutcome itself f g (Calls.wake now u)
-  unfolding Calls.wake wakeWork settledAt dated
+  unfolding Calls.wake wakeWork settleAt dated
   wake-nat now u = unless-nat itself f g _ _ _ _ _ u (λ r. refl) (settled-nat itself f g now _ _ _ armed-nat)
 
   watch-nat : (now : ℕ) (b : Bool) (u : Uart H W) → Calls.watch now b (mapUart f g u) ≡ mapOutcome itself f g (Calls.watch now b u)
@@ -216,7 +216,7 @@ module _ {H H′ W W′ : Type 0} (f : H → H′) (g : W → W′) where
       ap (λ v. added (mapSettled f g t) (settle now v)) (clocked-nat period t) ∙ ap (added (mapSettled f g t)) (settle-nat f g now (clocked period (t .state))) ∙ added-nat t _
 
   clockChange-nat : (now period : ℕ) (u : Uart H W) → Calls.clockChange now period (mapUart f g u) ≡ mapOutcome itself f g (Calls.clockChange now period u)
-  unfolding Calls.clockChange clockWork settledAt dated
+  unfolding Calls.clockChange clockWork settleAt dated
   clockChange-nat now period u =
       unless-nat itself f g _ _ _ _ _ u (λ r. refl)
       (ap (λ t. afterSettling (reclocked now period t) (λ s. quiet Done.Done (arm s))) (settle-nat f g now (dated now u))
@@ -224,7 +224,7 @@ module _ {H H′ W W′ : Type 0} (f : H → H′) (g : W → W′) where
       ∙ after-nat itself f g _ _ _ armed-nat)
 
   reset-nat : (now : ℕ) (u : Uart H W) → Calls.reset now (mapUart f g u) ≡ mapOutcome itself f g (Calls.reset now u)
-  unfolding Calls.reset resetWork settledAt dated cleared
+  unfolding Calls.reset resetWork settleAt dated cleared
   reset-nat now u =
       unless-nat itself f g _ _ _ _ _ u (λ r. refl)
       (settled-nat itself f g now _ _ _ (λ v. ap (λ w. quiet Done.Done (arm w)) (levels-nat f g (cleared v)) ∙ armed-nat (levels (cleared v))))
@@ -249,7 +249,7 @@ module _ {H H′ W W′ : Type 0} (f : H → H′) (g : W → W′) where
     notTaken-nat lent r = refl
 
     takeTx-nat : (now : ℕ) (lent : List L) (u : Uart H W) → Calls.takeTx now (map h lent) (mapUart f g u) ≡ mapOutcome (mapTake g h) f g (Calls.takeTx now lent u)
-    unfolding Calls.takeTx takeTxWork settledAt dated
+    unfolding Calls.takeTx takeTxWork settleAt dated
     takeTx-nat now lent u =
         rw (length-map lent h)
         (unless-nat (mapTake g h) f g _ _ _ _ _ u (notTaken-nat lent)

@@ -13,7 +13,7 @@ use Rattle.model.specs.Limits.{nil, cons}
 use Rattle.model.specs.Replies.{refused, notices, report}
 use Rattle.model.specs.Registers.{placeOf, loaded, looks, pop, gives, readPlace, readLooking, readAt}
 use Rattle.model.specs.Tests.{refuseDate}
-use Rattle.model.specs.Calls.{refusing, unless, afterSettling, settledAt, readWork, readPlaced}
+use Rattle.model.specs.Calls.{refusing, unless, afterSettling, settleAt, readWork, readPlaced}
 use Rattle.model.specs.Call.{Call, Request, reads}
 use Rattle.model.specs.Run.{answering, stepBy, runBy}
 use Rattle.model.specs.TwoRuns.Placed.{changed, placed, stepPlaced}
@@ -46,7 +46,7 @@ module _ (fifo : ℕ) (c : Request) (e : readsFifo fifo c ≡ true) where
     where
       go : (o : Option Refusal) → Shape fifo c (record { reply = reads (unless o refused (readWork now Fifo) u .reply); report = unless o refused (readWork now Fifo) u .report })
       go (some r) = Shape.fifoRefused e
-      go none = pop-shape _ _ (lineOf (settledAt now u .state) .«rx_mistimed») (settledAt now u .state .rx) _
+      go none = pop-shape _ _ (lineOf (settleAt now u .state) .«rx_mistimed») (settleAt now u .state .rx) _
 
 -- ---- a read of another place
 
@@ -64,7 +64,7 @@ placed-noByte p k now u = go (refuseDate now (u .control) none)
   where
     go : (o : Option Refusal) → byteRead (unless o refused (readWork now p) u .reply) ≡ []
     go (some r) = refl
-    go none = looking-noByte p k (looks p) (settledAt now u .state)
+    go none = looking-noByte p k (looks p) (settleAt now u .state)
 
 -- ---- every call
 

@@ -13,14 +13,14 @@ wide-requires c κs = tt
 popped-requires : tie.Need-popped-requires
 popped-requires c κs = search needs
 
-with-empty-read-requires : tie.Need-with-empty-read-requires
-with-empty-read-requires c κs = tt
+note-empty-read-requires : tie.Need-note-empty-read-requires
+note-empty-read-requires c κs = tt
 
 returns : tie.Need-returns
 returns c = pop-takes _ _ _ (c .before .before .before .if1 .taken) (c .popped .ensures) (c .before .wide .ensures)
 
 returns-2 : tie.Need-returns-2
-returns-2 c = pop-misses _ _ _ (c .before .if1 .left) (c .with-empty-read .ensures)
+returns-2 c = pop-misses _ _ _ (c .before .if1 .left) (c .note-empty-read .ensures)
 
 pub pop-spec : {M : Type 1} → statement M
 pop-spec =
@@ -29,6 +29,6 @@ pop-spec =
     element-copy-out-wide
     wide-requires
     popped-requires
-    with-empty-read-requires
+    note-empty-read-requires
     returns
     returns-2)

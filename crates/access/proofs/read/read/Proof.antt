@@ -21,15 +21,15 @@ date-refusal-requires c κs = tt
 enum-known-tests : tie.Need-enum-known-tests
 enum-known-tests c = c .match .keys1
 
-refused-requires : tie.Need-refused-requires
-refused-requires c κs = tt
+refuse-requires : tie.Need-refuse-requires
+refuse-requires c κs = tt
 
 enum-told : tie.Need-enum-told
 enum-told c = c .match .keys2
 
-read-settled-requires : tie.Need-read-settled-requires
+carry-out-requires : tie.Need-carry-out-requires
 unfolding datesOnly
-read-settled-requires c κs = (c .before .before .before .before .before .before .before .before .before .before .pre, in-time _ _ none (passes (c .before .before .before .before .before .date-refusal .ensures) (c .before .before .before .enum-told .given .1)) .0)
+carry-out-requires c κs = (c .before .before .before .before .before .before .before .before .before .before .pre, in-time _ _ none (passes (c .before .before .before .before .before .date-refusal .ensures) (c .before .before .before .enum-told .given .1)) .0)
 
 returns : tie.Need-returns
 unfolding Calls.read asRead
@@ -37,7 +37,7 @@ returns c =
     let start = c .before .before .before .before .before .before .before .before .before in
     let o = start .args in
     let place = placeOf (o .core .map .offsets) (o .offset) in
-    rw (c .refused .ensures)
+    rw (c .refuse .ensures)
     (turned-away asRead readNumber refused (readWork (o .cycle) place) _ _ (read-tests (o .cycle) _ place)
     (refuses (c .before .before .before .before .date-refusal .ensures) (c .before .before .tests .given .1)) (start .pre))
 
@@ -49,7 +49,7 @@ returns-2 c =
     let place = placeOf (o .core .map .offsets) (o .offset) in
     let tests = passes (c .before .before .before .before .before .before .date-refusal .ensures) (c .before .before .before .before .enum-told .given .1) in
     carried asRead readNumber refused (readWork (o .cycle) place) _ _ (read-tests (o .cycle) _ place) tests
-    (read-within (o .cycle) (o .offset) _ (start .pre .within)) (looking-proper _ _ _ .zero) (rw (c .before .before .before .before .before .before .before .before .place-of .ensures) at (c .read-settled .ensures))
+    (read-within (o .cycle) (o .offset) _ (start .pre .within)) (looking-proper _ _ _ .zero) (rw (c .before .before .before .before .before .before .before .before .place-of .ensures) at (c .carry-out .ensures))
 
 pub read-spec : {M : Type 1} → statement M
 read-spec =
@@ -58,8 +58,8 @@ read-spec =
     place-of-requires
     date-refusal-requires
     enum-known-tests
-    refused-requires
+    refuse-requires
     enum-told
-    read-settled-requires
+    carry-out-requires
     returns
     returns-2)

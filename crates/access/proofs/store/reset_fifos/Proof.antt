@@ -12,15 +12,15 @@ rxfifo-rst-requires c κs = tt
 cut-if-requires : tie.Need-cut-if-requires
 cut-if-requires c κs = tt
 
-emptied-if-requires : tie.Need-emptied-if-requires
-emptied-if-requires c κs = tt
+empty-if-requires : tie.Need-empty-if-requires
+empty-if-requires c κs = tt
 
 returns : tie.Need-returns
 returns c =
     let o = c .before .before .before .before .args in
-    resets (o .conf0) (o .core) (c .before .cut-if .ensures) (c .before .before .before .txfifo-rst .ensures) (c .emptied-if .ensures) (c .before .before .rxfifo-rst .ensures)
+    resets (o .conf0) (o .core) (c .before .cut-if .ensures) (c .before .before .before .txfifo-rst .ensures) (c .empty-if .ensures) (c .before .before .rxfifo-rst .ensures)
 
 pub reset-fifos-spec : {M : Type 1} → statement M
 reset-fifos-spec =
     tie.close
-    (tie.spec txfifo-rst-requires rxfifo-rst-requires cut-if-requires emptied-if-requires returns)
+    (tie.spec txfifo-rst-requires rxfifo-rst-requires cut-if-requires empty-if-requires returns)

@@ -11,8 +11,8 @@ use Rattle.access.proofs.store.write_place.Tie as tie
 enum-told : tie.Need-enum-told
 enum-told c = search needs
 
-cleared-requires : tie.Need-cleared-requires
-cleared-requires c κs = tt
+clear-interrupts-requires : tie.Need-clear-interrupts-requires
+clear-interrupts-requires c κs = tt
 
 enum-told-2 : tie.Need-enum-told-2
 enum-told-2 c = search needs
@@ -20,22 +20,22 @@ enum-told-2 c = search needs
 reset-fifos-requires : tie.Need-reset-fifos-requires
 reset-fifos-requires c κs = tt
 
-stored-requires : tie.Need-stored-requires
-stored-requires c κs = tt
+store-requires : tie.Need-store-requires
+store-requires c κs = tt
 
-stored-requires-2 : tie.Need-stored-requires-2
-stored-requires-2 c κs = tt
+store-requires-2 : tie.Need-store-requires-2
+store-requires-2 c κs = tt
 
 returns : tie.Need-returns
 unfolding writePlace
 returns c = λ a k.
-    rw (c .before .enum-told .given .1) (cleared-puts _ a k _ (c .cleared .ensures))
+    rw (c .before .enum-told .given .1) (cleared-puts _ a k _ (c .clear-interrupts .ensures))
 
 returns-2 : tie.Need-returns-2
 unfolding writePlace
 returns-2 c = λ a k.
     let at = c .before .before .enum-told2 .given .1 in
-    rw at (conf0-puts _ a k _ (c .before .reset-fifos .ensures) (rw at at (c .stored .ensures)))
+    rw at (conf0-puts _ a k _ (c .before .reset-fifos .ensures) (rw at at (c .store .ensures)))
 
 returns-3 : tie.Need-returns-3
 unfolding writePlace
@@ -44,18 +44,18 @@ returns-3 c = λ a k.
     other-puts _ a k (o .value) (o .place)
     (place-keys (Stores (o .value)) 0 (1 ∷ 2 ∷ 3 ∷ 5 ∷ 6 ∷ 7 ∷ 9 ∷ 10 ∷ 11 ∷ 12 ∷ 13 ∷ 14 ∷ 15 ∷ 16 ∷ []) (o .place)
     (λ _. refl, (λ _. refl, (λ _. refl, (λ _. refl, (λ _. refl, (λ _. refl, (λ _. refl, (λ _. refl, (λ _. refl, (λ _. refl, (λ _. refl, (λ _. refl, (λ _. refl, (λ _. refl, (λ _. refl, tt))))))))))))))) (c .before .match .keys3))
-    (c .stored2 .ensures)
+    (c .store2 .ensures)
 
 pub write-place-spec : {M : Type 1} → statement M
 write-place-spec =
     tie.close
     (tie.spec
     enum-told
-    cleared-requires
+    clear-interrupts-requires
     enum-told-2
     reset-fifos-requires
-    stored-requires
-    stored-requires-2
+    store-requires
+    store-requires-2
     returns
     returns-2
     returns-3)

@@ -17,8 +17,8 @@ tests-at-requires c κs = tt
 enum-known-tests : tie.Need-enum-known-tests
 enum-known-tests c = c .match .keys1
 
-refused-requires : tie.Need-refused-requires
-refused-requires c κs = tt
+refuse-requires : tie.Need-refuse-requires
+refuse-requires c κs = tt
 
 enum-told : tie.Need-enum-told
 enum-told c = c .match .keys2
@@ -26,8 +26,8 @@ enum-told c = c .match .keys2
 low-byte-requires : tie.Need-low-byte-requires
 low-byte-requires c κs = tt
 
-write-settled-requires : tie.Need-write-settled-requires
-write-settled-requires c κs =
+carry-out-requires : tie.Need-carry-out-requires
+carry-out-requires c κs =
     let start = c .before .before .before .before .before .before .before .before .before .before .before .before .before .before in
     let tests = passes (c .before .before .before .before .before .before .before .before .tests-at .ensures) (c .before .before .before .before .before .before .enum-told .given .1) in
     (start .pre, tests-in-time _ (start .args .cycle) _ _ _ tests)
@@ -38,7 +38,7 @@ returns c =
     let o = start .args in
     write-refused (o .cycle) (o .offset) (o .value) (start .pre) (c .before .before .before .before .before .before .before .place-of .ensures)
     (c .before .before .before .before .before .before .is-fifo .ensures) refl
-    (refuses (c .before .before .before .before .tests-at .ensures) (c .before .before .tests .given .1)) (c .refused .ensures)
+    (refuses (c .before .before .before .before .tests-at .ensures) (c .before .before .tests .given .1)) (c .refuse .ensures)
 
 returns-2 : tie.Need-returns-2
 returns-2 c =
@@ -48,7 +48,7 @@ returns-2 c =
     (c .before .before .before .before .before .before .before .before .before .before .before .before .place-of .ensures)
     (c .before .before .before .before .before .before .before .before .before .before .before .is-fifo .ensures) (c .before .low-byte .ensures)
     (passes (c .before .before .before .before .before .before .before .before .before .tests-at .ensures) (c .before .before .before .before .before .before .before .enum-told .given .1))
-    (c .write-settled .ensures)
+    (c .carry-out .ensures)
 
 pub write-spec : {M : Type 1} → statement M
 write-spec =
@@ -58,9 +58,9 @@ write-spec =
     is-fifo-requires
     tests-at-requires
     enum-known-tests
-    refused-requires
+    refuse-requires
     enum-told
     low-byte-requires
-    write-settled-requires
+    carry-out-requires
     returns
     returns-2)

@@ -18,15 +18,15 @@ clock-refusal-requires c κs = tt
 enum-known-tests : tie.Need-enum-known-tests
 enum-known-tests c = c .match .keys1
 
-refused-requires : tie.Need-refused-requires
-refused-requires c κs = tt
+refuse-requires : tie.Need-refuse-requires
+refuse-requires c κs = tt
 
 enum-told : tie.Need-enum-told
 enum-told c = c .match .keys2
 
-reclocked-requires : tie.Need-reclocked-requires
+carry-out-requires : tie.Need-carry-out-requires
 unfolding clocking periodTooLong
-reclocked-requires c κs =
+carry-out-requires c κs =
     let tests = in-time _ _ _ (passes (c .before .before .before .before .before .clock-refusal .ensures) (c .before .before .before .enum-told .given .1)) in
     (c .before .before .before .before .before .before .before .pre, tests .0, ltb-false _ _ (not-refused _ _ none (tests .1) .0))
 
@@ -35,7 +35,7 @@ returns c =
     let start = c .before .before .before .before .before .before in
     let o = start .args in
     done-refused (clockChange (o .cycle) (o .period)) (clockWork (o .cycle) (o .period)) (start .pre) (clock-tests (o .cycle) _ (o .period))
-    (refuses (c .before .before .before .before .clock-refusal .ensures) (c .before .before .tests .given .1)) (c .refused .ensures)
+    (refuses (c .before .before .before .before .clock-refusal .ensures) (c .before .before .tests .given .1)) (c .refuse .ensures)
 
 returns-2 : tie.Need-returns-2
 returns-2 c =
@@ -43,7 +43,7 @@ returns-2 c =
     let o = start .args in
     done-carried (clockChange (o .cycle) (o .period)) (clockWork (o .cycle) (o .period)) (start .pre) (clock-tests (o .cycle) _ (o .period))
     (passes (c .before .before .before .before .before .before .clock-refusal .ensures) (c .before .before .before .before .enum-told .given .1))
-    (clockChange-within (o .cycle) (o .period) _ (start .pre .within)) (clock-zero (o .cycle) _ (o .period)) (c .reclocked .ensures)
+    (clockChange-within (o .cycle) (o .period) _ (start .pre .within)) (clock-zero (o .cycle) _ (o .period)) (c .carry-out .ensures)
 
 pub clock-change-spec : {M : Type 1} → statement M
 clock-change-spec =
@@ -51,8 +51,8 @@ clock-change-spec =
     (tie.spec
     clock-refusal-requires
     enum-known-tests
-    refused-requires
+    refuse-requires
     enum-told
-    reclocked-requires
+    carry-out-requires
     returns
     returns-2)

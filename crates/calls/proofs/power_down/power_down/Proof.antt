@@ -16,14 +16,14 @@ date-refusal-requires c κs = tt
 enum-known-tests : tie.Need-enum-known-tests
 enum-known-tests c = c .match .keys1
 
-refused-requires : tie.Need-refused-requires
-refused-requires c κs = tt
+refuse-requires : tie.Need-refuse-requires
+refuse-requires c κs = tt
 
 enum-told : tie.Need-enum-told
 enum-told c = c .match .keys2
 
-dated-requires : tie.Need-dated-requires
-dated-requires c κs = tt
+with-last-requires : tie.Need-with-last-requires
+with-last-requires c κs = tt
 
 subcycles-requires : tie.Need-subcycles-requires
 subcycles-requires c κs = tt
@@ -37,7 +37,7 @@ done-requires c κs = tt
 returns : tie.Need-returns
 returns c = λ a ok.
     let o = c .before .before .before .before .before .before .args in
-    rw (c .refused .ensures)
+    rw (c .refuse .ensures)
     (turned-away (λ x. x) doneNumber Done.Refused (powerDownWork (o .cycle)) _ a (power-down-tests (o .cycle) _)
     (refuses (c .before .before .before .before .date-refusal .ensures) (c .before .before .tests .given .1)) ok)
 
@@ -45,7 +45,7 @@ returns-2 : tie.Need-returns-2
 unfolding powerDownWork unsettled doneNumber
 returns-2 c = λ a ok.
     let o = c .before .before .before .before .before .before .before .before .args in
-    rw (c .done .ensures, c .before .with-powered-down-at .ensures, c .before .before .before .dated .ensures, c .before .before .subcycles .ensures)
+    rw (c .done .ensures, c .before .with-powered-down-at .ensures, c .before .before .before .with-last .ensures, c .before .before .subcycles .ensures)
     (carried (λ x. x) doneNumber Done.Refused (powerDownWork (o .cycle)) _ a (power-down-tests (o .cycle) _)
     (passes (c .before .before .before .before .before .before .date-refusal .ensures) (c .before .before .before .before .enum-told .given .1)) (powerDown-within (o .cycle) _ (ok .within)) refl
     (unsettled-works (λ x. x) (shape-of _ a _ (ok .shape)) refl))
@@ -56,9 +56,9 @@ power-down-spec =
     (tie.spec
     date-refusal-requires
     enum-known-tests
-    refused-requires
+    refuse-requires
     enum-told
-    dated-requires
+    with-last-requires
     subcycles-requires
     with-powered-down-at-requires
     done-requires

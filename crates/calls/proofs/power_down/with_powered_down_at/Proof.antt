@@ -2,11 +2,11 @@
 use Rattle.calls.proofs.power_down.with_powered_down_at.Statement.{statement}
 use Rattle.calls.proofs.power_down.with_powered_down_at.Tie as tie
 
-put-requires : tie.Need-put-requires
-put-requires c κs = tt
+control-down-at-requires : tie.Need-control-down-at-requires
+control-down-at-requires c κs = tt
 
 returns : tie.Need-returns
-returns c = rw (c .put .ensures)
+returns c = rw (c .control-down-at .ensures)
 
 pub with-powered-down-at-spec : {M : Type 1} → statement M
-with-powered-down-at-spec = tie.close (tie.spec put-requires returns)
+with-powered-down-at-spec = tie.close (tie.spec control-down-at-requires returns)

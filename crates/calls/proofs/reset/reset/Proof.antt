@@ -15,22 +15,22 @@ date-refusal-requires c κs = tt
 enum-known-tests : tie.Need-enum-known-tests
 enum-known-tests c = c .match .keys1
 
-refused-requires : tie.Need-refused-requires
-refused-requires c κs = tt
+refuse-requires : tie.Need-refuse-requires
+refuse-requires c κs = tt
 
 enum-told : tie.Need-enum-told
 enum-told c = c .match .keys2
 
-restarted-requires : tie.Need-restarted-requires
+carry-out-requires : tie.Need-carry-out-requires
 unfolding datesOnly
-restarted-requires c κs = (c .before .before .before .before .before .before .before .pre, in-time _ _ none (passes (c .before .before .before .before .before .date-refusal .ensures) (c .before .before .before .enum-told .given .1)) .0)
+carry-out-requires c κs = (c .before .before .before .before .before .before .before .pre, in-time _ _ none (passes (c .before .before .before .before .before .date-refusal .ensures) (c .before .before .before .enum-told .given .1)) .0)
 
 returns : tie.Need-returns
 returns c =
     let start = c .before .before .before .before .before .before in
     let o = start .args in
     done-refused (reset (o .cycle)) (resetWork (o .cycle)) (start .pre) (reset-tests (o .cycle) _)
-    (refuses (c .before .before .before .before .date-refusal .ensures) (c .before .before .tests .given .1)) (c .refused .ensures)
+    (refuses (c .before .before .before .before .date-refusal .ensures) (c .before .before .tests .given .1)) (c .refuse .ensures)
 
 returns-2 : tie.Need-returns-2
 returns-2 c =
@@ -38,7 +38,7 @@ returns-2 c =
     let o = start .args in
     done-carried (reset (o .cycle)) (resetWork (o .cycle)) (start .pre) (reset-tests (o .cycle) _)
     (passes (c .before .before .before .before .before .before .date-refusal .ensures) (c .before .before .before .before .enum-told .given .1))
-    (reset-within (o .cycle) _ (start .pre .within)) (reset-zero (o .cycle) _) (c .restarted .ensures)
+    (reset-within (o .cycle) _ (start .pre .within)) (reset-zero (o .cycle) _) (c .carry-out .ensures)
 
 pub reset-spec : {M : Type 1} → statement M
 reset-spec =
@@ -46,8 +46,8 @@ reset-spec =
     (tie.spec
     date-refusal-requires
     enum-known-tests
-    refused-requires
+    refuse-requires
     enum-told
-    restarted-requires
+    carry-out-requires
     returns
     returns-2)

@@ -15,15 +15,15 @@ date-refusal-requires c κs = tt
 enum-known-tests : tie.Need-enum-known-tests
 enum-known-tests c = c .match .keys1
 
-refused-requires : tie.Need-refused-requires
-refused-requires c κs = tt
+refuse-requires : tie.Need-refuse-requires
+refuse-requires c κs = tt
 
 enum-told : tie.Need-enum-told
 enum-told c = c .match .keys2
 
-woken-requires : tie.Need-woken-requires
+carry-out-requires : tie.Need-carry-out-requires
 unfolding datesOnly
-woken-requires c κs = (
+carry-out-requires c κs = (
   c .before .before .before .before .before .before .before .pre,
   in-time _ _ none (passes (c .before .before .before .before .before .date-refusal .ensures) (c .before .before .before .enum-told .given .1)) .0,
 )
@@ -33,7 +33,7 @@ returns c =
     let start = c .before .before .before .before .before .before in
     let o = start .args in
     done-refused (wake (o .cycle)) (wakeWork (o .cycle)) (start .pre) (wake-tests (o .cycle) _)
-    (refuses (c .before .before .before .before .date-refusal .ensures) (c .before .before .tests .given .1)) (c .refused .ensures)
+    (refuses (c .before .before .before .before .date-refusal .ensures) (c .before .before .tests .given .1)) (c .refuse .ensures)
 
 returns-2 : tie.Need-returns-2
 returns-2 c =
@@ -41,7 +41,7 @@ returns-2 c =
     let o = start .args in
     done-carried (wake (o .cycle)) (wakeWork (o .cycle)) (start .pre) (wake-tests (o .cycle) _)
     (passes (c .before .before .before .before .before .before .date-refusal .ensures) (c .before .before .before .before .enum-told .given .1))
-    (wake-within (o .cycle) _ (start .pre .within)) (wake-zero (o .cycle) _) (c .woken .ensures)
+    (wake-within (o .cycle) _ (start .pre .within)) (wake-zero (o .cycle) _) (c .carry-out .ensures)
 
 pub wake-spec : {M : Type 1} → statement M
 wake-spec =
@@ -49,8 +49,8 @@ wake-spec =
     (tie.spec
     date-refusal-requires
     enum-known-tests
-    refused-requires
+    refuse-requires
     enum-told
-    woken-requires
+    carry-out-requires
     returns
     returns-2)

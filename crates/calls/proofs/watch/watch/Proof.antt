@@ -16,19 +16,19 @@ date-refusal-requires c κs = tt
 enum-known-tests : tie.Need-enum-known-tests
 enum-known-tests c = c .match .keys1
 
-refused-requires : tie.Need-refused-requires
-refused-requires c κs = tt
+refuse-requires : tie.Need-refuse-requires
+refuse-requires c κs = tt
 
 enum-told : tie.Need-enum-told
 enum-told c = c .match .keys2
 
-watched-requires : tie.Need-watched-requires
-watched-requires c κs = tt
+with-watched-requires : tie.Need-with-watched-requires
+with-watched-requires c κs = tt
 
 arm-requires : tie.Need-arm-requires
 arm-requires c κs =
     let p = c .before .before .before .before .before .pre in
-    rw (c .watched .ensures) (record { flight = p .0 .flight; slots = p .0 .slots; period = p .0 .period }, p .1, p .2)
+    rw (c .with-watched .ensures) (record { flight = p .0 .flight; slots = p .0 .slots; period = p .0 .period }, p .1, p .2)
 
 done-requires : tie.Need-done-requires
 done-requires c κs = tt
@@ -36,7 +36,7 @@ done-requires c κs = tt
 returns : tie.Need-returns
 returns c = λ a eg ed ok.
     let o = c .before .before .before .before .before .before .args in
-    rw (c .refused .ensures)
+    rw (c .refuse .ensures)
     (turned-away (λ x. x) doneNumber Done.Refused (watchWork (o .cycle) (o .on)) _ a (watch-tests (o .cycle) _ (o .on))
     (refuses (c .before .before .before .before .date-refusal .ensures) (c .before .before .tests .given .1)) ok)
 
@@ -44,7 +44,7 @@ returns-2 : tie.Need-returns-2
 unfolding watchWork unsettled doneNumber
 returns-2 c = λ a eg ed ok.
     let o = c .before .before .before .before .before .before .before .args in
-    let armed = rw (c .before .before .watched .ensures) at (c .before .arm .ensures) in
+    let armed = rw (c .before .before .with-watched .ensures) at (c .before .arm .ensures) in
     let works = armed a eg ed (shape-of _ a _ (ok .shape)) in
     rw (c .done .ensures)
     (carried (λ x. x) doneNumber Done.Refused (watchWork (o .cycle) (o .on)) _ a (watch-tests (o .cycle) _ (o .on))
@@ -57,9 +57,9 @@ watch-spec =
     (tie.spec
     date-refusal-requires
     enum-known-tests
-    refused-requires
+    refuse-requires
     enum-told
-    watched-requires
+    with-watched-requires
     arm-requires
     done-requires
     returns

@@ -23,8 +23,8 @@ carried-out-requires-2 c κs = search needs
 enum-known-reply-2 : tie.Need-enum-known-reply-2
 enum-known-reply-2 c = search needs
 
-refused-requires : tie.Need-refused-requires
-refused-requires c κs = tt
+refusal-reply-requires : tie.Need-refusal-reply-requires
+refusal-reply-requires c κs = tt
 
 returns : tie.Need-returns
 unfolding plainRead
@@ -36,7 +36,7 @@ returns-2 c = c .carried-out2 .ensures ∙ sym (ap plainRead (c .before .enum-to
 
 returns-3 : tie.Need-returns-3
 unfolding plainRead
-returns-3 c = c .refused .ensures ∙ sym (ap plainRead (c .before .before .reply2 .given .1))
+returns-3 c = c .refusal-reply .ensures ∙ sym (ap plainRead (c .before .before .reply2 .given .1))
 
 pub read-reply-spec : {M : Type 1} → statement M
 read-reply-spec =
@@ -48,7 +48,7 @@ read-reply-spec =
     enum-told
     carried-out-requires-2
     enum-known-reply-2
-    refused-requires
+    refusal-reply-requires
     returns
     returns-2
     returns-3)

@@ -14,8 +14,8 @@ carried-out-requires c κs = tt
 enum-known-reply : tie.Need-enum-known-reply
 enum-known-reply c = search needs
 
-refused-requires : tie.Need-refused-requires
-refused-requires c κs = tt
+refusal-reply-requires : tie.Need-refusal-reply-requires
+refusal-reply-requires c κs = tt
 
 returns : tie.Need-returns
 unfolding plainSetUp
@@ -23,9 +23,9 @@ returns c = c .carried-out .ensures ∙ sym (ap plainSetUp (c .before .enum-told
 
 returns-2 : tie.Need-returns-2
 unfolding plainSetUp
-returns-2 c = c .refused .ensures ∙ sym (ap plainSetUp (c .before .before .reply .given .1))
+returns-2 c = c .refusal-reply .ensures ∙ sym (ap plainSetUp (c .before .before .reply .given .1))
 
 pub set-up-reply-spec : {M : Type 1} → statement M
 set-up-reply-spec =
     tie.close
-    (tie.spec enum-told carried-out-requires enum-known-reply refused-requires returns returns-2)
+    (tie.spec enum-told carried-out-requires enum-known-reply refusal-reply-requires returns returns-2)

@@ -14,8 +14,8 @@ carried-out-requires c κs = tt
 enum-known-reply-2 : tie.Need-enum-known-reply-2
 enum-known-reply-2 c = search needs
 
-refused-requires : tie.Need-refused-requires
-refused-requires c κs = tt
+refusal-reply-requires : tie.Need-refusal-reply-requires
+refusal-reply-requires c κs = tt
 
 returns : tie.Need-returns
 unfolding plainTaken
@@ -23,7 +23,7 @@ returns c = c .carried-out .ensures ∙ sym (ap plainTaken (c .before .before .r
 
 returns-2 : tie.Need-returns-2
 unfolding plainTaken
-returns-2 c = c .refused .ensures ∙ sym (ap plainTaken (c .before .before .reply2 .given .1))
+returns-2 c = c .refusal-reply .ensures ∙ sym (ap plainTaken (c .before .before .reply2 .given .1))
 
 pub taken-reply-spec : {M : Type 1} → statement M
 taken-reply-spec =
@@ -32,6 +32,6 @@ taken-reply-spec =
     enum-known-reply
     carried-out-requires
     enum-known-reply-2
-    refused-requires
+    refusal-reply-requires
     returns
     returns-2)

@@ -20,8 +20,8 @@ carried-out-requires-2 c κs = search needs
 enum-known-reply : tie.Need-enum-known-reply
 enum-known-reply c = search needs
 
-refused-requires : tie.Need-refused-requires
-refused-requires c κs = tt
+refusal-reply-requires : tie.Need-refusal-reply-requires
+refusal-reply-requires c κs = tt
 
 returns : tie.Need-returns
 unfolding plainWrite
@@ -33,7 +33,7 @@ returns-2 c = c .carried-out2 .ensures ∙ sym (ap plainWrite (c .before .enum-t
 
 returns-3 : tie.Need-returns-3
 unfolding plainWrite
-returns-3 c = c .refused .ensures ∙ sym (ap plainWrite (c .before .before .reply .given .1))
+returns-3 c = c .refusal-reply .ensures ∙ sym (ap plainWrite (c .before .before .reply .given .1))
 
 pub write-reply-spec : {M : Type 1} → statement M
 write-reply-spec =
@@ -44,7 +44,7 @@ write-reply-spec =
     enum-told-2
     carried-out-requires-2
     enum-known-reply
-    refused-requires
+    refusal-reply-requires
     returns
     returns-2
     returns-3)

@@ -19,14 +19,14 @@ receive-refusal-requires c κs = tt
 enum-known-tests : tie.Need-enum-known-tests
 enum-known-tests c = c .match .keys1
 
-refused-requires : tie.Need-refused-requires
-refused-requires c κs = tt
+refuse-requires : tie.Need-refuse-requires
+refuse-requires c κs = tt
 
 enum-told : tie.Need-enum-told
 enum-told c = c .match .keys2
 
-received-requires : tie.Need-received-requires
-received-requires c κs =
+carry-out-requires : tie.Need-carry-out-requires
+carry-out-requires c κs =
     let start = c .before .before .before .before .before .before .before .before .before .before .before .before .before in
     let o = start .args in
     left-room (o .cycle) (o .at) (o .bytes .now) (start .pre) (c .before .before .before .before .before .before .before .before .before .last-date .ensures (o .run-counts .now)) (c .before .before .before .before .before .before .before .before .host-date .ensures)
@@ -38,7 +38,7 @@ returns c =
     let o = start .args in
     done-refused (receive (o .cycle) (o .at) (o .bytes .now)) (receiveWork (o .cycle) (o .at) (o .bytes .now)) (start .pre)
     (receive-checks (o .cycle) (o .at) (o .bytes .now) (start .pre) (c .before .before .before .before .before .before .last-date .ensures (o .run-counts .now)) (c .before .before .before .before .before .host-date .ensures))
-    (refuses (c .before .before .before .before .receive-refusal .ensures) (c .before .before .tests .given .1)) (c .refused .ensures)
+    (refuses (c .before .before .before .before .receive-refusal .ensures) (c .before .before .tests .given .1)) (c .refuse .ensures)
 
 returns-2 : tie.Need-returns-2
 returns-2 c =
@@ -47,7 +47,7 @@ returns-2 c =
     done-carried (receive (o .cycle) (o .at) (o .bytes .now)) (receiveWork (o .cycle) (o .at) (o .bytes .now)) (start .pre)
     (receive-checks (o .cycle) (o .at) (o .bytes .now) (start .pre) (c .before .before .before .before .before .before .before .before .before .before .last-date .ensures (o .run-counts .now)) (c .before .before .before .before .before .before .before .before .before .host-date .ensures))
     (passes (c .before .before .before .before .before .before .before .before .receive-refusal .ensures) (c .before .before .before .before .before .before .enum-told .given .1)) (receive-within (o .cycle) (o .at) (o .bytes .now) _ (start .pre .within))
-    (receive-zero (o .cycle) _ (o .at) (o .bytes .now)) (c .received .ensures)
+    (receive-zero (o .cycle) _ (o .at) (o .bytes .now)) (c .carry-out .ensures)
 
 pub receive-spec : {M : Type 1} → statement M
 receive-spec =
@@ -57,8 +57,8 @@ receive-spec =
     host-date-requires
     receive-refusal-requires
     enum-known-tests
-    refused-requires
+    refuse-requires
     enum-told
-    received-requires
+    carry-out-requires
     returns
     returns-2)

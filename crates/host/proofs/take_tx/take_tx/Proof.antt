@@ -20,22 +20,22 @@ take-refusal-requires c κs = tt
 enum-known-tests : tie.Need-enum-known-tests
 enum-known-tests c = c .match .keys1
 
-refused-requires : tie.Need-refused-requires
-refused-requires c κs = tt
+refuse-requires : tie.Need-refuse-requires
+refuse-requires c κs = tt
 
 enum-told : tie.Need-enum-told
 enum-told c = c .match .keys2
 
-taken-requires : tie.Need-taken-requires
+carry-out-requires : tie.Need-carry-out-requires
 unfolding takingTx takingWritten bufferTooShort
-taken-requires c κs =
+carry-out-requires c κs =
     let tests = in-time _ _ _ (passes (c .before .before .before .before .before .before .take-refusal .ensures) (c .before .before .before .before .enum-told .given .1)) in
     (c .before .before .before .before .before .before .before .before .before .pre, tests .0, ltb-false _ _ (not-refused _ _ none (tests .1) .0))
 
 returns : tie.Need-returns
 returns c =
     let o = c .before .before .before .before .before .before .before .args in
-    take-refused (o .out .now) (takeTxWork (o .cycle) (o .out .now)) _ _ (take-tests (o .cycle) _ (o .out .now)) (refuses (c .before .before .before .before .take-refusal .ensures) (c .before .before .tests .given .1)) (c .before .before .before .before .before .before .before .pre) (c .refused .ensures)
+    take-refused (o .out .now) (takeTxWork (o .cycle) (o .out .now)) _ _ (take-tests (o .cycle) _ (o .out .now)) (refuses (c .before .before .before .before .take-refusal .ensures) (c .before .before .tests .given .1)) (c .before .before .before .before .before .before .before .pre) (c .refuse .ensures)
 
 same-length : tie.Need-same-length
 same-length c = search needs
@@ -44,7 +44,7 @@ returns-2 : tie.Need-returns-2
 returns-2 c =
     let o = c .before .before .before .before .before .before .before .before .before .before .before .before .args in
     take-carried (o .out .now) (takeTxWork (o .cycle) (o .out .now)) _ _ (take-tests (o .cycle) _ (o .out .now)) (passes (c .before .before .before .before .before .before .before .before .before .take-refusal .ensures) (c .before .before .before .before .before .before .before .enum-told .given .1))
-    (takeTx-within (o .cycle) (o .out .now) _ (c .before .before .before .before .before .before .before .before .before .before .before .before .pre .within)) (take-tx-zero (o .cycle) (o .out .now) _) (c .before .before .taken .ensures)
+    (takeTx-within (o .cycle) (o .out .now) _ (c .before .before .before .before .before .before .before .before .before .before .before .before .pre .within)) (take-tx-zero (o .cycle) (o .out .now) _) (c .before .before .carry-out .ensures)
 
 pub take-tx-spec : {M : Type 1} → statement M
 take-tx-spec =
@@ -52,9 +52,9 @@ take-tx-spec =
     (tie.spec
     take-refusal-requires
     enum-known-tests
-    refused-requires
+    refuse-requires
     enum-told
-    taken-requires
+    carry-out-requires
     returns
     same-length
     returns-2)

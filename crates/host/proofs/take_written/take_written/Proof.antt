@@ -22,15 +22,15 @@ written-refusal-requires c κs = tt
 enum-known-tests : tie.Need-enum-known-tests
 enum-known-tests c = c .match .keys1
 
-refused-requires : tie.Need-refused-requires
-refused-requires c κs = tt
+refuse-requires : tie.Need-refuse-requires
+refuse-requires c κs = tt
 
 enum-told : tie.Need-enum-told
 enum-told c = c .match .keys2
 
-filled-requires : tie.Need-filled-requires
+fill-requires : tie.Need-fill-requires
 unfolding takingWritten bufferTooShort
-filled-requires c κs =
+fill-requires c κs =
     let p = c .before .before .before .before .before .pre in
     (p .0, p .1, p .2, p .3, p .4, ltb-false _ _ (not-refused _ _ none (passes (c .before .before .before .written-refusal .ensures) (c .before .enum-told .given .1)) .0))
 
@@ -46,7 +46,7 @@ undated-requires c κs = tt
 returns : tie.Need-returns
 returns c = λ a ef et ok.
     let o = c .before .before .before .before .before .before .args in
-    take-refused (o .out .now) (takeWrittenWork (o .out .now)) _ a (written-tests (o .out .now) _) (refuses (c .before .before .before .before .written-refusal .ensures) (c .before .before .tests .given .1)) ok (c .refused .ensures)
+    take-refused (o .out .now) (takeWrittenWork (o .out .now)) _ a (written-tests (o .out .now) _) (refuses (c .before .before .before .before .written-refusal .ensures) (c .before .before .tests .given .1)) ok (c .refuse .ensures)
 
 same-length : tie.Need-same-length
 same-length c = search needs
@@ -57,7 +57,7 @@ returns-2 c = λ a ef et ok.
     let o = c .before .before .before .before .before .before .before .before .before .before .before .args in
     rw (c .undated .ensures, c .before .before .new .ensures, c .before .new2 .ensures)
     (take-carried (o .out .now) (takeWrittenWork (o .out .now)) _ a (written-tests (o .out .now) _) (passes (c .before .before .before .before .before .before .before .before .before .written-refusal .ensures) (c .before .before .before .before .before .before .before .enum-told .given .1))
-    (takeWritten-within (o .out .now) _ (ok .within)) refl (took-written (o .out .now) (o .core) a (ok .shape) (rw (ef, et) (c .before .before .before .before .before .filled .ensures))))
+    (takeWritten-within (o .out .now) _ (ok .within)) refl (took-written (o .out .now) (o .core) a (ok .shape) (rw (ef, et) (c .before .before .before .before .before .fill .ensures))))
 
 pub take-written-spec : {M : Type 1} → statement M
 take-written-spec =
@@ -65,9 +65,9 @@ take-written-spec =
     (tie.spec
     written-refusal-requires
     enum-known-tests
-    refused-requires
+    refuse-requires
     enum-told
-    filled-requires
+    fill-requires
     new-requires
     new-requires-2
     undated-requires

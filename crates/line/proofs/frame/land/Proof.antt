@@ -6,8 +6,8 @@ use Rattle.line.proofs.frame.land.Tie as tie
 enum-told : tie.Need-enum-told
 enum-told c = c .match .keys1
 
-opened-requires : tie.Need-opened-requires
-opened-requires c κs = tt
+open-idle-line-requires : tie.Need-open-idle-line-requires
+open-idle-line-requires c κs = tt
 
 enum-told-2 : tie.Need-enum-told-2
 enum-told-2 c = c .match .keys2
@@ -15,14 +15,14 @@ enum-told-2 c = c .match .keys2
 raise-if-requires : tie.Need-raise-if-requires
 raise-if-requires c κs = tt
 
-opened-requires-2 : tie.Need-opened-requires-2
-opened-requires-2 c κs = tt
+open-idle-line-requires-2 : tie.Need-open-idle-line-requires-2
+open-idle-line-requires-2 c κs = tt
 
 enum-told-3 : tie.Need-enum-told-3
 enum-told-3 c = c .match .keys3
 
-opened-requires-3 : tie.Need-opened-requires-3
-opened-requires-3 c κs = tt
+open-idle-line-requires-3 : tie.Need-open-idle-line-requires-3
+open-idle-line-requires-3 c κs = tt
 
 enum-told-4 : tie.Need-enum-told-4
 enum-told-4 c = c .match .keys4
@@ -32,15 +32,15 @@ enum-told-5 c = c .match .keys5
 
 returns : tie.Need-returns
 unfolding land
-returns c = rw (c .before .enum-told .given .1) (c .opened .ensures)
+returns c = rw (c .before .enum-told .given .1) (c .open-idle-line .ensures)
 
 returns-2 : tie.Need-returns-2
 unfolding land raiseIf
-returns-2 c = rw (c .before .before .before .enum-told2 .given .1, c .opened2 .ensures, c .before .raise-if .ensures)
+returns-2 c = rw (c .before .before .before .enum-told2 .given .1, c .open-idle-line2 .ensures, c .before .raise-if .ensures)
 
 returns-3 : tie.Need-returns-3
 unfolding land
-returns-3 c = rw (c .before .enum-told3 .given .1) (c .opened3 .ensures)
+returns-3 c = rw (c .before .enum-told3 .given .1) (c .open-idle-line3 .ensures)
 
 returns-4 : tie.Need-returns-4
 unfolding land
@@ -55,12 +55,12 @@ land-spec =
     tie.close
     (tie.spec
     enum-told
-    opened-requires
+    open-idle-line-requires
     enum-told-2
     raise-if-requires
-    opened-requires-2
+    open-idle-line-requires-2
     enum-told-3
-    opened-requires-3
+    open-idle-line-requires-3
     enum-told-4
     enum-told-5
     returns

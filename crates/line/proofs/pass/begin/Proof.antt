@@ -13,8 +13,8 @@ line-free-requires c κs = tt
 enum-known-receiving : tie.Need-enum-known-receiving
 enum-known-receiving c = search needs
 
-kept-requires : tie.Need-kept-requires
-kept-requires c κs = tt
+keep-requires : tie.Need-keep-requires
+keep-requires c κs = tt
 
 returns : tie.Need-returns
 unfolding begun
@@ -22,9 +22,9 @@ returns c = rw (c .before .enum-told .given .1) (c .line-free .ensures)
 
 returns-2 : tie.Need-returns-2
 unfolding begun
-returns-2 c = rw (c .before .before .receiving .given .1) (c .kept .ensures)
+returns-2 c = rw (c .before .before .receiving .given .1) (c .keep .ensures)
 
 pub begin-spec : {M : Type 1} → statement M
 begin-spec =
     tie.close
-    (tie.spec enum-told line-free-requires enum-known-receiving kept-requires returns returns-2)
+    (tie.spec enum-told line-free-requires enum-known-receiving keep-requires returns returns-2)

@@ -7,8 +7,8 @@ use Rattle.line.proofs.pass.line_free.Tie as tie
 enum-told : tie.Need-enum-told
 enum-told c = search needs
 
-kept-requires : tie.Need-kept-requires
-kept-requires c κs = tt
+keep-requires : tie.Need-keep-requires
+keep-requires c κs = tt
 
 enum-known-waiting : tie.Need-enum-known-waiting
 enum-known-waiting c = search needs
@@ -16,25 +16,25 @@ enum-known-waiting c = search needs
 later-requires : tie.Need-later-requires
 later-requires c κs = tt
 
-started-requires : tie.Need-started-requires
-started-requires c κs = tt
+start-requires : tie.Need-start-requires
+start-requires c κs = tt
 
 returns : tie.Need-returns
 unfolding lineFree
-returns c = rw (c .before .enum-told .given .1) (c .kept .ensures)
+returns c = rw (c .before .enum-told .given .1) (c .keep .ensures)
 
 returns-2 : tie.Need-returns-2
 unfolding lineFree
-returns-2 c = rw (c .before .before .before .waiting .given .1, ← c .before .later .ensures) (c .started .ensures)
+returns-2 c = rw (c .before .before .before .waiting .given .1, ← c .before .later .ensures) (c .start .ensures)
 
 pub line-free-spec : {M : Type 1} → statement M
 line-free-spec =
     tie.close
     (tie.spec
     enum-told
-    kept-requires
+    keep-requires
     enum-known-waiting
     later-requires
-    started-requires
+    start-requires
     returns
     returns-2)

@@ -15,28 +15,28 @@ stop-bit-num-requires c κs = search needs
 low-modes-requires : tie.Need-low-modes-requires
 low-modes-requires c κs = search needs
 
-refused-mode-requires : tie.Need-refused-mode-requires
-refused-mode-requires c κs = search needs
+refuse-mode-requires : tie.Need-refuse-mode-requires
+refuse-mode-requires c κs = search needs
 
-refused-mode-requires-2 : tie.Need-refused-mode-requires-2
-refused-mode-requires-2 c κs = search needs
+refuse-mode-requires-2 : tie.Need-refuse-mode-requires-2
+refuse-mode-requires-2 c κs = search needs
 
-refused-mode-requires-3 : tie.Need-refused-mode-requires-3
-refused-mode-requires-3 c κs = search needs
+refuse-mode-requires-3 : tie.Need-refuse-mode-requires-3
+refuse-mode-requires-3 c κs = search needs
 
-noted-if-requires : tie.Need-noted-if-requires
-noted-if-requires c κs = search needs
+note-if-requires : tie.Need-note-if-requires
+note-if-requires c κs = search needs
 
 returns : tie.Need-returns
 returns c =
     let v : ℕ = c .before .before .before .before .before .before .args .value in
-    c .noted-if .ensures
+    c .note-if .ensures
     ∙ ap₂ (λ t n. modeIf t Feature.NoStopBit n) (ap (λ n. eqb n 0) (c .before .before .before .before .before .stop-bit-num .ensures))
-    (c .before .refused-mode3 .ensures
+    (c .before .refuse-mode3 .ensures
     ∙ ap (modeIf (bit 27 v) Feature.Autobaud)
-    (c .before .before .refused-mode2 .ensures
+    (c .before .before .refuse-mode2 .ensures
     ∙ ap (modeIf (bit 22 v) Feature.InvertedTx)
-    (c .before .before .before .refused-mode .ensures
+    (c .before .before .before .refuse-mode .ensures
     ∙ ap (modeIf (bit 19 v) Feature.InvertedRx)
     (c .before .before .before .before .low-modes .ensures))))
     ∙ conf0-noted v
@@ -47,8 +47,8 @@ conf0-notices-spec =
     (tie.spec
     stop-bit-num-requires
     low-modes-requires
-    refused-mode-requires
-    refused-mode-requires-2
-    refused-mode-requires-3
-    noted-if-requires
+    refuse-mode-requires
+    refuse-mode-requires-2
+    refuse-mode-requires-3
+    note-if-requires
     returns)

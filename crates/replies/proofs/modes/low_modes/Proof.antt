@@ -11,28 +11,28 @@ use Rattle.replies.proofs.modes.low_modes.Tie as tie
 none-requires : tie.Need-none-requires
 none-requires c κs = search needs
 
-refused-mode-requires : tie.Need-refused-mode-requires
-refused-mode-requires c κs = search needs
+refuse-mode-requires : tie.Need-refuse-mode-requires
+refuse-mode-requires c κs = search needs
 
-refused-mode-requires-2 : tie.Need-refused-mode-requires-2
-refused-mode-requires-2 c κs = search needs
+refuse-mode-requires-2 : tie.Need-refuse-mode-requires-2
+refuse-mode-requires-2 c κs = search needs
 
-refused-mode-requires-3 : tie.Need-refused-mode-requires-3
-refused-mode-requires-3 c κs = search needs
+refuse-mode-requires-3 : tie.Need-refuse-mode-requires-3
+refuse-mode-requires-3 c κs = search needs
 
-refused-mode-requires-4 : tie.Need-refused-mode-requires-4
-refused-mode-requires-4 c κs = search needs
+refuse-mode-requires-4 : tie.Need-refuse-mode-requires-4
+refuse-mode-requires-4 c κs = search needs
 
 returns : tie.Need-returns
 returns c =
     let v : ℕ = c .before .before .before .before .before .args .value in
-    c .refused-mode4 .ensures
+    c .refuse-mode4 .ensures
     ∙ ap (modeIf (bit 16 v) Feature.Irda)
-    (c .before .refused-mode3 .ensures
+    (c .before .refuse-mode3 .ensures
     ∙ ap (modeIf (bit 15 v) Feature.TxFlowControl)
-    (c .before .before .refused-mode2 .ensures
+    (c .before .before .refuse-mode2 .ensures
     ∙ ap (modeIf (bit 14 v) Feature.Loopback)
-    (c .before .before .before .refused-mode .ensures
+    (c .before .before .before .refuse-mode .ensures
     ∙ ap (modeIf (bit 8 v) Feature.TxBreak)
     (c .before .before .before .before .none .ensures))))
 
@@ -41,8 +41,8 @@ low-modes-spec =
     tie.close
     (tie.spec
     none-requires
-    refused-mode-requires
-    refused-mode-requires-2
-    refused-mode-requires-3
-    refused-mode-requires-4
+    refuse-mode-requires
+    refuse-mode-requires-2
+    refuse-mode-requires-3
+    refuse-mode-requires-4
     returns)

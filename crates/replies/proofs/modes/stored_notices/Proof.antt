@@ -24,14 +24,14 @@ enum-told-2 c = search needs
 rx-flow-en-requires : tie.Need-rx-flow-en-requires
 rx-flow-en-requires c κs = search needs
 
-refused-if-requires : tie.Need-refused-if-requires
-refused-if-requires c κs = search needs
+refuse-if-requires : tie.Need-refuse-if-requires
+refuse-if-requires c κs = search needs
 
 enum-told-3 : tie.Need-enum-told-3
 enum-told-3 c = search needs
 
-refused-if-requires-2 : tie.Need-refused-if-requires-2
-refused-if-requires-2 c κs = search needs
+refuse-if-requires-2 : tie.Need-refuse-if-requires-2
+refuse-if-requires-2 c κs = search needs
 
 enum-told-4 : tie.Need-enum-told-4
 enum-told-4 c = search needs
@@ -39,8 +39,8 @@ enum-told-4 c = search needs
 fifo-sizes-requires : tie.Need-fifo-sizes-requires
 fifo-sizes-requires c κs = search needs
 
-refused-if-requires-3 : tie.Need-refused-if-requires-3
-refused-if-requires-3 c κs = search needs
+refuse-if-requires-3 : tie.Need-refuse-if-requires-3
+refuse-if-requires-3 c κs = search needs
 
 none-requires : tie.Need-none-requires
 none-requires c κs = search needs
@@ -52,18 +52,18 @@ returns c = c .conf0-notices .ensures ∙ ap (λ p. noted (storedNotes p (c .bef
 returns-2 : tie.Need-returns-2
 unfolding storedNotes
 returns-2 c =
-    c .refused-if .ensures
+    c .refuse-if .ensures
     ∙ ap (λ t. noted (noteIf t (Unsupported.UartFeature Feature.RxFlowControl) [])) (c .before .rx-flow-en .ensures)
     ∙ ap (λ p. noted (storedNotes p (c .before .before .before .before .args .value))) (sym (c .before .before .enum-told2 .given .1))
 
 returns-3 : tie.Need-returns-3
 unfolding storedNotes
-returns-3 c = c .refused-if2 .ensures ∙ ap (λ p. noted (storedNotes p (c .before .before .before .args .value))) (sym (c .before .enum-told3 .given .1))
+returns-3 c = c .refuse-if2 .ensures ∙ ap (λ p. noted (storedNotes p (c .before .before .before .args .value))) (sym (c .before .enum-told3 .given .1))
 
 returns-4 : tie.Need-returns-4
 unfolding storedNotes
 returns-4 c =
-    c .refused-if3 .ensures
+    c .refuse-if3 .ensures
     ∙ ap (λ n. noted (noteIf (not (eqb n 9)) (Unsupported.UartFeature Feature.FifoSize) [])) (c .before .fifo-sizes .ensures)
     ∙ ap (λ p. noted (storedNotes p (c .before .before .before .before .args .value))) (sym (c .before .before .enum-told4 .given .1))
 
@@ -83,12 +83,12 @@ stored-notices-spec =
     conf0-notices-requires
     enum-told-2
     rx-flow-en-requires
-    refused-if-requires
+    refuse-if-requires
     enum-told-3
-    refused-if-requires-2
+    refuse-if-requires-2
     enum-told-4
     fifo-sizes-requires
-    refused-if-requires-3
+    refuse-if-requires-3
     none-requires
     returns
     returns-2

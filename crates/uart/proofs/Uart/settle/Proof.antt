@@ -3,11 +3,11 @@ use borrow.Author.Needs.{needs}
 use Rattle.uart.proofs.Uart.settle.Statement.{statement}
 use Rattle.uart.proofs.Uart.settle.Tie as tie
 
-settled-requires : tie.Need-settled-requires
-settled-requires c κs = search needs
+settle-requires : tie.Need-settle-requires
+settle-requires c κs = search needs
 
 returns : tie.Need-returns
-returns c = c .before .settled .ensures
+returns c = c .before .settle .ensures
 
 pub settle-spec : {M : Type 1} → statement M
-settle-spec = tie.close (tie.spec settled-requires returns)
+settle-spec = tie.close (tie.spec settle-requires returns)

@@ -1,0 +1,28 @@
+-- `carry_out` meets its contract: settled, and then read. Assumes nothing.
+use mathlib.Core.Path.{refl}
+use Rattle.model.specs.Replies.{asRead}
+use Rattle.model.specs.Registers.{readAt}
+use Rattle.model.specs.Calls.{readWork}
+use Rattle.calls.specs.Answers.{after}
+use borrow.Author.Needs.{needs}
+use Rattle.access.proofs.read.carry_out.Statement.{statement}
+use Rattle.access.proofs.read.carry_out.Tie as tie
+
+settle-at-requires : tie.Need-settle-at-requires
+settle-at-requires c κs = search needs
+
+read-place-requires : tie.Need-read-place-requires
+read-place-requires c κs = search needs
+
+answer-requires : tie.Need-answer-requires
+answer-requires c κs = tt
+
+returns : tie.Need-returns
+unfolding readWork
+returns c =
+    let s = c .before .before .before .before .before .before .settle-at .ensures in
+    rw (c .answer .ensures) (after asRead s (readAt (c .before .before .before .before .before .before .before .before .before .before .args .place)) (c .before .before .before .read-place .ensures _ refl (s .ok .shape)))
+
+pub carry-out-spec : {M : Type 1} → statement M
+carry-out-spec =
+    tie.close (tie.spec settle-at-requires read-place-requires answer-requires returns)
