@@ -32,11 +32,11 @@ pub record Concluded (p : PlaceWrite) (a : Arrays) (passes overflows : ℕ) (r :
 
 -- whatever stands in the arrays that arming does not read
 abbrev pub ConcludesAny : PlaceWrite → List ℕ → List ℕ → ℕ → ℕ → WriteCore → Type 0
-ConcludesAny p goneAt runDates passes overflows r =
-    (a : Arrays) → a .goneAt ≡ goneAt → a .runDates ≡ runDates → Shape (p .core) a → Concluded p a passes overflows r
+ConcludesAny p goneAt runAt passes overflows r =
+    (a : Arrays) → a .goneAt ≡ goneAt → a .runAt ≡ runAt → Shape (p .core) a → Concluded p a passes overflows r
 
-pub concludes-any : (p : PlaceWrite) {goneAt runDates : List ℕ} {passes overflows : ℕ} {c : Core} {r : WriteCore} → Concluding.ConcludesAny (p .core) goneAt runDates c
-    → r ≡ writeCore c (p .reply) passes overflows (p .notices) → ConcludesAny p goneAt runDates passes overflows r
+pub concludes-any : (p : PlaceWrite) {goneAt runAt : List ℕ} {passes overflows : ℕ} {c : Core} {r : WriteCore} → Concluding.ConcludesAny (p .core) goneAt runAt c
+    → r ≡ writeCore c (p .reply) passes overflows (p .notices) → ConcludesAny p goneAt runAt passes overflows r
 concludes-any p {passes = passes} {overflows = overflows} concludes e a eg er k =
     let x = concludes a eg er k in
     subst (λ (w : WriteCore). Concluded p a passes overflows w) (sym e) (record { shape = x .shape; same = x .same; replies = refl; reports = refl })
@@ -45,7 +45,7 @@ module _ {t : Settle.Settled ℕ ℕ} {c₁ : Core} {a₁ : Arrays} {n o : ℕ} 
     {p : PlaceWrite} {a₂ : Arrays} (x : Accesses (λ r. r) (work (abs c₁ a₁)) (p .core) a₂ (p .reply) (p .notices)) where
   -- what arming asks, where the access keeps the period
   pub access-ready : work (abs c₁ a₁) .state .control .period ≡ c₁ .control .period
-      → Ready (p .core) (a₂ .goneAt) × Held 64 (p .core .runs) × (length (a₂ .runDates) ≡ 64)
+      → Ready (p .core) (a₂ .goneAt) × Held 64 (p .core .runs) × (length (a₂ .runAt) ≡ 64)
   access-ready same = (
     record {
       flight = x .shape .flight;

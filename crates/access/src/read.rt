@@ -16,7 +16,7 @@ ghost use Rattle.model.specs.Tests.{dateEnd};
 ghost use Rattle.model.specs.Replies.{asRead, readNumber};
 ghost use Rattle.model.specs.Calls.{read as Calls·read, readWork};
 ghost use Rattle.device.specs.Holds.{abs, Ok};
-ghost use Rattle.device.specs.Wholes.{arrays};
+ghost use Rattle.device.specs.Wholes.{lent};
 ghost use Rattle.calls.specs.Answers.{Works, Answers};
 ghost use Rattle.access.specs.Structs.{readCore, refusedRead};
 
@@ -57,33 +57,21 @@ fn carry_out<'a>(
     flight: &'a [u8; 129],
     tx: &'a mut [u8; 1152],
     host: &'a [u8; 1024],
-    run_dates: &'a [u64; 64],
-    run_counts: &'a mut [u64; 64],
+    run_at: &'a [u64; 64],
+    run_len: &'a mut [u64; 64],
     rx: &'a mut [u8; 128],
     cycle: u64,
     place: Place,
 ) -> ReadCore
-    requires { ⌜ Ok core (arrays (now «gone_at») (now flight) (now tx) (now host) (now «run_dates») (now «run_counts») (now rx))
-        × (cycle < dateEnd) ⌝ }
+    requires { ⌜ Ok core (lent «gone_at» flight tx host «run_at» «run_len» rx) × (cycle < dateEnd) ⌝ }
     ensures { λ r. ⌜ Works asRead
-        (readWork cycle place (abs core (arrays (now («gone_at» .entry)) (now (flight .entry)) (now (tx .entry)) (now (host .entry))
-        (now («run_dates» .entry)) (now («run_counts» .entry)) (now (rx .entry)))))
+        (readWork cycle place (abs core (lent («gone_at» .entry) (flight .entry) (tx .entry) (host .entry) («run_at» .entry)
+        («run_len» .entry) (rx .entry))))
         (r .core)
-        (arrays (now («gone_at» .entry)) (now (flight .entry)) (now (tx .exit)) (now (host .entry)) (now («run_dates» .entry))
-        (now («run_counts» .exit)) (now (rx .exit)))
+        (lent («gone_at» .entry) (flight .entry) (tx .exit) (host .entry) («run_at» .entry) («run_len» .exit) (rx .exit))
         (r .reply) (r .report) ⌝ }
 {
-    let t = settle_at::settle_at(
-        core,
-        gone_at,
-        flight,
-        tx,
-        host,
-        run_dates,
-        run_counts,
-        rx,
-        cycle,
-    );
+    let t = settle_at::settle_at(core, gone_at, flight, tx, host, run_at, run_len, rx, cycle);
     let settled = t.core;
     let got = crate::load::read_place(settled, rx, place);
     let after = got.core;
@@ -98,20 +86,17 @@ pub fn read<'a>(
     flight: &'a [u8; 129],
     tx: &'a mut [u8; 1152],
     host: &'a [u8; 1024],
-    run_dates: &'a [u64; 64],
-    run_counts: &'a mut [u64; 64],
+    run_at: &'a [u64; 64],
+    run_len: &'a mut [u64; 64],
     rx: &'a mut [u8; 128],
     cycle: u64,
     offset: u32,
 ) -> ReadCore
-    requires { ⌜ Ok core (arrays (now «gone_at») (now flight) (now tx) (now host) (now «run_dates») (now «run_counts») (now rx)) ⌝ }
-    ensures { λ r. ⌜ Answers asRead readNumber (Calls·read cycle offset (abs core (arrays (now («gone_at» .entry)) (now (flight .entry))
-        (now (tx .entry)) (now (host .entry)) (now («run_dates» .entry)) (now («run_counts» .entry)) (now (rx .entry))))) core
-        (arrays (now («gone_at» .entry)) (now (flight .entry)) (now (tx .entry)) (now (host .entry)) (now («run_dates» .entry))
-        (now («run_counts» .entry)) (now (rx .entry)))
-        (r .core)
-        (arrays (now («gone_at» .entry)) (now (flight .entry)) (now (tx .exit)) (now (host .entry)) (now («run_dates» .entry))
-        (now («run_counts» .exit)) (now (rx .exit)))
+    requires { ⌜ Ok core (lent «gone_at» flight tx host «run_at» «run_len» rx) ⌝ }
+    ensures { λ r. ⌜ Answers asRead readNumber (Calls·read cycle offset (abs core
+        (lent («gone_at» .entry) (flight .entry) (tx .entry) (host .entry) («run_at» .entry) («run_len» .entry) (rx .entry)))) core
+        (lent («gone_at» .entry) (flight .entry) (tx .entry) (host .entry) («run_at» .entry) («run_len» .entry) (rx .entry)) (r .core)
+        (lent («gone_at» .entry) (flight .entry) (tx .exit) (host .entry) («run_at» .entry) («run_len» .exit) (rx .exit))
         (r .reply) (r .report) ⌝ }
 {
     let map = core.map;
@@ -127,8 +112,8 @@ pub fn read<'a>(
             flight,
             tx,
             host,
-            run_dates,
-            run_counts,
+            run_at,
+            run_len,
             rx,
             cycle,
             place,

@@ -21,7 +21,7 @@ ghost use Rattle.queue.specs.Cursors.{Held};
 ghost use Rattle.replies.specs.Refusals.{verdict};
 ghost use Rattle.device.specs.Holds.{abs, Ok};
 ghost use Rattle.device.specs.Arms.{Ready};
-ghost use Rattle.device.specs.Wholes.{arrays};
+ghost use Rattle.device.specs.Wholes.{lent};
 ghost use Rattle.calls.specs.Answers.{Works, Answers};
 ghost use Rattle.access.specs.WriteStructs.{writeCore, refusedWrite};
 ghost use Rattle.access.specs.ByPlace.{isFifo, testsAt, workAt};
@@ -103,16 +103,16 @@ fn tests_at(fifo: bool, cycle: u64, last: u64, left: usize, flying: usize) -> Ve
 fn conclude<'a>(
     put: PlaceWrite,
     gone_at: &'a [u64; 129],
-    run_dates: &'a [u64; 64],
+    run_at: &'a [u64; 64],
     passes: u64,
     overflows: u64,
 ) -> WriteCore
-    requires { ⌜ Ready (put .core) (now «gone_at») × Held 64 (put .core .runs) × (length (now «run_dates») ≡ 64) ⌝ }
-    ensures { λ r. ⌜ ConcludesAny put (now («gone_at» .entry)) (now («run_dates» .entry)) passes overflows r ⌝ }
+    requires { ⌜ Ready (put .core) (now «gone_at») × Held 64 (put .core .runs) × (length (now «run_at») ≡ 64) ⌝ }
+    ensures { λ r. ⌜ ConcludesAny put (now («gone_at» .entry)) (now («run_at» .entry)) passes overflows r ⌝ }
 {
     let reply = put.reply;
     let notices = put.notices;
-    let core = calls::conclude::conclude(put.core, gone_at, run_dates);
+    let core = calls::conclude::conclude(put.core, gone_at, run_at);
     answer(core, reply, passes, overflows, notices)
 }
 
@@ -123,8 +123,8 @@ fn carry_out<'a>(
     flight: &'a mut [u8; 129],
     tx: &'a mut [u8; 1152],
     host: &'a [u8; 1024],
-    run_dates: &'a [u64; 64],
-    run_counts: &'a mut [u64; 64],
+    run_at: &'a [u64; 64],
+    run_len: &'a mut [u64; 64],
     rx: &'a mut [u8; 128],
     cycle: u64,
     fifo: bool,
@@ -132,33 +132,21 @@ fn carry_out<'a>(
     place: Place,
     value: u32,
 ) -> WriteCore
-    requires { ⌜ Ok core (arrays (now «gone_at») (now flight) (now tx) (now host) (now «run_dates») (now «run_counts») (now rx))
-        × (cycle < dateEnd) ⌝ }
+    requires { ⌜ Ok core (lent «gone_at» flight tx host «run_at» «run_len» rx) × (cycle < dateEnd) ⌝ }
     ensures { λ r. ⌜ Works (λ x. x)
-        (workAt fifo cycle byte place value (abs core (arrays (now («gone_at» .entry)) (now (flight .entry)) (now (tx .entry))
-        (now (host .entry)) (now («run_dates» .entry)) (now («run_counts» .entry)) (now (rx .entry)))))
+        (workAt fifo cycle byte place value (abs core (lent («gone_at» .entry) (flight .entry) (tx .entry) (host .entry)
+        («run_at» .entry) («run_len» .entry) (rx .entry))))
         (r .core)
-        (arrays (now («gone_at» .exit)) (now (flight .exit)) (now (tx .exit)) (now (host .entry)) (now («run_dates» .entry))
-        (now («run_counts» .exit)) (now (rx .exit)))
+        (lent («gone_at» .exit) (flight .exit) (tx .exit) (host .entry) («run_at» .entry) («run_len» .exit) (rx .exit))
         (r .reply) (r .report) ⌝ }
 {
-    let t = settle_at::settle_at(
-        core,
-        gone_at,
-        flight,
-        tx,
-        host,
-        run_dates,
-        run_counts,
-        rx,
-        cycle,
-    );
+    let t = settle_at::settle_at(core, gone_at, flight, tx, host, run_at, run_len, rx, cycle);
     if fifo {
         let sent = crate::send::send(t.core, gone_at, flight, cycle, byte);
-        conclude(sent, gone_at, run_dates, t.passes, t.overflows)
+        conclude(sent, gone_at, run_at, t.passes, t.overflows)
     } else {
         let put = crate::store::write_place(t.core, place, value);
-        conclude(put, gone_at, run_dates, t.passes, t.overflows)
+        conclude(put, gone_at, run_at, t.passes, t.overflows)
     }
 }
 
@@ -168,22 +156,18 @@ pub fn write<'a>(
     flight: &'a mut [u8; 129],
     tx: &'a mut [u8; 1152],
     host: &'a [u8; 1024],
-    run_dates: &'a [u64; 64],
-    run_counts: &'a mut [u64; 64],
+    run_at: &'a [u64; 64],
+    run_len: &'a mut [u64; 64],
     rx: &'a mut [u8; 128],
     cycle: u64,
     offset: u32,
     value: u32,
 ) -> WriteCore
-    requires { ⌜ Ok core (arrays (now «gone_at») (now flight) (now tx) (now host) (now «run_dates») (now «run_counts») (now rx)) ⌝ }
-    ensures { λ r. ⌜ Answers (λ x. x) writeNumber (Calls·write cycle offset value (abs core (arrays (now («gone_at» .entry))
-        (now (flight .entry)) (now (tx .entry)) (now (host .entry)) (now («run_dates» .entry)) (now («run_counts» .entry))
-        (now (rx .entry))))) core
-        (arrays (now («gone_at» .entry)) (now (flight .entry)) (now (tx .entry)) (now (host .entry)) (now («run_dates» .entry))
-        (now («run_counts» .entry)) (now (rx .entry)))
-        (r .core)
-        (arrays (now («gone_at» .exit)) (now (flight .exit)) (now (tx .exit)) (now (host .entry)) (now («run_dates» .entry))
-        (now («run_counts» .exit)) (now (rx .exit)))
+    requires { ⌜ Ok core (lent «gone_at» flight tx host «run_at» «run_len» rx) ⌝ }
+    ensures { λ r. ⌜ Answers (λ x. x) writeNumber (Calls·write cycle offset value (abs core
+        (lent («gone_at» .entry) (flight .entry) (tx .entry) (host .entry) («run_at» .entry) («run_len» .entry) (rx .entry)))) core
+        (lent («gone_at» .entry) (flight .entry) (tx .entry) (host .entry) («run_at» .entry) («run_len» .entry) (rx .entry)) (r .core)
+        (lent («gone_at» .exit) (flight .exit) (tx .exit) (host .entry) («run_at» .entry) («run_len» .exit) (rx .exit))
         (r .reply) (r .report) ⌝ }
 {
     let map = core.map;
@@ -200,8 +184,8 @@ pub fn write<'a>(
             flight,
             tx,
             host,
-            run_dates,
-            run_counts,
+            run_at,
+            run_len,
             rx,
             cycle,
             fifo,

@@ -119,7 +119,7 @@ module _ (cycle : ℕ) (c : Core) (a : Arrays) (ok : Ok c a) where
   }
 
 -- what arming asks
-pub ready : (c : Core) (a : Arrays) → Shape c a → c .control .period ≤ periodLimit → Ready c (a .goneAt) × Held 64 (c .runs) × (length (a .runDates) ≡ 64)
+pub ready : (c : Core) (a : Arrays) → Shape c a → c .control .period ≤ periodLimit → Ready c (a .goneAt) × Held 64 (c .runs) × (length (a .runAt) ≡ 64)
 ready c a k h = (record { flight = k .flight; slots = k .goneAtSlots; period = h }, k .runs, k .runDateSlots)
 
 -- ---- what they stand for

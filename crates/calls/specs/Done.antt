@@ -31,7 +31,7 @@ module _ (call work : State.Uart ℕ ℕ → Outcome Done ℕ ℕ) {tests : Opti
       (turned-away (λ x. x) doneNumber Done.Refused work c a e t ok)
 
 -- settled and armed
-pub armed-done : {t : Settle.Settled ℕ ℕ} {c₁ : Core} {a₁ : Arrays} {n o : ℕ} {c₂ : Core} {r : DoneCore} → Settles t c₁ a₁ n o → ArmsAny c₁ (a₁ .goneAt) (a₁ .runDates) c₂
+pub armed-done : {t : Settle.Settled ℕ ℕ} {c₁ : Core} {a₁ : Arrays} {n o : ℕ} {c₂ : Core} {r : DoneCore} → Settles t c₁ a₁ n o → ArmsAny c₁ (a₁ .goneAt) (a₁ .runAt) c₂
     → r ≡ doneCore c₂ n o → Works (λ x. x) (afterSettling t (λ s. quiet Done.Done (arm s))) (r .core) a₁ (r .reply) (r .report)
 armed-done {t} {a₁ = a₁} s arms same =
     subst (λ (x : DoneCore). Works (λ w. w) (afterSettling t (λ s. quiet Done.Done (arm s))) (x .core) a₁ (x .reply) (x .report)) (sym same)

@@ -11,7 +11,7 @@ ghost use Prim.Native.Nat.{_<_, _≤_};
 ghost use Rattle.model.specs.Tests.{dateEnd, periodLimit};
 ghost use Rattle.model.specs.Calls.{clockChange, clockWork};
 ghost use Rattle.device.specs.Holds.{abs, Ok};
-ghost use Rattle.device.specs.Wholes.{arrays};
+ghost use Rattle.device.specs.Wholes.{lent};
 ghost use Rattle.calls.specs.Changes.{clockedCore};
 ghost use Rattle.calls.specs.Answers.{Works, DoneWith};
 
@@ -33,47 +33,25 @@ fn carry_out<'a>(
     flight: &'a [u8; 129],
     tx: &'a mut [u8; 1152],
     host: &'a [u8; 1024],
-    run_dates: &'a [u64; 64],
-    run_counts: &'a mut [u64; 64],
+    run_at: &'a [u64; 64],
+    run_len: &'a mut [u64; 64],
     rx: &'a mut [u8; 128],
     cycle: u64,
     period: u64,
 ) -> DoneCore
-    requires { ⌜ Ok core (arrays (now «gone_at») (now flight) (now tx) (now host) (now «run_dates») (now «run_counts») (now rx))
-        × (cycle < dateEnd) × (period ≤ periodLimit) ⌝ }
+    requires { ⌜ Ok core (lent «gone_at» flight tx host «run_at» «run_len» rx) × (cycle < dateEnd) × (period ≤ periodLimit) ⌝ }
     ensures { λ r. ⌜ Works (λ x. x)
-        (clockWork cycle period (abs core (arrays (now («gone_at» .entry)) (now (flight .entry)) (now (tx .entry)) (now (host .entry))
-        (now («run_dates» .entry)) (now («run_counts» .entry)) (now (rx .entry)))))
+        (clockWork cycle period (abs core (lent («gone_at» .entry) (flight .entry) (tx .entry) (host .entry) («run_at» .entry)
+        («run_len» .entry) (rx .entry))))
         (r .core)
-        (arrays (now («gone_at» .entry)) (now (flight .entry)) (now (tx .exit)) (now (host .entry)) (now («run_dates» .entry))
-        (now («run_counts» .exit)) (now (rx .exit)))
+        (lent («gone_at» .entry) (flight .entry) (tx .exit) (host .entry) («run_at» .entry) («run_len» .exit) (rx .exit))
         (r .reply) (r .report) ⌝ }
 {
-    let first = settle_at::settle_at(
-        core,
-        gone_at,
-        flight,
-        tx,
-        host,
-        run_dates,
-        run_counts,
-        rx,
-        cycle,
-    );
+    let first = settle_at::settle_at(core, gone_at, flight, tx, host, run_at, run_len, rx, cycle);
     let from = with_period(first.core, period);
-    let second = settle::settle(
-        from,
-        gone_at,
-        flight,
-        tx,
-        host,
-        run_dates,
-        run_counts,
-        rx,
-        cycle,
-    );
+    let second = settle::settle(from, gone_at, flight, tx, host, run_at, run_len, rx, cycle);
     let settled = second.core;
-    let armed = device::arm::arm(settled, gone_at, run_dates);
+    let armed = device::arm::arm(settled, gone_at, run_at);
     answers::done(
         armed,
         first.passes + second.passes,
@@ -87,19 +65,16 @@ pub fn clock_change<'a>(
     flight: &'a [u8; 129],
     tx: &'a mut [u8; 1152],
     host: &'a [u8; 1024],
-    run_dates: &'a [u64; 64],
-    run_counts: &'a mut [u64; 64],
+    run_at: &'a [u64; 64],
+    run_len: &'a mut [u64; 64],
     rx: &'a mut [u8; 128],
     cycle: u64,
     period: u64,
 ) -> DoneCore
-    requires { ⌜ Ok core (arrays (now «gone_at») (now flight) (now tx) (now host) (now «run_dates») (now «run_counts») (now rx)) ⌝ }
+    requires { ⌜ Ok core (lent «gone_at» flight tx host «run_at» «run_len» rx) ⌝ }
     ensures { λ r. ⌜ DoneWith (clockChange cycle period) core
-        (arrays (now («gone_at» .entry)) (now (flight .entry)) (now (tx .entry)) (now (host .entry)) (now («run_dates» .entry))
-        (now («run_counts» .entry)) (now (rx .entry)))
-        (r .core)
-        (arrays (now («gone_at» .entry)) (now (flight .entry)) (now (tx .exit)) (now (host .entry)) (now («run_dates» .entry))
-        (now («run_counts» .exit)) (now (rx .exit)))
+        (lent («gone_at» .entry) (flight .entry) (tx .entry) (host .entry) («run_at» .entry) («run_len» .entry) (rx .entry)) (r .core)
+        (lent («gone_at» .entry) (flight .entry) (tx .exit) (host .entry) («run_at» .entry) («run_len» .exit) (rx .exit))
         (r .reply) (r .report) ⌝ }
 {
     let control = core.control;
@@ -112,8 +87,8 @@ pub fn clock_change<'a>(
             flight,
             tx,
             host,
-            run_dates,
-            run_counts,
+            run_at,
+            run_len,
             rx,
             cycle,
             period,

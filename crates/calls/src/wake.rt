@@ -9,7 +9,7 @@ ghost use Prim.Native.Nat.{_<_};
 ghost use Rattle.model.specs.Tests.{dateEnd};
 ghost use Rattle.model.specs.Calls.{wake as Calls·wake, wakeWork};
 ghost use Rattle.device.specs.Holds.{abs, Ok};
-ghost use Rattle.device.specs.Wholes.{arrays};
+ghost use Rattle.device.specs.Wholes.{lent};
 ghost use Rattle.calls.specs.Changes.{calledCore};
 ghost use Rattle.calls.specs.Answers.{Works, DoneWith};
 
@@ -29,35 +29,23 @@ fn carry_out<'a>(
     flight: &'a [u8; 129],
     tx: &'a mut [u8; 1152],
     host: &'a [u8; 1024],
-    run_dates: &'a [u64; 64],
-    run_counts: &'a mut [u64; 64],
+    run_at: &'a [u64; 64],
+    run_len: &'a mut [u64; 64],
     rx: &'a mut [u8; 128],
     cycle: u64,
 ) -> DoneCore
-    requires { ⌜ Ok core (arrays (now «gone_at») (now flight) (now tx) (now host) (now «run_dates») (now «run_counts») (now rx))
-        × (cycle < dateEnd) ⌝ }
+    requires { ⌜ Ok core (lent «gone_at» flight tx host «run_at» «run_len» rx) × (cycle < dateEnd) ⌝ }
     ensures { λ r. ⌜ Works (λ x. x)
-        (wakeWork cycle (abs core (arrays (now («gone_at» .entry)) (now (flight .entry)) (now (tx .entry)) (now (host .entry))
-        (now («run_dates» .entry)) (now («run_counts» .entry)) (now (rx .entry)))))
+        (wakeWork cycle (abs core (lent («gone_at» .entry) (flight .entry) (tx .entry) (host .entry) («run_at» .entry)
+        («run_len» .entry) (rx .entry))))
         (r .core)
-        (arrays (now («gone_at» .entry)) (now (flight .entry)) (now (tx .exit)) (now (host .entry)) (now («run_dates» .entry))
-        (now («run_counts» .exit)) (now (rx .exit)))
+        (lent («gone_at» .entry) (flight .entry) (tx .exit) (host .entry) («run_at» .entry) («run_len» .exit) (rx .exit))
         (r .reply) (r .report) ⌝ }
 {
     let from = called(core, cycle);
-    let t = settle_at::settle_at(
-        from,
-        gone_at,
-        flight,
-        tx,
-        host,
-        run_dates,
-        run_counts,
-        rx,
-        cycle,
-    );
+    let t = settle_at::settle_at(from, gone_at, flight, tx, host, run_at, run_len, rx, cycle);
     let settled = t.core;
-    let armed = device::arm::arm(settled, gone_at, run_dates);
+    let armed = device::arm::arm(settled, gone_at, run_at);
     answers::done(armed, t.passes, t.overflows)
 }
 
@@ -67,34 +55,21 @@ pub fn wake<'a>(
     flight: &'a [u8; 129],
     tx: &'a mut [u8; 1152],
     host: &'a [u8; 1024],
-    run_dates: &'a [u64; 64],
-    run_counts: &'a mut [u64; 64],
+    run_at: &'a [u64; 64],
+    run_len: &'a mut [u64; 64],
     rx: &'a mut [u8; 128],
     cycle: u64,
 ) -> DoneCore
-    requires { ⌜ Ok core (arrays (now «gone_at») (now flight) (now tx) (now host) (now «run_dates») (now «run_counts») (now rx)) ⌝ }
+    requires { ⌜ Ok core (lent «gone_at» flight tx host «run_at» «run_len» rx) ⌝ }
     ensures { λ r. ⌜ DoneWith (Calls·wake cycle) core
-        (arrays (now («gone_at» .entry)) (now (flight .entry)) (now (tx .entry)) (now (host .entry)) (now («run_dates» .entry))
-        (now («run_counts» .entry)) (now (rx .entry)))
-        (r .core)
-        (arrays (now («gone_at» .entry)) (now (flight .entry)) (now (tx .exit)) (now (host .entry)) (now («run_dates» .entry))
-        (now («run_counts» .exit)) (now (rx .exit)))
+        (lent («gone_at» .entry) (flight .entry) (tx .entry) (host .entry) («run_at» .entry) («run_len» .entry) (rx .entry)) (r .core)
+        (lent («gone_at» .entry) (flight .entry) (tx .exit) (host .entry) («run_at» .entry) («run_len» .exit) (rx .exit))
         (r .reply) (r .report) ⌝ }
 {
     let control = core.control;
     let tests = replies::refusals::date_refusal(cycle, control.last);
     match tests {
         Verdict::Refused(refusal) => answers::refuse(core, refusal),
-        Verdict::Passed => carry_out(
-            core,
-            gone_at,
-            flight,
-            tx,
-            host,
-            run_dates,
-            run_counts,
-            rx,
-            cycle,
-        ),
+        Verdict::Passed => carry_out(core, gone_at, flight, tx, host, run_at, run_len, rx, cycle),
     }
 }

@@ -26,12 +26,12 @@ fn with_watched(mut core: Core, cycle: u64, on: bool) -> Core
 pub fn watch<'a>(
     core: Core,
     gone_at: &'a [u64; 129],
-    run_dates: &'a [u64; 64],
+    run_at: &'a [u64; 64],
     cycle: u64,
     on: bool,
 ) -> DoneCore
-    requires { ⌜ Ready core (now «gone_at») × Held 64 (core .runs) × (length (now «run_dates») ≡ 64) ⌝ }
-    ensures { λ r. ⌜ ((a : Arrays) → a .goneAt ≡ now («gone_at» .entry) → a .runDates ≡ now («run_dates» .entry) → Ok core a
+    requires { ⌜ Ready core (now «gone_at») × Held 64 (core .runs) × (length (now «run_at») ≡ 64) ⌝ }
+    ensures { λ r. ⌜ ((a : Arrays) → a .goneAt ≡ now («gone_at» .entry) → a .runAt ≡ now («run_at» .entry) → Ok core a
         → DoneWith (Calls·watch cycle on) core a (r .core) a (r .reply) (r .report)) ⌝ }
 {
     let control = core.control;
@@ -40,7 +40,7 @@ pub fn watch<'a>(
         Verdict::Refused(refusal) => answers::refuse(core, refusal),
         Verdict::Passed => {
             let from = with_watched(core, cycle, on);
-            let armed = device::arm::arm(from, gone_at, run_dates);
+            let armed = device::arm::arm(from, gone_at, run_at);
             answers::done(armed, 0, 0)
         }
     }

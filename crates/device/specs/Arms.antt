@@ -50,7 +50,7 @@ withWakeOf w c = record {
 -- the wake is armed for all instants of the definition, whatever stands in the other arrays
 abbrev pub Armed : Core → List ℕ → ℕ → Date → Type 0
 Armed c goneAt runDate w =
-    (a : Arrays) → a .goneAt ≡ goneAt → getD (a .runDates) (c .runs .start) 0 ≡ runDate → Held 1024 (c .host) → Held 64 (c .runs)
+    (a : Arrays) → a .goneAt ≡ goneAt → getD (a .runAt) (c .runs .start) 0 ≡ runDate → Held 1024 (c .host) → Held 64 (c .runs)
     → w ≡ armAll (instants (abs c a)) (c .control .wake)
 
 -- the queues stand in their slots again, and the state is the definition's
@@ -60,7 +60,7 @@ pub record Arms (c : Core) (a : Arrays) (c′ : Core) : Type 0 where
 
 -- whatever stands in the arrays that arming does not read
 abbrev pub ArmsAny : Core → List ℕ → List ℕ → Core → Type 0
-ArmsAny c goneAt runDates c′ = (a : Arrays) → a .goneAt ≡ goneAt → a .runDates ≡ runDates → Shape c a → Arms c a c′
+ArmsAny c goneAt runAt c′ = (a : Arrays) → a .goneAt ≡ goneAt → a .runAt ≡ runAt → Shape c a → Arms c a c′
 
 -- ---- when a byte in flight has gone
 
@@ -98,7 +98,7 @@ module _ (dates bytes : List ℕ) (c : Cursor) where
 
 -- ---- the wake
 
-pub armed-by : (c : Core) (a : Arrays) (goneAt : List ℕ) (runDate : ℕ) → a .goneAt ≡ goneAt → getD (a .runDates) (c .runs .start) 0 ≡ runDate
+pub armed-by : (c : Core) (a : Arrays) (goneAt : List ℕ) (runDate : ℕ) → a .goneAt ≡ goneAt → getD (a .runAt) (c .runs .start) 0 ≡ runDate
     → Held 1024 (c .host) → Held 64 (c .runs)
     → {s : Settings} {last waits landing comes timeout below gone first w : Date} {which : Below}
     → s ≡ Timing.settings (c .control .words) (c .control .period) → last ≡ lastGone (flightOf goneAt (a .flight) (c .flight))
@@ -114,7 +114,7 @@ armed-by c a goneAt runDate ea er hh rh {s} {last} {waits} {landing} {comes} {ti
     let mine : last ∷ landing ∷ timeout ∷ below ∷ first ∷ [] ≡ instants u =
     rw (
       instants-are u,
-      waiting-of (a .host) (a .runDates) (a .runCounts) (c .host) (c .runs) hh rh,
+      waiting-of (a .host) (a .runAt) (a .runLen) (c .host) (c .runs) hh rh,
       er,
       mark-of (c .receiving) (c .byte),
       elems-length (sentAt (a .goneAt) (a .flight)) 129 (c .flight),

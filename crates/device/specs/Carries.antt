@@ -31,7 +31,7 @@ use Rattle.line.specs.declared.Receiving.{Receiving}
 use Rattle.line.specs.declared.Move.{Move}
 use Rattle.line.specs.Moves.{move}
 use Rattle.line.specs.Applied.{waiting, mark, lineByte, subject, marked, isStored, storedInto, dropIf, popRunIf, applied, pass-applied}
-use Rattle.device.specs.Holds.{runAt, hostOf, runsOf, rxOf, onTheLine}
+use Rattle.device.specs.Holds.{runIn, hostOf, runsOf, rxOf, onTheLine}
 use Rattle.device.specs.Waits.{waitingAt}
 use Rattle.device.specs.Receives.{num, spent, Fit, with, Passes}
 use Rattle.device.specs.Allows.{isOn, isSet, Allows, allows}
@@ -60,9 +60,9 @@ waiting-of hosts dates counts h r hh rh =
     (λ (p : 0 < h .count).
     ⊎-elim
     (λ (q : 0 < r .count).
-    rw (lt-ltb 0 (h .count) p, lt-ltb 0 (r .count) q) (ap₂ waiting (first-elems (runAt dates counts) 64 r rh q) (first-elems (slotOf hosts 0) 1024 h hh p)))
+    rw (lt-ltb 0 (h .count) p, lt-ltb 0 (r .count) q) (ap₂ waiting (first-elems (runIn dates counts) 64 r rh q) (first-elems (slotOf hosts 0) 1024 h hh p)))
     (λ (q : r .count ≤ 0).
-    rw (lt-ltb 0 (h .count) p, le-ltb 0 (r .count) q) (ap (λ (l : List Run). waiting l (hostOf hosts h)) (elems-none (runAt dates counts) 64 r (omega arith))))
+    rw (lt-ltb 0 (h .count) p, le-ltb 0 (r .count) q) (ap (λ (l : List Run). waiting l (hostOf hosts h)) (elems-none (runIn dates counts) 64 r (omega arith))))
     (side 0 (r .count)))
     (λ (p : h .count ≤ 0).
     rw (le-ltb 0 (h .count) p) (ap (waiting (runsOf dates counts r)) (elems-none (slotOf hosts 0) 1024 h (omega arith)) ∙ waiting-nil (runsOf dates counts r)))
@@ -105,7 +105,7 @@ drop-same false l = refl
 
 module _ (dates counts : List ℕ) (c : Cursor) (h : Held 64 c) (long : length counts ≡ 64) where
   -- a store at the first run's count, in the slots of the runs
-  lowered : (n : ℕ) → Stored (c .start) (record { date = getD dates (c .start) 0; count = n }) (runAt dates counts) (runAt dates (set counts (c .start) n))
+  lowered : (n : ℕ) → Stored (c .start) (record { date = getD dates (c .start) 0; count = n }) (runIn dates counts) (runIn dates (set counts (c .start) n))
   lowered n =
       both {C = Run} (λ d k. record { date = d; count = k }) (c .start) (Stores.kept (c .start) (slotOf dates 0))
       (set-stored counts 0 (c .start) n (rw long (h .low)))
@@ -115,14 +115,14 @@ module _ (dates counts : List ℕ) (c : Cursor) (h : Held 64 c) (long : length c
       → runsOf dates (set counts (c .start) (getD counts (c .start) 0 - 1)) (poppedIf 64 t c) ≡ popRun (runsOf dates counts c)
   unfolding poppedIf popRun choose
   first-run pos true e =
-      pop-elems (runAt dates (set counts (c .start) (getD counts (c .start) 0 - 1))) 64 c h
-      ∙ ap (drop 1) (first-stored (runAt dates counts) _ 64 c h _ pos (lowered (getD counts (c .start) 0 - 1)))
-      ∙ ap (drop 1) (first-elems (runAt dates counts) 64 c h pos)
-      ∙ sym (ap popRun (first-elems (runAt dates counts) 64 c h pos) ∙ rw (popRun, e))
+      pop-elems (runIn dates (set counts (c .start) (getD counts (c .start) 0 - 1))) 64 c h
+      ∙ ap (drop 1) (first-stored (runIn dates counts) _ 64 c h _ pos (lowered (getD counts (c .start) 0 - 1)))
+      ∙ ap (drop 1) (first-elems (runIn dates counts) 64 c h pos)
+      ∙ sym (ap popRun (first-elems (runIn dates counts) 64 c h pos) ∙ rw (popRun, e))
   first-run pos false e =
-      first-stored (runAt dates counts) _ 64 c h _ pos (lowered (getD counts (c .start) 0 - 1))
-      ∙ ap (λ (l : List Run). record { date = getD dates (c .start) 0; count = getD counts (c .start) 0 - 1 } ∷ drop 1 l) (first-elems (runAt dates counts) 64 c h pos)
-      ∙ sym (ap popRun (first-elems (runAt dates counts) 64 c h pos) ∙ rw (popRun, e))
+      first-stored (runIn dates counts) _ 64 c h _ pos (lowered (getD counts (c .start) 0 - 1))
+      ∙ ap (λ (l : List Run). record { date = getD dates (c .start) 0; count = getD counts (c .start) 0 - 1 } ∷ drop 1 l) (first-elems (runIn dates counts) 64 c h pos)
+      ∙ sym (ap popRun (first-elems (runIn dates counts) 64 c h pos) ∙ rw (popRun, e))
 
   runs-of : (t : Bool) → (t ≡ true → 0 < c .count)
       → runsOf dates (set counts (c .start) (getD counts (c .start) 0 - num t)) (poppedIf 64 (spent t (getD counts (c .start) 0)) c) ≡ popRunIf t (runsOf dates counts c)
@@ -130,7 +130,7 @@ module _ (dates counts : List ℕ) (c : Cursor) (h : Held 64 c) (long : length c
   runs-of true w = first-run (w refl) (leb (getD counts (c .start) 0) 1) refl
   runs-of false w =
       let z : getD counts (c .start) 0 - 0 ≡ getD counts (c .start) 0 = omega arith in
-      rw z (same-stored (runAt dates counts) (runAt dates (set counts (c .start) (getD counts (c .start) 0))) 64 c (c .start) (lowered (getD counts (c .start) 0)))
+      rw z (same-stored (runIn dates counts) (runIn dates (set counts (c .start) (getD counts (c .start) 0))) 64 c (c .start) (lowered (getD counts (c .start) 0)))
 
 -- ---- one pass
 

@@ -20,8 +20,8 @@ pub record Arrays : Type 0 where
   pub flight : List ℕ
   pub tx : List ℕ
   pub host : List ℕ
-  pub runDates : List ℕ
-  pub runCounts : List ℕ
+  pub runAt : List ℕ
+  pub runLen : List ℕ
   pub rx : List ℕ
 
 -- ---- each queue
@@ -29,8 +29,8 @@ pub record Arrays : Type 0 where
 abbrev pub sentAt : List ℕ → List ℕ → ℕ → Sent ℕ
 sentAt dates bytes i = record { goneAt = slotOf dates 0 i; byte = slotOf bytes 0 i }
 
-abbrev pub runAt : List ℕ → List ℕ → ℕ → Run
-runAt dates counts i = record { date = slotOf dates 0 i; count = slotOf counts 0 i }
+abbrev pub runIn : List ℕ → List ℕ → ℕ → Run
+runIn dates counts i = record { date = slotOf dates 0 i; count = slotOf counts 0 i }
 
 abbrev pub flightOf : List ℕ → List ℕ → Cursor → List (Sent ℕ)
 flightOf dates bytes c = elems (sentAt dates bytes) 129 c
@@ -42,7 +42,7 @@ abbrev pub hostOf : List ℕ → Cursor → List ℕ
 hostOf slots c = elems (slotOf slots 0) 1024 c
 
 abbrev pub runsOf : List ℕ → List ℕ → Cursor → List Run
-runsOf dates counts c = elems (runAt dates counts) 64 c
+runsOf dates counts c = elems (runIn dates counts) 64 c
 
 abbrev pub rxOf : List ℕ → Cursor → List ℕ
 rxOf slots c = elems (slotOf slots 0) 128 c
@@ -60,7 +60,7 @@ abs c a = record {
   inFlight = flightOf (a .goneAt) (a .flight) (c .flight);
   tx = txOf (a .tx) (c .tx);
   host = hostOf (a .host) (c .host);
-  hostRuns = runsOf (a .runDates) (a .runCounts) (c .runs);
+  hostRuns = runsOf (a .runAt) (a .runLen) (c .runs);
   receiving = onTheLine (c .receiving) (c .byte);
   rx = rxOf (a .rx) (c .rx);
 }
@@ -76,8 +76,8 @@ pub record Shape (c : Core) (a : Arrays) : Type 0 where
   pub flightSlots : length (a .flight) ≡ 129
   pub txSlots : length (a .tx) ≡ 1152
   pub hostSlots : length (a .host) ≡ 1024
-  pub runDateSlots : length (a .runDates) ≡ 64
-  pub runCountSlots : length (a .runCounts) ≡ 64
+  pub runDateSlots : length (a .runAt) ≡ 64
+  pub runCountSlots : length (a .runLen) ≡ 64
   pub rxSlots : length (a .rx) ≡ 128
 
 -- the condition on a state: its queues stand in their slots, and it is within document 01's limits

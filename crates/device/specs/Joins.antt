@@ -16,7 +16,7 @@ use Rattle.queue.specs.Cursors.{Held, slotOf, lastOf, backOf, pushed}
 use Rattle.queue.specs.Laws.{elems-none, elems-last, push-held, last-low, back-low}
 use Rattle.queue.specs.Stores.{set-stored, both, kept, last-stored, push-elems}
 use Rattle.queue.specs.declared.Cursor.{Cursor}
-use Rattle.device.specs.Holds.{runAt, runsOf}
+use Rattle.device.specs.Holds.{runIn, runsOf}
 
 -- ---- of lists
 
@@ -69,10 +69,10 @@ pub record Joins (date n : ℕ) (runs : Cursor) (dates counts : List ℕ) (runs�
 module _ (dates counts : List ℕ) (runs : Cursor) where
   pub last-none : runs .count ≤ 0 → 0 ≡ lastDate (runsOf dates counts runs)
   unfolding lastDate
-  last-none z = sym (ap lastDate (elems-none (runAt dates counts) 64 runs (omega arith)))
+  last-none z = sym (ap lastDate (elems-none (runIn dates counts) 64 runs (omega arith)))
 
   pub last-some : 0 < runs .count → getD dates (lastOf 64 runs) 0 ≡ lastDate (runsOf dates counts runs)
-  last-some pos = sym (ap lastDate (elems-last (runAt dates counts) 64 runs pos) ∙ last-date (take (runs .count - 1) (runsOf dates counts runs)) (runAt dates counts (lastOf 64 runs)))
+  last-some pos = sym (ap lastDate (elems-last (runIn dates counts) 64 runs pos) ∙ last-date (take (runs .count - 1) (runsOf dates counts runs)) (runIn dates counts (lastOf 64 runs)))
 
 module _ (date n : ℕ) (runs : Cursor) (dates counts : List ℕ) (h : Held 64 runs) (ds : length dates ≡ 64) (cs : length counts ≡ 64) where
   -- the last run's count grows
@@ -83,10 +83,10 @@ module _ (date n : ℕ) (runs : Cursor) (dates counts : List ℕ) (h : Held 64 r
     dateSlots = ds;
     countSlots = length-set counts _ _ ∙ cs;
     same =
-        last-stored (runAt dates counts) (runAt dates (set counts (lastOf 64 runs) (getD counts (lastOf 64 runs) 0 + n))) 64 runs h (record { date = getD dates (lastOf 64 runs) 0; count = getD counts (lastOf 64 runs) 0 + n }) pos
+        last-stored (runIn dates counts) (runIn dates (set counts (lastOf 64 runs) (getD counts (lastOf 64 runs) 0 + n))) 64 runs h (record { date = getD dates (lastOf 64 runs) 0; count = getD counts (lastOf 64 runs) 0 + n }) pos
         (both (λ (d c : ℕ). record { date = d; count = c }) (lastOf 64 runs) (kept (lastOf 64 runs) (slotOf dates 0))
         (set-stored counts 0 (lastOf 64 runs) _ (rw cs (last-low 64 runs h))))
-        ∙ sym (ap (joined date n) (elems-last (runAt dates counts) 64 runs pos) ∙ joins-last date n (take (runs .count - 1) (runsOf dates counts runs)) (runAt dates counts (lastOf 64 runs)) early);
+        ∙ sym (ap (joined date n) (elems-last (runIn dates counts) 64 runs pos) ∙ joins-last date n (take (runs .count - 1) (runsOf dates counts runs)) (runIn dates counts (lastOf 64 runs)) early);
   }
 
   -- where none waits or the last date is earlier, the definition adds a run
@@ -96,10 +96,10 @@ module _ (date n : ℕ) (runs : Cursor) (dates counts : List ℕ) (h : Held 64 r
   new-run late =
       ⊎-elim
       (λ (pos : 0 < runs .count).
-      let e = elems-last (runAt dates counts) 64 runs pos in
-      ap (joined date n) e ∙ adds-last date n (take (runs .count - 1) (runsOf dates counts runs)) (runAt dates counts (lastOf 64 runs)) (late pos)
+      let e = elems-last (runIn dates counts) 64 runs pos in
+      ap (joined date n) e ∙ adds-last date n (take (runs .count - 1) (runsOf dates counts runs)) (runIn dates counts (lastOf 64 runs)) (late pos)
       ∙ ap (λ (l : List Run). l ++ (record { date = date; count = n } ∷ [])) (sym e))
-      (λ (z : runs .count ≤ 0). rw (elems-none (runAt dates counts) 64 runs (omega arith)))
+      (λ (z : runs .count ≤ 0). rw (elems-none (runIn dates counts) 64 runs (omega arith)))
       (side 0 (runs .count))
 
   -- another run stands behind the others
@@ -110,7 +110,7 @@ module _ (date n : ℕ) (runs : Cursor) (dates counts : List ℕ) (h : Held 64 r
     dateSlots = length-set dates _ _ ∙ ds;
     countSlots = length-set counts _ _ ∙ cs;
     same =
-        push-elems (runAt dates counts) (runAt (set dates (backOf 64 runs) date) (set counts (backOf 64 runs) n)) 64 runs h (record { date = date; count = n }) room
+        push-elems (runIn dates counts) (runIn (set dates (backOf 64 runs) date) (set counts (backOf 64 runs) n)) 64 runs h (record { date = date; count = n }) room
         (both (λ (d c : ℕ). record { date = d; count = c }) (backOf 64 runs) (set-stored dates 0 (backOf 64 runs) date (rw ds (back-low 64 runs h)))
         (set-stored counts 0 (backOf 64 runs) n (rw cs (back-low 64 runs h))))
         ∙ sym (new-run late);

@@ -53,7 +53,7 @@ together c flight tx at l level = record {
 
 -- the arrays that a settling writes, in their places
 abbrev pub written : Arrays → List ℕ → List ℕ → List ℕ → Arrays
-written a tx counts rx = record { goneAt = a .goneAt; flight = a .flight; tx = tx; host = a .host; runDates = a .runDates; runCounts = counts; rx = rx }
+written a tx counts rx = record { goneAt = a .goneAt; flight = a .flight; tx = tx; host = a .host; runAt = a .runAt; runLen = counts; rx = rx }
 
 -- ---- before the passes
 
@@ -62,7 +62,7 @@ pub room : (c : Core) (a : Arrays) (n : ℕ) → Ok c a → n ≤ c .flight .cou
 room c a n ok few =
     omega (arith, ok .within .sent, elems-length (slotOf (a .tx) 0) 1152 (c .tx), elems-length (sentAt (a .goneAt) (a .flight)) 129 (c .flight))
 
-pub fit : (c : Core) (a : Arrays) (l : Line) → Ok c a → Fit (receptionOf c l) (a .host) (a .runDates) (a .runCounts) (a .rx)
+pub fit : (c : Core) (a : Arrays) (l : Line) → Ok c a → Fit (receptionOf c l) (a .host) (a .runAt) (a .runLen) (a .rx)
 fit c a l ok = record {
   host = ok .shape .host;
   runs = ok .shape .runs;
@@ -96,7 +96,7 @@ module _ (cycle : ℕ) (c : Core) (a : Arrays) (ok : Ok c a) {date n passes over
     (leaves : Leaves n (a .flight) (c .flight) (c .tx) (a .tx) flight′ tx′ left′)
     (reads : s ≡ Timing.settings (c .control .words) (c .control .period))
     (told : l ≡ txDone (c .flight .count) (flight′ .count) (c .control .line))
-    (runs : Ends s date (receptionOf c l) (a .host) (a .runDates) (a .runCounts) (a .rx) at′ counts′ rx′ passes overflows)
+    (runs : Ends s date (receptionOf c l) (a .host) (a .runAt) (a .runLen) (a .rx) at′ counts′ rx′ passes overflows)
     (leveled : l′ ≡ Levels.levels (c .control .words .conf1) (at′ .rx .count) (flight′ .count) (at′ .line))
     (driven : level ≡ Levels.level (c .control .words .«int_ena») l′) where
   -- the state once its bytes have left
@@ -112,7 +112,7 @@ module _ (cycle : ℕ) (c : Core) (a : Arrays) (ok : Ok c a) {date n passes over
     rx = abs c a .rx;
   }
 
-  departs : depart date (abs c a) ≡ with (receptionOf c l) (a .host) (a .runDates) (a .runCounts) (a .rx) sent
+  departs : depart date (abs c a) ≡ with (receptionOf c l) (a .host) (a .runAt) (a .runLen) (a .rx) sent
   unfolding sent depart Settle.leave
   departs =
       let all : length (abs c a .inFlight) ≡ c .flight .count = elems-length (sentAt (a .goneAt) (a .flight)) 129 (c .flight) in
@@ -123,7 +123,7 @@ module _ (cycle : ℕ) (c : Core) (a : Arrays) (ok : Ok c a) {date n passes over
 
   -- the state once the passes are made
   passed : State.Uart ℕ ℕ
-  passed = with at′ (a .host) (a .runDates) counts′ rx′ sent
+  passed = with at′ (a .host) (a .runAt) counts′ rx′ sent
 
   settled : Settle.settle cycle (abs c a) ≡ Settle.leveled (record { state = passed; passes = passes; overflows = overflows })
   unfolding passed Settle.settle Settle.settleTo Settle.settlingDate Settle.settingsOf

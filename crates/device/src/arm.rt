@@ -98,12 +98,12 @@ pub fn with_wake_of(mut core: Core, wake: Date) -> Core
 }
 
 // The core with its wake armed. Of the arrays it reads the dates in flight and of the runs.
-pub fn arm<'a>(core: Core, gone_at: &'a [u64; 129], run_dates: &'a [u64; 64]) -> Core
-    requires { ⌜ Ready core (now «gone_at») × Held 64 (core .runs) × (length (now «run_dates») ≡ 64) ⌝ }
-    ensures { λ r. ⌜ ArmsAny core (now («gone_at» .entry)) (now («run_dates» .entry)) r ⌝ }
+pub fn arm<'a>(core: Core, gone_at: &'a [u64; 129], run_at: &'a [u64; 64]) -> Core
+    requires { ⌜ Ready core (now «gone_at») × Held 64 (core .runs) × (length (now «run_at») ≡ 64) ⌝ }
+    ensures { λ r. ⌜ ArmsAny core (now («gone_at» .entry)) (now («run_at» .entry)) r ⌝ }
 {
     let run = core.runs.start;
-    let run_date = run_dates[run];
+    let run_date = run_at[run];
     let wake = next_wake(core, gone_at, run_date);
     with_wake_of(core, wake)
 }

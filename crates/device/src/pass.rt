@@ -55,17 +55,17 @@ pub fn take_next_on_the_line<'a>(
     settings: Settings,
     date: u64,
     host: &'a [u8; 1024],
-    run_dates: &'a [u64; 64],
-    run_counts: &'a mut [u64; 64],
+    run_at: &'a [u64; 64],
+    run_len: &'a mut [u64; 64],
     rx: &'a mut [u8; 128],
 ) -> Pass
-    requires { ⌜ Fit at (now host) (now «run_dates») (now «run_counts») (now rx) ⌝ }
-    ensures { λ r. ⌜ Passes settings date at (now (host .entry)) (now («run_dates» .entry)) (now («run_counts» .entry)) (now (rx .entry))
-        (r .reception) (now («run_counts» .exit)) (now (rx .exit)) (r .found) ⌝ }
+    requires { ⌜ Fit at (now host) (now «run_at») (now «run_len») (now rx) ⌝ }
+    ensures { λ r. ⌜ Passes settings date at (now (host .entry)) (now («run_at» .entry)) (now («run_len» .entry)) (now (rx .entry))
+        (r .reception) (now («run_len» .exit)) (now (rx .exit)) (r .found) ⌝ }
 {
     let run = at.runs.start;
-    let run_date = run_dates[run];
-    let count = run_counts[run];
+    let run_date = run_at[run];
+    let count = run_len[run];
     let first = at.host.start;
     let next = at.rx.back(128);
     let receiving = at.receiving;
@@ -77,7 +77,7 @@ pub fn take_next_on_the_line<'a>(
     let byte = choose(m.started, host[first], at.byte);
     let old = rx[next];
     rx[next] = choose(stored, byte, old);
-    run_counts[run] = less_if(count, m.started);
+    run_len[run] = less_if(count, m.started);
     let moved = m.line;
     let marked = m.receiving;
     let reception = Reception {

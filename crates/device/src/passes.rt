@@ -25,32 +25,24 @@ pub fn take_all_on_the_line<'a>(
     settings: Settings,
     date: u64,
     host: &'a [u8; 1024],
-    run_dates: &'a [u64; 64],
-    run_counts: &'a mut [u64; 64],
+    run_at: &'a [u64; 64],
+    run_len: &'a mut [u64; 64],
     rx: &'a mut [u8; 128],
 ) -> Passes
-    requires { ⌜ Fit from (now host) (now «run_dates») (now «run_counts») (now rx) ⌝ }
-    ensures { λ r. ⌜ Ends settings date from (now (host .entry)) (now («run_dates» .entry)) (now («run_counts» .entry)) (now (rx .entry))
-        (r .reception) (now («run_counts» .exit)) (now (rx .exit)) (r .passes) (r .overflows) ⌝ }
+    requires { ⌜ Fit from (now host) (now «run_at») (now «run_len») (now rx) ⌝ }
+    ensures { λ r. ⌜ Ends settings date from (now (host .entry)) (now («run_at» .entry)) (now («run_len» .entry)) (now (rx .entry))
+        (r .reception) (now («run_len» .exit)) (now (rx .exit)) (r .passes) (r .overflows) ⌝ }
 {
     let mut at = from;
     let mut passes: u64 = 0;
     let mut overflows: u64 = 0;
     loop {
-        let p = crate::pass::take_next_on_the_line(
-            at,
-            settings,
-            date,
-            host,
-            run_dates,
-            run_counts,
-            rx,
-        );
+        let p = crate::pass::take_next_on_the_line(at, settings, date, host, run_at, run_len, rx);
         let found = p.found;
         let reception = p.reception;
         at = reception;
         passes = passes + 1;
-        overflows = overflows + line::fate::overflows(found);
+        overflows = overflows + line::fate::overflow_of(found);
         let more = line::fate::goes_on(found);
         if !more {
             break;
@@ -100,17 +92,17 @@ pub fn settle_line<'a>(
     period: u64,
     date: u64,
     host: &'a [u8; 1024],
-    run_dates: &'a [u64; 64],
-    run_counts: &'a mut [u64; 64],
+    run_at: &'a [u64; 64],
+    run_len: &'a mut [u64; 64],
     rx: &'a mut [u8; 128],
 ) -> Passes
-    requires { ⌜ Fit from (now host) (now «run_dates») (now «run_counts») (now rx) × (period ≤ periodLimit) ⌝ }
-    ensures { λ r. ⌜ Ends (Timing·settings words period) date from (now (host .entry)) (now («run_dates» .entry))
-        (now («run_counts» .entry)) (now (rx .entry))
-        (r .reception) (now («run_counts» .exit)) (now (rx .exit)) (r .passes) (r .overflows) ⌝ }
+    requires { ⌜ Fit from (now host) (now «run_at») (now «run_len») (now rx) × (period ≤ periodLimit) ⌝ }
+    ensures { λ r. ⌜ Ends (Timing·settings words period) date from (now (host .entry)) (now («run_at» .entry))
+        (now («run_len» .entry)) (now (rx .entry))
+        (r .reception) (now («run_len» .exit)) (now (rx .exit)) (r .passes) (r .overflows) ⌝ }
 {
     let run = from.runs.start;
-    let run_date = run_dates[run];
+    let run_date = run_at[run];
     let line = from.line;
     let since = line.idle_since;
     let receiving = from.receiving;
@@ -123,6 +115,6 @@ pub fn settle_line<'a>(
         }
     } else {
         let settings = timing::settings(words, period);
-        take_all_on_the_line(from, settings, date, host, run_dates, run_counts, rx)
+        take_all_on_the_line(from, settings, date, host, run_at, run_len, rx)
     }
 }

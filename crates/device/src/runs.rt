@@ -25,13 +25,13 @@ pub fn waiting(host: usize, runs: usize, date: u64) -> Date
 }
 
 // The date of the last run, in subcycles; 0 where none waits.
-pub fn last_date(runs: Cursor, run_dates: &[u64; 64]) -> u64
-    requires { ⌜ Held 64 runs × (length (now «run_dates») ≡ 64) ⌝ }
-    ensures { λ r. ⌜ ((counts : List ℕ) → r ≡ lastDate (runsOf (now («run_dates» .entry)) counts runs)) ⌝ }
+pub fn last_date(runs: Cursor, run_at: &[u64; 64]) -> u64
+    requires { ⌜ Held 64 runs × (length (now «run_at») ≡ 64) ⌝ }
+    ensures { λ r. ⌜ ((counts : List ℕ) → r ≡ lastDate (runsOf (now («run_at» .entry)) counts runs)) ⌝ }
 {
     if 0 < runs.count {
         let last = runs.last(64);
-        return run_dates[last];
+        return run_at[last];
     }
     0
 }
@@ -46,24 +46,24 @@ fn joins_last(runs: usize, last: u64, date: u64) -> bool
 // n bytes for a date join the last run, or make a run of their own.
 pub fn join<'a>(
     runs: Cursor,
-    run_dates: &'a mut [u64; 64],
-    run_counts: &'a mut [u64; 64],
+    run_at: &'a mut [u64; 64],
+    run_len: &'a mut [u64; 64],
     date: u64,
     n: u64,
 ) -> Cursor
-    requires { ⌜ Held 64 runs × (length (now «run_dates») ≡ 64) × (length (now «run_counts») ≡ 64) × RoomFor runs (now «run_dates»)
-        (now «run_counts») date n ⌝ }
-    ensures { λ r. ⌜ Joins date n runs (now («run_dates» .entry)) (now («run_counts» .entry)) r (now («run_dates» .exit))
-        (now («run_counts» .exit)) ⌝ }
+    requires { ⌜ Held 64 runs × (length (now «run_at») ≡ 64) × (length (now «run_len») ≡ 64) × RoomFor runs (now «run_at»)
+        (now «run_len») date n ⌝ }
+    ensures { λ r. ⌜ Joins date n runs (now («run_at» .entry)) (now («run_len» .entry)) r (now («run_at» .exit))
+        (now («run_len» .exit)) ⌝ }
 {
     let last = runs.last(64);
-    if joins_last(runs.count, run_dates[last], date) {
-        run_counts[last] = run_counts[last] + n;
+    if joins_last(runs.count, run_at[last], date) {
+        run_len[last] = run_len[last] + n;
         runs
     } else {
         let at = runs.back(64);
-        run_dates[at] = date;
-        run_counts[at] = n;
+        run_at[at] = date;
+        run_len[at] = n;
         runs.pushed()
     }
 }

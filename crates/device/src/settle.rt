@@ -7,7 +7,7 @@ use model::Line;
 ghost use mathlib.Core.Path.{_≡_};
 ghost use Rattle.model.specs.Settle.{settle};
 ghost use Rattle.device.specs.Holds.{abs, Ok};
-ghost use Rattle.device.specs.Wholes.{arrays};
+ghost use Rattle.device.specs.Wholes.{lent};
 ghost use Rattle.device.specs.Settles.{Settles, receptionOf, together as Settles·together};
 
 #[repr(C)]
@@ -69,18 +69,17 @@ pub fn settle<'a>(
     flight: &'a [u8; 129],
     tx: &'a mut [u8; 1152],
     host: &'a [u8; 1024],
-    run_dates: &'a [u64; 64],
-    run_counts: &'a mut [u64; 64],
+    run_at: &'a [u64; 64],
+    run_len: &'a mut [u64; 64],
     rx: &'a mut [u8; 128],
     cycle: u64,
 ) -> SettleCore
-    requires { ⌜ Ok core (arrays (now «gone_at») (now flight) (now tx) (now host) (now «run_dates») (now «run_counts») (now rx)) ⌝ }
+    requires { ⌜ Ok core (lent «gone_at» flight tx host «run_at» «run_len» rx) ⌝ }
     ensures { λ r. ⌜ Settles
-        (settle cycle (abs core (arrays (now («gone_at» .entry)) (now (flight .entry)) (now (tx .entry)) (now (host .entry))
-        (now («run_dates» .entry)) (now («run_counts» .entry)) (now (rx .entry)))))
+        (settle cycle (abs core (lent («gone_at» .entry) (flight .entry) (tx .entry) (host .entry) («run_at» .entry)
+        («run_len» .entry) (rx .entry))))
         (r .core)
-        (arrays (now («gone_at» .entry)) (now (flight .entry)) (now (tx .exit)) (now (host .entry)) (now («run_dates» .entry))
-        (now («run_counts» .exit)) (now (rx .exit)))
+        (lent («gone_at» .entry) (flight .entry) (tx .exit) (host .entry) («run_at» .entry) («run_len» .exit) (rx .exit))
         (r .passes) (r .overflows) ⌝ }
 {
     let control = core.control;
@@ -98,8 +97,8 @@ pub fn settle<'a>(
         control.period,
         date,
         host,
-        run_dates,
-        run_counts,
+        run_at,
+        run_len,
         rx,
     );
     let at = ended.reception;

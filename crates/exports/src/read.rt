@@ -5,7 +5,7 @@ ghost use mathlib.Core.Path.{_≡_};
 ghost use Rattle.model.specs.Replies.{asRead, readNumber};
 ghost use Rattle.model.specs.Calls.{read};
 ghost use Rattle.device.specs.Holds.{abs, Ok};
-ghost use Rattle.device.specs.Wholes.{arrays};
+ghost use Rattle.device.specs.Wholes.{lent};
 ghost use Rattle.calls.specs.Answers.{Answers};
 ghost use Rattle.ffi.specs.Plain.{coreOf};
 ghost use Rattle.ffi.specs.Replies.{plainRead};
@@ -18,24 +18,20 @@ pub extern "C" fn wondraxu_read<'a>(
     flight: &'a [u8; 129],
     tx: &'a mut [u8; 1152],
     host: &'a [u8; 1024],
-    run_dates: &'a [u64; 64],
-    run_counts: &'a mut [u64; 64],
+    run_at: &'a [u64; 64],
+    run_len: &'a mut [u64; 64],
     rx: &'a mut [u8; 128],
     cycle: u64,
     offset: u32,
 ) -> PlainAnswer
-    requires { ⌜ Ok (coreOf core) (arrays (now «gone_at») (now flight) (now tx) (now host) (now «run_dates») (now «run_counts»)
-        (now rx)) ⌝ }
+    requires { ⌜ Ok (coreOf core) (lent «gone_at» flight tx host «run_at» «run_len» rx) ⌝ }
     ensures { λ r. ⌜ Plainly plainRead
         (λ c c′. Answers asRead readNumber
-        (read cycle offset (abs c (arrays (now («gone_at» .entry)) (now (flight .entry)) (now (tx .entry)) (now (host .entry))
-        (now («run_dates» .entry)) (now («run_counts» .entry)) (now (rx .entry))))) c
-        (arrays (now («gone_at» .entry)) (now (flight .entry)) (now (tx .entry)) (now (host .entry)) (now («run_dates» .entry))
-        (now («run_counts» .entry)) (now (rx .entry)))
+        (read cycle offset (abs c (lent («gone_at» .entry) (flight .entry) (tx .entry) (host .entry) («run_at» .entry)
+        («run_len» .entry) (rx .entry)))) c
+        (lent («gone_at» .entry) (flight .entry) (tx .entry) (host .entry) («run_at» .entry) («run_len» .entry) (rx .entry))
         c′
-        (arrays (now («gone_at» .entry)) (now (flight .entry)) (now (tx .exit)) (now (host .entry)) (now («run_dates» .entry))
-        (now («run_counts» .exit)) (now (rx .exit))))
-        core r ⌝ }
+        (lent («gone_at» .entry) (flight .entry) (tx .exit) (host .entry) («run_at» .entry) («run_len» .exit) (rx .exit))) core r ⌝ }
 {
     let from = ffi::core_of(core);
     let done = access::read::read(
@@ -44,8 +40,8 @@ pub extern "C" fn wondraxu_read<'a>(
         flight,
         tx,
         host,
-        run_dates,
-        run_counts,
+        run_at,
+        run_len,
         rx,
         cycle,
         offset,

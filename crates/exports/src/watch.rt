@@ -16,15 +16,15 @@ ghost use Rattle.ffi.specs.Answers.{Plainly};
 pub extern "C" fn wondraxu_watch<'a>(
     core: PlainCore,
     gone_at: &'a [u64; 129],
-    run_dates: &'a [u64; 64],
+    run_at: &'a [u64; 64],
     cycle: u64,
     on: bool,
 ) -> PlainAnswer
-    requires { ⌜ Ready (coreOf core) (now «gone_at») × Held 64 (coreOf core .runs) × (length (now «run_dates») ≡ 64) ⌝ }
-    ensures { λ r. ⌜ ((a : Arrays) → a .goneAt ≡ now («gone_at» .entry) → a .runDates ≡ now («run_dates» .entry) → Ok (coreOf core) a
+    requires { ⌜ Ready (coreOf core) (now «gone_at») × Held 64 (coreOf core .runs) × (length (now «run_at») ≡ 64) ⌝ }
+    ensures { λ r. ⌜ ((a : Arrays) → a .goneAt ≡ now («gone_at» .entry) → a .runAt ≡ now («run_at» .entry) → Ok (coreOf core) a
         → Plainly plainDone (λ c c′. DoneWith (watch cycle on) c a c′ a) core r) ⌝ }
 {
     let from = ffi::core_of(core);
-    let done = calls::watch::watch(from, gone_at, run_dates, cycle, on);
+    let done = calls::watch::watch(from, gone_at, run_at, cycle, on);
     ffi::answers::done_answer(done)
 }

@@ -32,7 +32,7 @@ waitingCore c host runs = record {
 
 abbrev pub waitingArrays : Arrays → List ℕ → List ℕ → List ℕ → Arrays
 waitingArrays a host dates counts =
-    record { goneAt = a .goneAt; flight = a .flight; tx = a .tx; host = host; runDates = dates; runCounts = counts; rx = a .rx }
+    record { goneAt = a .goneAt; flight = a .flight; tx = a .tx; host = host; runAt = dates; runLen = counts; rx = a .rx }
 
 handed : (date : ℕ) (bs : List ℕ) (u : State.Uart ℕ ℕ) → 1 ≤ length bs → handOver date bs u ≡ arm (withHost (u .host ++ bs) (joined date (length bs) (u .hostRuns)) u)
 unfolding handOver
@@ -41,7 +41,7 @@ handed date (b ∷ bs) u h = refl
 
 module _ (date : ℕ) (bs : List ℕ) (c : Core) (a : Arrays) (k : Shape c a) (room : c .host .count + length bs ≤ 1024)
     {hosts′ : List ℕ} (stored : hosts′ ≡ storedFrom 1024 (a .host) (c .host .start + c .host .count) bs)
-    {runs′ : Cursor} {dates′ counts′ : List ℕ} (j : Joins date (length bs) (c .runs) (a .runDates) (a .runCounts) runs′ dates′ counts′) where
+    {runs′ : Cursor} {dates′ counts′ : List ℕ} (j : Joins date (length bs) (c .runs) (a .runAt) (a .runLen) runs′ dates′ counts′) where
   abbrev pub nextCore : Core
   nextCore = waitingCore c (pushedBy (length bs) (c .host)) runs′
 
@@ -86,7 +86,7 @@ pub record Hands (date : ℕ) (bs : List ℕ) (c : Core) (a : Arrays) (c′ : Co
 -- whatever stands in the arrays that a hand-over does not touch
 abbrev pub HandsAny : ℕ → List ℕ → Core → List ℕ → List ℕ → List ℕ → List ℕ → Core → List ℕ → List ℕ → List ℕ → Type 0
 HandsAny date bs c goneAt hosts dates counts c′ hosts′ dates′ counts′ =
-    (a : Arrays) → a .goneAt ≡ goneAt → a .host ≡ hosts → a .runDates ≡ dates → a .runCounts ≡ counts → Shape c a
+    (a : Arrays) → a .goneAt ≡ goneAt → a .host ≡ hosts → a .runAt ≡ dates → a .runLen ≡ counts → Shape c a
     → Hands date bs c a c′ (waitingArrays a hosts′ dates′ counts′)
 
 none-handed : (date : ℕ) (bs : List ℕ) (u : State.Uart ℕ ℕ) → length bs ≡ 0 → u ≡ handOver date bs u
@@ -106,8 +106,8 @@ module _ (date : ℕ) (bs : List ℕ) (c : Core) (goneAt hosts dates counts : Li
       let stored′ : hosts′ ≡ storedFrom 1024 (a .host) (c .host .start + c .host .count) bs =
       stored ∙ ap (λ (l : List ℕ). storedFrom 1024 l (c .host .start + c .host .count) bs) (sym eh)
       in
-      let j′ : Joins date (length bs) (c .runs) (a .runDates) (a .runCounts) runs′ dates′ counts′ =
-      subst (λ (d : List ℕ). Joins date (length bs) (c .runs) d (a .runCounts) runs′ dates′ counts′) (sym ed)
+      let j′ : Joins date (length bs) (c .runs) (a .runAt) (a .runLen) runs′ dates′ counts′ =
+      subst (λ (d : List ℕ). Joins date (length bs) (c .runs) d (a .runLen) runs′ dates′ counts′) (sym ed)
       (subst (λ (n : List ℕ). Joins date (length bs) (c .runs) dates n runs′ dates′ counts′) (sym ec) j)
       in
       let next : ArmsAny (waitingCore c (pushedBy (length bs) (c .host)) runs′) goneAt dates′ c₂ =

@@ -24,7 +24,7 @@ use Rattle.replies.specs.Calls.{receive-tests}
 use Rattle.queue.specs.Slots.{side}
 use Rattle.queue.specs.Cursors.{slotOf, lastOf}
 use Rattle.queue.specs.Laws.{elems-length, elems-last}
-use Rattle.device.specs.Holds.{Arrays, runAt, runsOf, abs, Ok}
+use Rattle.device.specs.Holds.{Arrays, runIn, runsOf, abs, Ok}
 use Rattle.device.specs.Settles.{Settles}
 use Rattle.device.specs.declared.Core.{Core}
 use Rattle.calls.specs.Answers.{Works, after, in-time, doneCore}
@@ -45,12 +45,12 @@ last-count [] r = omega arith
 last-count (s ∷ front) r = omega (arith, last-count front r)
 
 -- no run counts more bytes than wait
-count-low : (c : Core) (a : Arrays) → Ok c a → 0 < c .runs .count → getD (a .runCounts) (lastOf 64 (c .runs)) 0 ≤ 1024
+count-low : (c : Core) (a : Arrays) → Ok c a → 0 < c .runs .count → getD (a .runLen) (lastOf 64 (c .runs)) 0 ≤ 1024
 count-low c a ok pos =
-    let rs : List Run = runsOf (a .runDates) (a .runCounts) (c .runs) in
-    let last : Run = runAt (a .runDates) (a .runCounts) (lastOf 64 (c .runs)) in
+    let rs : List Run = runsOf (a .runAt) (a .runLen) (c .runs) in
+    let last : Run = runIn (a .runAt) (a .runLen) (lastOf 64 (c .runs)) in
     let low : last .count ≤ sum (runCounts rs) =
-    subst (λ (l : List Run). last .count ≤ sum (runCounts l)) (sym (elems-last (runAt (a .runDates) (a .runCounts)) 64 (c .runs) pos))
+    subst (λ (l : List Run). last .count ≤ sum (runCounts l)) (sym (elems-last (runIn (a .runAt) (a .runLen)) 64 (c .runs) pos))
     (last-count (take (c .runs .count - 1) rs) last)
     in
     omega (arith, low, ok .within .runSum, ok .within .host)
@@ -67,21 +67,21 @@ module _ (cycle date k : ℕ) (c : Core) (a : Arrays) {c₁ : Core} {a₁ : Arra
   host-room =
       omega (arith, fewer-waiting keeps, ltb-false 1024 (length (abs c a .host) + k) (room .host), elems-length (slotOf (a₁ .host) 0) 1024 (c₁ .host))
 
-  slot-left : (0 < c₁ .runs .count → getD (a₁ .runDates) (lastOf 64 (c₁ .runs)) 0 < date) → c₁ .runs .count < 64
+  slot-left : (0 < c₁ .runs .count → getD (a₁ .runAt) (lastOf 64 (c₁ .runs)) 0 < date) → c₁ .runs .count < 64
   unfolding dated
   slot-left late =
       ⊎-elim
       (λ (pos : 0 < c₁ .runs .count).
-      let count : length (abs c₁ a₁ .hostRuns) ≡ c₁ .runs .count = elems-length (runAt (a₁ .runDates) (a₁ .runCounts)) 64 (c₁ .runs) in
+      let count : length (abs c₁ a₁ .hostRuns) ≡ c₁ .runs .count = elems-length (runIn (a₁ .runAt) (a₁ .runLen)) 64 (c₁ .runs) in
       let same : lastDate (abs c₁ a₁ .hostRuns) ≡ lastDate (abs c a .hostRuns) = last-run keeps (omega (arith, count)) in
       let before : lastDate (abs c a .hostRuns) < date =
-      subst (λ (d : ℕ). d < date) (last-some (a₁ .runDates) (a₁ .runCounts) (c₁ .runs) pos ∙ same) (late pos)
+      subst (λ (d : ℕ). d < date) (last-some (a₁ .runAt) (a₁ .runLen) (c₁ .runs) pos ∙ same) (late pos)
       in
       omega (arith, room-before k _ _ date (room .runs) some-byte before, fewer-runs keeps, count))
       (λ (z : c₁ .runs .count ≤ 0). omega arith)
       (side 0 (c₁ .runs .count))
 
-  pub runs-room : RoomFor (c₁ .runs) (a₁ .runDates) (a₁ .runCounts) date k
+  pub runs-room : RoomFor (c₁ .runs) (a₁ .runAt) (a₁ .runLen) date k
   runs-room = record {
     slot = slot-left;
     fits = λ pos. omega (arith, count-low c₁ a₁ (s .ok) pos, host-room);
@@ -90,10 +90,10 @@ module _ (cycle date k : ℕ) (c : Core) (a : Arrays) {c₁ : Core} {a₁ : Arra
 -- ---- what a hand-over asks, after the settling
 
 pub takes : (cycle date : ℕ) (bs : List ℕ) {c : Core} {a : Arrays} {d : ℕ} → Room c a date (length bs) → {c₁ : Core} {a₁ : Arrays} {n o : ℕ}
-    → Settles (settleAt cycle (abs c a)) c₁ a₁ n o → d ≡ date → Takes c₁ (a₁ .goneAt) (a₁ .host) (a₁ .runDates) (a₁ .runCounts) d (length bs)
+    → Settles (settleAt cycle (abs c a)) c₁ a₁ n o → d ≡ date → Takes c₁ (a₁ .goneAt) (a₁ .host) (a₁ .runAt) (a₁ .runLen) d (length bs)
 takes cycle date bs {c} {a} room {c₁} {a₁} s e =
     let k = s .ok .shape in
-    subst (λ (x : ℕ). Takes c₁ (a₁ .goneAt) (a₁ .host) (a₁ .runDates) (a₁ .runCounts) x (length bs)) (sym e)
+    subst (λ (x : ℕ). Takes c₁ (a₁ .goneAt) (a₁ .host) (a₁ .runAt) (a₁ .runLen) x (length bs)) (sym e)
     (record {
       ready = record { flight = k .flight; slots = k .goneAtSlots; period = s .ok .within .periodHigh };
       host = k .host;
@@ -108,7 +108,7 @@ takes cycle date bs {c} {a} room {c₁} {a₁} s e =
 -- settled, and handed over
 pub received : (cycle at : ℕ) (bs : List ℕ) {c : Core} {a : Arrays} → Ok c a → {c₁ : Core} {a₁ : Arrays} {n o d : ℕ} {c₂ : Core} {hosts′ dates′ counts′ : List ℕ} {r : DoneCore}
     → Settles (settleAt cycle (abs c a)) c₁ a₁ n o → d ≡ hostDate cycle at
-    → HandsAny d bs c₁ (a₁ .goneAt) (a₁ .host) (a₁ .runDates) (a₁ .runCounts) c₂ hosts′ dates′ counts′ → r ≡ doneCore c₂ n o
+    → HandsAny d bs c₁ (a₁ .goneAt) (a₁ .host) (a₁ .runAt) (a₁ .runLen) c₂ hosts′ dates′ counts′ → r ≡ doneCore c₂ n o
     → Works (λ x. x) (receiveWork cycle at bs (abs c a)) (r .core) (waitingArrays a₁ hosts′ dates′ counts′) (r .reply) (r .report)
 unfolding receiveWork quiet
 received cycle at bs {c} {a} _ {c₁} {a₁} {c₂ = c₂} {hosts′} {dates′} {counts′} s e hands same =
@@ -123,7 +123,7 @@ tested : (cycle at : ℕ) (bs : List ℕ) (c : Core) (a : Arrays) {last date : �
     → receiving cycle (c .control .last) (record { bytes = c .host .count; runs = c .runs .count; «last_date» = last }) (length bs) date
     ≡ receiving cycle (c .control .last)
     (record { bytes = length (abs c a .host); runs = length (abs c a .hostRuns); «last_date» = lastDate (abs c a .hostRuns) }) (length bs) (hostDate cycle at)
-tested cycle at bs c a el ed = rw (el, ed, elems-length (slotOf (a .host) 0) 1024 (c .host), elems-length (runAt (a .runDates) (a .runCounts)) 64 (c .runs))
+tested cycle at bs c a el ed = rw (el, ed, elems-length (slotOf (a .host) 0) 1024 (c .host), elems-length (runIn (a .runAt) (a .runLen)) 64 (c .runs))
 
 module _ (cycle at : ℕ) (bs : List ℕ) {c : Core} {a : Arrays} (ok : Ok c a) {last date : ℕ} (el : last ≡ lastDate (abs c a .hostRuns)) (ed : date ≡ hostDate cycle at) where
   abbrev pub checked : Option Refusal

@@ -11,7 +11,7 @@ ghost use lib.ListN.{length};
 ghost use Rattle.model.specs.Tests.{dateEnd};
 ghost use Rattle.model.specs.Calls.{receive as Calls·receive, receiveWork, hostDate};
 ghost use Rattle.device.specs.Holds.{abs, Ok};
-ghost use Rattle.device.specs.Wholes.{arrays};
+ghost use Rattle.device.specs.Wholes.{lent};
 ghost use Rattle.calls.specs.Answers.{Works, DoneWith};
 ghost use Rattle.host.specs.Hands.{Takes, HandsAny};
 ghost use Rattle.host.specs.Receives.{Room};
@@ -30,24 +30,24 @@ fn hand_over<'a, 'b>(
     mut core: Core,
     gone_at: &'a [u64; 129],
     host: &'a mut [u8; 1024],
-    run_dates: &'a mut [u64; 64],
-    run_counts: &'a mut [u64; 64],
+    run_at: &'a mut [u64; 64],
+    run_len: &'a mut [u64; 64],
     date: u64,
     bytes: &'b [u8],
 ) -> Core
-    requires { ⌜ Takes core (now «gone_at») (now host) (now «run_dates») (now «run_counts») date (length (now bytes)) ⌝ }
-    ensures { λ r. ⌜ HandsAny date (now (bytes .entry)) core (now («gone_at» .entry)) (now (host .entry)) (now («run_dates» .entry))
-        (now («run_counts» .entry)) r (now (host .exit)) (now («run_dates» .exit)) (now («run_counts» .exit)) ⌝ }
+    requires { ⌜ Takes core (now «gone_at») (now host) (now «run_at») (now «run_len») date (length (now bytes)) ⌝ }
+    ensures { λ r. ⌜ HandsAny date (now (bytes .entry)) core (now («gone_at» .entry)) (now (host .entry)) (now («run_at» .entry))
+        (now («run_len» .entry)) r (now (host .exit)) (now («run_at» .exit)) (now («run_len» .exit)) ⌝ }
 {
     let n = bytes.len();
     if n == 0 {
         return core;
     }
     let waiting = queue::copy::append(core.host, 1024, host, bytes);
-    let runs = device::runs::join(core.runs, run_dates, run_counts, date, n as u64);
+    let runs = device::runs::join(core.runs, run_at, run_len, date, n as u64);
     core.host = waiting;
     core.runs = runs;
-    device::arm::arm(core, gone_at, run_dates)
+    device::arm::arm(core, gone_at, run_at)
 }
 
 fn carry_out<'a, 'b>(
@@ -56,41 +56,30 @@ fn carry_out<'a, 'b>(
     flight: &'a [u8; 129],
     tx: &'a mut [u8; 1152],
     host: &'a mut [u8; 1024],
-    run_dates: &'a mut [u64; 64],
-    run_counts: &'a mut [u64; 64],
+    run_at: &'a mut [u64; 64],
+    run_len: &'a mut [u64; 64],
     rx: &'a mut [u8; 128],
     cycle: u64,
     at: u64,
     bytes: &'b [u8],
 ) -> DoneCore
-    requires { ⌜ Ok core (arrays (now «gone_at») (now flight) (now tx) (now host) (now «run_dates») (now «run_counts») (now rx))
-        × (cycle < dateEnd) × Room core (arrays (now «gone_at») (now flight) (now tx) (now host) (now «run_dates») (now «run_counts»)
-        (now rx)) (hostDate cycle at) (length (now bytes)) ⌝ }
+    requires { ⌜ Ok core (lent «gone_at» flight tx host «run_at» «run_len» rx)
+        × (cycle < dateEnd) × Room core (lent «gone_at» flight tx host «run_at» «run_len» rx) (hostDate cycle at)
+        (length (now bytes)) ⌝ }
     ensures { λ r. ⌜ Works (λ x. x)
-        (receiveWork cycle at (now (bytes .entry)) (abs core (arrays (now («gone_at» .entry)) (now (flight .entry)) (now (tx .entry))
-        (now (host .entry)) (now («run_dates» .entry)) (now («run_counts» .entry)) (now (rx .entry)))))
+        (receiveWork cycle at (now (bytes .entry)) (abs core (lent («gone_at» .entry) (flight .entry) (tx .entry) (host .entry)
+        («run_at» .entry) («run_len» .entry) (rx .entry))))
         (r .core)
-        (arrays (now («gone_at» .entry)) (now (flight .entry)) (now (tx .exit)) (now (host .exit)) (now («run_dates» .exit))
-        (now («run_counts» .exit)) (now (rx .exit)))
+        (lent («gone_at» .entry) (flight .entry) (tx .exit) (host .exit) («run_at» .exit) («run_len» .exit) (rx .exit))
         (r .reply) (r .report) ⌝ }
 {
-    let t = settle_at::settle_at(
-        core,
-        gone_at,
-        flight,
-        tx,
-        host,
-        run_dates,
-        run_counts,
-        rx,
-        cycle,
-    );
+    let t = settle_at::settle_at(core, gone_at, flight, tx, host, run_at, run_len, rx, cycle);
     let next = hand_over(
         t.core,
         gone_at,
         host,
-        run_dates,
-        run_counts,
+        run_at,
+        run_len,
         host_date(cycle, at),
         bytes,
     );
@@ -103,27 +92,24 @@ pub fn receive<'a, 'b>(
     flight: &'a [u8; 129],
     tx: &'a mut [u8; 1152],
     host: &'a mut [u8; 1024],
-    run_dates: &'a mut [u64; 64],
-    run_counts: &'a mut [u64; 64],
+    run_at: &'a mut [u64; 64],
+    run_len: &'a mut [u64; 64],
     rx: &'a mut [u8; 128],
     cycle: u64,
     at: u64,
     bytes: &'b [u8],
 ) -> DoneCore
-    requires { ⌜ Ok core (arrays (now «gone_at») (now flight) (now tx) (now host) (now «run_dates») (now «run_counts») (now rx)) ⌝ }
+    requires { ⌜ Ok core (lent «gone_at» flight tx host «run_at» «run_len» rx) ⌝ }
     ensures { λ r. ⌜ DoneWith (Calls·receive cycle at (now (bytes .entry))) core
-        (arrays (now («gone_at» .entry)) (now (flight .entry)) (now (tx .entry)) (now (host .entry)) (now («run_dates» .entry))
-        (now («run_counts» .entry)) (now (rx .entry)))
-        (r .core)
-        (arrays (now («gone_at» .entry)) (now (flight .entry)) (now (tx .exit)) (now (host .exit)) (now («run_dates» .exit))
-        (now («run_counts» .exit)) (now (rx .exit)))
+        (lent («gone_at» .entry) (flight .entry) (tx .entry) (host .entry) («run_at» .entry) («run_len» .entry) (rx .entry)) (r .core)
+        (lent («gone_at» .entry) (flight .entry) (tx .exit) (host .exit) («run_at» .exit) («run_len» .exit) (rx .exit))
         (r .reply) (r .report) ⌝ }
 {
     let control = core.control;
     let waiting = Waiting {
         bytes: core.host.count,
         runs: core.runs.count,
-        last_date: device::runs::last_date(core.runs, run_dates),
+        last_date: device::runs::last_date(core.runs, run_at),
     };
     let date = host_date(cycle, at);
     let tests = replies::refusals::receive_refusal(cycle, control.last, waiting, bytes.len(), date);
@@ -135,8 +121,8 @@ pub fn receive<'a, 'b>(
             flight,
             tx,
             host,
-            run_dates,
-            run_counts,
+            run_at,
+            run_len,
             rx,
             cycle,
             at,

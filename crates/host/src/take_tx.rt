@@ -11,7 +11,7 @@ ghost use lib.ListN.{length};
 ghost use Rattle.model.specs.Tests.{dateEnd, sentLimit};
 ghost use Rattle.model.specs.Calls.{takeTx, takeTxWork};
 ghost use Rattle.device.specs.Holds.{abs, Ok};
-ghost use Rattle.device.specs.Wholes.{arrays};
+ghost use Rattle.device.specs.Wholes.{lent};
 ghost use Rattle.host.specs.Takes.{TakeWorks, TakesWith};
 
 fn carry_out<'a, 'b>(
@@ -20,33 +20,22 @@ fn carry_out<'a, 'b>(
     flight: &'a [u8; 129],
     tx: &'a mut [u8; 1152],
     host: &'a [u8; 1024],
-    run_dates: &'a [u64; 64],
-    run_counts: &'a mut [u64; 64],
+    run_at: &'a [u64; 64],
+    run_len: &'a mut [u64; 64],
     rx: &'a mut [u8; 128],
     cycle: u64,
     out: &'b mut [u8],
 ) -> TakeCore
-    requires { ⌜ Ok core (arrays (now «gone_at») (now flight) (now tx) (now host) (now «run_dates») (now «run_counts») (now rx))
+    requires { ⌜ Ok core (lent «gone_at» flight tx host «run_at» «run_len» rx)
         × (cycle < dateEnd) × (sentLimit ≤ length (now out)) ⌝ }
     ensures { λ r. ⌜ TakeWorks
-        (takeTxWork cycle (now (out .entry)) (abs core (arrays (now («gone_at» .entry)) (now (flight .entry)) (now (tx .entry))
-        (now (host .entry)) (now («run_dates» .entry)) (now («run_counts» .entry)) (now (rx .entry)))))
+        (takeTxWork cycle (now (out .entry)) (abs core (lent («gone_at» .entry) (flight .entry) (tx .entry) (host .entry)
+        («run_at» .entry) («run_len» .entry) (rx .entry))))
         (r .core)
-        (arrays (now («gone_at» .entry)) (now (flight .entry)) (now (tx .exit)) (now (host .entry)) (now («run_dates» .entry))
-        (now («run_counts» .exit)) (now (rx .exit)))
+        (lent («gone_at» .entry) (flight .entry) (tx .exit) (host .entry) («run_at» .entry) («run_len» .exit) (rx .exit))
         (r .reply) (r .report) (now (out .exit)) ⌝ }
 {
-    let t = settle_at::settle_at(
-        core,
-        gone_at,
-        flight,
-        tx,
-        host,
-        run_dates,
-        run_counts,
-        rx,
-        cycle,
-    );
+    let t = settle_at::settle_at(core, gone_at, flight, tx, host, run_at, run_len, rx, cycle);
     let mut settled = t.core;
     let count = queue::copy::copy_out(settled.tx, 1152, tx, out);
     settled.tx = Cursor::new();
@@ -59,19 +48,16 @@ pub fn take_tx<'a, 'b>(
     flight: &'a [u8; 129],
     tx: &'a mut [u8; 1152],
     host: &'a [u8; 1024],
-    run_dates: &'a [u64; 64],
-    run_counts: &'a mut [u64; 64],
+    run_at: &'a [u64; 64],
+    run_len: &'a mut [u64; 64],
     rx: &'a mut [u8; 128],
     cycle: u64,
     out: &'b mut [u8],
 ) -> TakeCore
-    requires { ⌜ Ok core (arrays (now «gone_at») (now flight) (now tx) (now host) (now «run_dates») (now «run_counts») (now rx)) ⌝ }
+    requires { ⌜ Ok core (lent «gone_at» flight tx host «run_at» «run_len» rx) ⌝ }
     ensures { λ r. ⌜ TakesWith (takeTx cycle (now (out .entry))) core
-        (arrays (now («gone_at» .entry)) (now (flight .entry)) (now (tx .entry)) (now (host .entry)) (now («run_dates» .entry))
-        (now («run_counts» .entry)) (now (rx .entry)))
-        (r .core)
-        (arrays (now («gone_at» .entry)) (now (flight .entry)) (now (tx .exit)) (now (host .entry)) (now («run_dates» .entry))
-        (now («run_counts» .exit)) (now (rx .exit)))
+        (lent («gone_at» .entry) (flight .entry) (tx .entry) (host .entry) («run_at» .entry) («run_len» .entry) (rx .entry)) (r .core)
+        (lent («gone_at» .entry) (flight .entry) (tx .exit) (host .entry) («run_at» .entry) («run_len» .exit) (rx .exit))
         (r .reply) (r .report) (now (out .exit)) ⌝ }
 {
     let control = core.control;
@@ -84,8 +70,8 @@ pub fn take_tx<'a, 'b>(
             flight,
             tx,
             host,
-            run_dates,
-            run_counts,
+            run_at,
+            run_len,
             rx,
             cycle,
             out,

@@ -17,7 +17,7 @@ pub fn goes_on(found: Found) -> bool
 }
 
 // How many bytes overflowed.
-pub fn overflows(found: Found) -> u64
+pub fn overflow_of(found: Found) -> u64
     ensures { λ r. ⌜ r ≡ Settle·lost found ⌝ }
 {
     match found {

@@ -10,7 +10,7 @@ use model::Taken;
 use uart::Uart;
 ghost use Prim.Native.Nat.{_≤_};
 ghost use Rattle.device.specs.Holds.{Ok};
-ghost use Rattle.device.specs.Wholes.{arrays};
+ghost use Rattle.device.specs.Wholes.{lent};
 ghost use Rattle.uart.specs.Whole.{Good};
 
 // A core, and a sum over what the calls answered.
@@ -38,15 +38,14 @@ fn row_sent<'a>(
     flight: &'a mut [u8; 129],
     tx: &'a mut [u8; 1152],
     host: &'a [u8; 1024],
-    run_dates: &'a [u64; 64],
-    run_counts: &'a mut [u64; 64],
+    run_at: &'a [u64; 64],
+    run_len: &'a mut [u64; 64],
     rx: &'a mut [u8; 128],
     base: u64,
 ) -> Tally
-    requires { ⌜ Ok (from .core) (arrays (now «gone_at») (now flight) (now tx) (now host) (now «run_dates») (now «run_counts») (now rx))
-        × (base ≤ 100000000) ⌝ }
-    ensures { λ r. ⌜ Ok (r .core) (arrays (now («gone_at» .exit)) (now (flight .exit)) (now (tx .exit)) (now (host .exit))
-        (now («run_dates» .exit)) (now («run_counts» .exit)) (now (rx .exit))) ⌝ }
+    requires { ⌜ Ok (from .core) (lent «gone_at» flight tx host «run_at» «run_len» rx) × (base ≤ 100000000) ⌝ }
+    ensures { λ r. ⌜ Ok (r .core) (lent («gone_at» .exit) (flight .exit) (tx .exit) (host .exit) («run_at» .exit) («run_len» .exit)
+        (rx .exit)) ⌝ }
 {
     let mut core = from.core;
     let mut sum = from.sum;
@@ -59,8 +58,8 @@ fn row_sent<'a>(
             flight,
             tx,
             host,
-            run_dates,
-            run_counts,
+            run_at,
+            run_len,
             rx,
             cycle,
             bench::STATUS,
@@ -74,8 +73,8 @@ fn row_sent<'a>(
             flight,
             tx,
             host,
-            run_dates,
-            run_counts,
+            run_at,
+            run_len,
             rx,
             cycle,
             bench::FIFO,
@@ -101,15 +100,15 @@ fn looked<'a>(
     flight: &'a [u8; 129],
     tx: &'a mut [u8; 1152],
     host: &'a [u8; 1024],
-    run_dates: &'a [u64; 64],
-    run_counts: &'a mut [u64; 64],
+    run_at: &'a [u64; 64],
+    run_len: &'a mut [u64; 64],
     rx: &'a mut [u8; 128],
     cycle: u64,
     offset: u32,
 ) -> Look
-    requires { ⌜ Ok (from .core) (arrays (now «gone_at») (now flight) (now tx) (now host) (now «run_dates») (now «run_counts») (now rx)) ⌝ }
-    ensures { λ r. ⌜ Ok (r .core) (arrays (now («gone_at» .exit)) (now (flight .exit)) (now (tx .exit)) (now (host .exit))
-        (now («run_dates» .exit)) (now («run_counts» .exit)) (now (rx .exit))) ⌝ }
+    requires { ⌜ Ok (from .core) (lent «gone_at» flight tx host «run_at» «run_len» rx) ⌝ }
+    ensures { λ r. ⌜ Ok (r .core) (lent («gone_at» .exit) (flight .exit) (tx .exit) (host .exit) («run_at» .exit) («run_len» .exit)
+        (rx .exit)) ⌝ }
 {
     let before = from.core;
     let seen = access::read::read(
@@ -118,8 +117,8 @@ fn looked<'a>(
         flight,
         tx,
         host,
-        run_dates,
-        run_counts,
+        run_at,
+        run_len,
         rx,
         cycle,
         offset,
@@ -141,15 +140,14 @@ fn byte_read<'a>(
     flight: &'a [u8; 129],
     tx: &'a mut [u8; 1152],
     host: &'a [u8; 1024],
-    run_dates: &'a [u64; 64],
-    run_counts: &'a mut [u64; 64],
+    run_at: &'a [u64; 64],
+    run_len: &'a mut [u64; 64],
     rx: &'a mut [u8; 128],
     cycle: u64,
 ) -> Tally
-    requires { ⌜ Ok (status .core) (arrays (now «gone_at») (now flight) (now tx) (now host) (now «run_dates») (now «run_counts»)
-        (now rx)) ⌝ }
-    ensures { λ r. ⌜ Ok (r .core) (arrays (now («gone_at» .exit)) (now (flight .exit)) (now (tx .exit)) (now (host .exit))
-        (now («run_dates» .exit)) (now («run_counts» .exit)) (now (rx .exit))) ⌝ }
+    requires { ⌜ Ok (status .core) (lent «gone_at» flight tx host «run_at» «run_len» rx) ⌝ }
+    ensures { λ r. ⌜ Ok (r .core) (lent («gone_at» .exit) (flight .exit) (tx .exit) (host .exit) («run_at» .exit) («run_len» .exit)
+        (rx .exit)) ⌝ }
 {
     let core = status.core;
     if status.value & 0x3FF == 0 {
@@ -167,8 +165,8 @@ fn byte_read<'a>(
         flight,
         tx,
         host,
-        run_dates,
-        run_counts,
+        run_at,
+        run_len,
         rx,
         cycle,
         bench::FIFO,
@@ -187,14 +185,14 @@ fn raised<'a>(
     flight: &'a [u8; 129],
     tx: &'a mut [u8; 1152],
     host: &'a [u8; 1024],
-    run_dates: &'a [u64; 64],
-    run_counts: &'a mut [u64; 64],
+    run_at: &'a [u64; 64],
+    run_len: &'a mut [u64; 64],
     rx: &'a mut [u8; 128],
     cycle: u64,
 ) -> Look
-    requires { ⌜ Ok (from .core) (arrays (now «gone_at») (now flight) (now tx) (now host) (now «run_dates») (now «run_counts») (now rx)) ⌝ }
-    ensures { λ r. ⌜ Ok (r .core) (arrays (now («gone_at» .exit)) (now (flight .exit)) (now (tx .exit)) (now (host .exit))
-        (now («run_dates» .exit)) (now («run_counts» .exit)) (now (rx .exit))) ⌝ }
+    requires { ⌜ Ok (from .core) (lent «gone_at» flight tx host «run_at» «run_len» rx) ⌝ }
+    ensures { λ r. ⌜ Ok (r .core) (lent («gone_at» .exit) (flight .exit) (tx .exit) (host .exit) («run_at» .exit) («run_len» .exit)
+        (rx .exit)) ⌝ }
 {
     let woken = calls::wake::wake(
         from.core,
@@ -202,8 +200,8 @@ fn raised<'a>(
         flight,
         tx,
         host,
-        run_dates,
-        run_counts,
+        run_at,
+        run_len,
         rx,
         cycle,
     );
@@ -217,8 +215,8 @@ fn raised<'a>(
         flight,
         tx,
         host,
-        run_dates,
-        run_counts,
+        run_at,
+        run_len,
         rx,
         cycle,
         bench::INT_ST,
@@ -232,14 +230,14 @@ fn emptied<'a>(
     flight: &'a [u8; 129],
     tx: &'a mut [u8; 1152],
     host: &'a [u8; 1024],
-    run_dates: &'a [u64; 64],
-    run_counts: &'a mut [u64; 64],
+    run_at: &'a [u64; 64],
+    run_len: &'a mut [u64; 64],
     rx: &'a mut [u8; 128],
     cycle: u64,
 ) -> Tally
-    requires { ⌜ Ok (from .core) (arrays (now «gone_at») (now flight) (now tx) (now host) (now «run_dates») (now «run_counts») (now rx)) ⌝ }
-    ensures { λ r. ⌜ Ok (r .core) (arrays (now («gone_at» .exit)) (now (flight .exit)) (now (tx .exit)) (now (host .exit))
-        (now («run_dates» .exit)) (now («run_counts» .exit)) (now (rx .exit))) ⌝ }
+    requires { ⌜ Ok (from .core) (lent «gone_at» flight tx host «run_at» «run_len» rx) ⌝ }
+    ensures { λ r. ⌜ Ok (r .core) (lent («gone_at» .exit) (flight .exit) (tx .exit) (host .exit) («run_at» .exit) («run_len» .exit)
+        (rx .exit)) ⌝ }
 {
     let status = looked(
         from,
@@ -247,8 +245,8 @@ fn emptied<'a>(
         flight,
         tx,
         host,
-        run_dates,
-        run_counts,
+        run_at,
+        run_len,
         rx,
         cycle,
         bench::STATUS,
@@ -259,8 +257,8 @@ fn emptied<'a>(
         flight,
         tx,
         host,
-        run_dates,
-        run_counts,
+        run_at,
+        run_len,
         rx,
         cycle,
     )
@@ -273,26 +271,16 @@ fn interrupt<'a>(
     flight: &'a mut [u8; 129],
     tx: &'a mut [u8; 1152],
     host: &'a [u8; 1024],
-    run_dates: &'a [u64; 64],
-    run_counts: &'a mut [u64; 64],
+    run_at: &'a [u64; 64],
+    run_len: &'a mut [u64; 64],
     rx: &'a mut [u8; 128],
     cycle: u64,
 ) -> Tally
-    requires { ⌜ Ok (from .core) (arrays (now «gone_at») (now flight) (now tx) (now host) (now «run_dates») (now «run_counts») (now rx)) ⌝ }
-    ensures { λ r. ⌜ Ok (r .core) (arrays (now («gone_at» .exit)) (now (flight .exit)) (now (tx .exit)) (now (host .exit))
-        (now («run_dates» .exit)) (now («run_counts» .exit)) (now (rx .exit))) ⌝ }
+    requires { ⌜ Ok (from .core) (lent «gone_at» flight tx host «run_at» «run_len» rx) ⌝ }
+    ensures { λ r. ⌜ Ok (r .core) (lent («gone_at» .exit) (flight .exit) (tx .exit) (host .exit) («run_at» .exit) («run_len» .exit)
+        (rx .exit)) ⌝ }
 {
-    let told = raised(
-        from,
-        gone_at,
-        flight,
-        tx,
-        host,
-        run_dates,
-        run_counts,
-        rx,
-        cycle,
-    );
+    let told = raised(from, gone_at, flight, tx, host, run_at, run_len, rx, cycle);
     let core = told.core;
     let read = emptied(
         Tally {
@@ -303,8 +291,8 @@ fn interrupt<'a>(
         flight,
         tx,
         host,
-        run_dates,
-        run_counts,
+        run_at,
+        run_len,
         rx,
         cycle,
     );
@@ -314,8 +302,8 @@ fn interrupt<'a>(
         flight,
         tx,
         host,
-        run_dates,
-        run_counts,
+        run_at,
+        run_len,
         rx,
         cycle,
         bench::INT_CLR,
@@ -335,15 +323,14 @@ fn handled<'a>(
     flight: &'a mut [u8; 129],
     tx: &'a mut [u8; 1152],
     host: &'a [u8; 1024],
-    run_dates: &'a [u64; 64],
-    run_counts: &'a mut [u64; 64],
+    run_at: &'a [u64; 64],
+    run_len: &'a mut [u64; 64],
     rx: &'a mut [u8; 128],
     base: u64,
 ) -> Tally
-    requires { ⌜ Ok (from .core) (arrays (now «gone_at») (now flight) (now tx) (now host) (now «run_dates») (now «run_counts») (now rx))
-        × (base ≤ 100000000) ⌝ }
-    ensures { λ r. ⌜ Ok (r .core) (arrays (now («gone_at» .exit)) (now (flight .exit)) (now (tx .exit)) (now (host .exit))
-        (now («run_dates» .exit)) (now («run_counts» .exit)) (now (rx .exit))) ⌝ }
+    requires { ⌜ Ok (from .core) (lent «gone_at» flight tx host «run_at» «run_len» rx) × (base ≤ 100000000) ⌝ }
+    ensures { λ r. ⌜ Ok (r .core) (lent («gone_at» .exit) (flight .exit) (tx .exit) (host .exit) («run_at» .exit) («run_len» .exit)
+        (rx .exit)) ⌝ }
 {
     let mut tally = from;
     let mut i: u64 = 0;
@@ -354,8 +341,8 @@ fn handled<'a>(
             flight,
             tx,
             host,
-            run_dates,
-            run_counts,
+            run_at,
+            run_len,
             rx,
             base + i * 420,
         );
@@ -378,14 +365,14 @@ fn shown<'a>(
     flight: &'a [u8; 129],
     tx: &'a mut [u8; 1152],
     host: &'a [u8; 1024],
-    run_dates: &'a [u64; 64],
-    run_counts: &'a mut [u64; 64],
+    run_at: &'a [u64; 64],
+    run_len: &'a mut [u64; 64],
     rx: &'a mut [u8; 128],
     cycle: u64,
 ) -> Tally
-    requires { ⌜ Ok (from .core) (arrays (now «gone_at») (now flight) (now tx) (now host) (now «run_dates») (now «run_counts») (now rx)) ⌝ }
-    ensures { λ r. ⌜ Ok (r .core) (arrays (now («gone_at» .exit)) (now (flight .exit)) (now (tx .exit)) (now (host .exit))
-        (now («run_dates» .exit)) (now («run_counts» .exit)) (now (rx .exit))) ⌝ }
+    requires { ⌜ Ok (from .core) (lent «gone_at» flight tx host «run_at» «run_len» rx) ⌝ }
+    ensures { λ r. ⌜ Ok (r .core) (lent («gone_at» .exit) (flight .exit) (tx .exit) (host .exit) («run_at» .exit) («run_len» .exit)
+        (rx .exit)) ⌝ }
 {
     let mut buffer = [0u8; 1152];
     let done = host::take_tx::take_tx(
@@ -394,8 +381,8 @@ fn shown<'a>(
         flight,
         tx,
         host,
-        run_dates,
-        run_counts,
+        run_at,
+        run_len,
         rx,
         cycle,
         &mut buffer,
@@ -415,15 +402,14 @@ fn answered<'a>(
     flight: &'a mut [u8; 129],
     tx: &'a mut [u8; 1152],
     host: &'a mut [u8; 1024],
-    run_dates: &'a mut [u64; 64],
-    run_counts: &'a mut [u64; 64],
+    run_at: &'a mut [u64; 64],
+    run_len: &'a mut [u64; 64],
     rx: &'a mut [u8; 128],
     base: u64,
 ) -> Tally
-    requires { ⌜ Ok (from .core) (arrays (now «gone_at») (now flight) (now tx) (now host) (now «run_dates») (now «run_counts») (now rx))
-        × (base ≤ 90000000) ⌝ }
-    ensures { λ r. ⌜ Ok (r .core) (arrays (now («gone_at» .exit)) (now (flight .exit)) (now (tx .exit)) (now (host .exit))
-        (now («run_dates» .exit)) (now («run_counts» .exit)) (now (rx .exit))) ⌝ }
+    requires { ⌜ Ok (from .core) (lent «gone_at» flight tx host «run_at» «run_len» rx) × (base ≤ 90000000) ⌝ }
+    ensures { λ r. ⌜ Ok (r .core) (lent («gone_at» .exit) (flight .exit) (tx .exit) (host .exit) («run_at» .exit) («run_len» .exit)
+        (rx .exit)) ⌝ }
 {
     let row = *b"basket 7, row 12";
     let given = host::receive::receive(
@@ -432,8 +418,8 @@ fn answered<'a>(
         flight,
         tx,
         host,
-        run_dates,
-        run_counts,
+        run_at,
+        run_len,
         rx,
         base + 200,
         base + 300,
@@ -449,8 +435,8 @@ fn answered<'a>(
         flight,
         tx,
         host,
-        run_dates,
-        run_counts,
+        run_at,
+        run_len,
         rx,
         base + 300,
     )
@@ -463,46 +449,25 @@ fn round<'a>(
     flight: &'a mut [u8; 129],
     tx: &'a mut [u8; 1152],
     host: &'a mut [u8; 1024],
-    run_dates: &'a mut [u64; 64],
-    run_counts: &'a mut [u64; 64],
+    run_at: &'a mut [u64; 64],
+    run_len: &'a mut [u64; 64],
     rx: &'a mut [u8; 128],
     base: u64,
 ) -> Tally
-    requires { ⌜ Ok (from .core) (arrays (now «gone_at») (now flight) (now tx) (now host) (now «run_dates») (now «run_counts») (now rx))
-        × (base ≤ 90000000) ⌝ }
-    ensures { λ r. ⌜ Ok (r .core) (arrays (now («gone_at» .exit)) (now (flight .exit)) (now (tx .exit)) (now (host .exit))
-        (now («run_dates» .exit)) (now («run_counts» .exit)) (now (rx .exit))) ⌝ }
+    requires { ⌜ Ok (from .core) (lent «gone_at» flight tx host «run_at» «run_len» rx) × (base ≤ 90000000) ⌝ }
+    ensures { λ r. ⌜ Ok (r .core) (lent («gone_at» .exit) (flight .exit) (tx .exit) (host .exit) («run_at» .exit) («run_len» .exit)
+        (rx .exit)) ⌝ }
 {
-    let sent = row_sent(
-        from,
-        gone_at,
-        flight,
-        tx,
-        host,
-        run_dates,
-        run_counts,
-        rx,
-        base,
-    );
-    let read = answered(
-        sent,
-        gone_at,
-        flight,
-        tx,
-        host,
-        run_dates,
-        run_counts,
-        rx,
-        base,
-    );
+    let sent = row_sent(from, gone_at, flight, tx, host, run_at, run_len, rx, base);
+    let read = answered(sent, gone_at, flight, tx, host, run_at, run_len, rx, base);
     shown(
         read,
         gone_at,
         flight,
         tx,
         host,
-        run_dates,
-        run_counts,
+        run_at,
+        run_len,
         rx,
         base + 9000,
     )
@@ -515,13 +480,13 @@ fn enabled<'a>(
     flight: &'a mut [u8; 129],
     tx: &'a mut [u8; 1152],
     host: &'a [u8; 1024],
-    run_dates: &'a [u64; 64],
-    run_counts: &'a mut [u64; 64],
+    run_at: &'a [u64; 64],
+    run_len: &'a mut [u64; 64],
     rx: &'a mut [u8; 128],
 ) -> Tally
-    requires { ⌜ Ok new (arrays (now «gone_at») (now flight) (now tx) (now host) (now «run_dates») (now «run_counts») (now rx)) ⌝ }
-    ensures { λ r. ⌜ Ok (r .core) (arrays (now («gone_at» .exit)) (now (flight .exit)) (now (tx .exit)) (now (host .exit))
-        (now («run_dates» .exit)) (now («run_counts» .exit)) (now (rx .exit))) ⌝ }
+    requires { ⌜ Ok new (lent «gone_at» flight tx host «run_at» «run_len» rx) ⌝ }
+    ensures { λ r. ⌜ Ok (r .core) (lent («gone_at» .exit) (flight .exit) (tx .exit) (host .exit) («run_at» .exit) («run_len» .exit)
+        (rx .exit)) ⌝ }
 {
     let raised = access::write::write(
         new,
@@ -529,8 +494,8 @@ fn enabled<'a>(
         flight,
         tx,
         host,
-        run_dates,
-        run_counts,
+        run_at,
+        run_len,
         rx,
         0,
         bench::INT_ENA,
@@ -542,8 +507,8 @@ fn enabled<'a>(
         flight,
         tx,
         host,
-        run_dates,
-        run_counts,
+        run_at,
+        run_len,
         rx,
         0,
         bench::CONF1,
@@ -560,15 +525,15 @@ fn run<'a>(
     flight: &'a mut [u8; 129],
     tx: &'a mut [u8; 1152],
     host: &'a mut [u8; 1024],
-    run_dates: &'a mut [u64; 64],
-    run_counts: &'a mut [u64; 64],
+    run_at: &'a mut [u64; 64],
+    run_len: &'a mut [u64; 64],
     rx: &'a mut [u8; 128],
 ) -> Tally
-    requires { ⌜ Ok new (arrays (now «gone_at») (now flight) (now tx) (now host) (now «run_dates») (now «run_counts») (now rx)) ⌝ }
-    ensures { λ r. ⌜ Ok (r .core) (arrays (now («gone_at» .exit)) (now (flight .exit)) (now (tx .exit)) (now (host .exit))
-        (now («run_dates» .exit)) (now («run_counts» .exit)) (now (rx .exit))) ⌝ }
+    requires { ⌜ Ok new (lent «gone_at» flight tx host «run_at» «run_len» rx) ⌝ }
+    ensures { λ r. ⌜ Ok (r .core) (lent («gone_at» .exit) (flight .exit) (tx .exit) (host .exit) («run_at» .exit) («run_len» .exit)
+        (rx .exit)) ⌝ }
 {
-    let mut tally = enabled(new, gone_at, flight, tx, host, run_dates, run_counts, rx);
+    let mut tally = enabled(new, gone_at, flight, tx, host, run_at, run_len, rx);
     let mut row: u64 = 0;
     while row < 100 {
         tally = round(
@@ -577,8 +542,8 @@ fn run<'a>(
             flight,
             tx,
             host,
-            run_dates,
-            run_counts,
+            run_at,
+            run_len,
             rx,
             row * 20000 + 1000,
         );
@@ -600,8 +565,8 @@ fn apart(new: Uart)
     let mut flight = new.flight;
     let mut tx = new.tx;
     let mut host = new.host;
-    let mut run_dates = new.run_dates;
-    let mut run_counts = new.run_counts;
+    let mut run_at = new.run_at;
+    let mut run_len = new.run_len;
     let mut rx = new.rx;
     let tally = run(
         new.core,
@@ -609,8 +574,8 @@ fn apart(new: Uart)
         &mut flight,
         &mut tx,
         &mut host,
-        &mut run_dates,
-        &mut run_counts,
+        &mut run_at,
+        &mut run_len,
         &mut rx,
     );
     show(tally.sum);

@@ -21,7 +21,7 @@ use Rattle.model.specs.declared.SetUp.{SetUp}
 use Rattle.model.specs.declared.Taken.{Taken}
 use Rattle.queue.specs.Cursors.{slotOf}
 use Rattle.queue.specs.Laws.{elems-length, empty-held, empty-elems}
-use Rattle.device.specs.Holds.{Arrays, sentAt, runAt, onTheLine, abs, Shape, Ok}
+use Rattle.device.specs.Holds.{Arrays, sentAt, runIn, onTheLine, abs, Shape, Ok}
 use Rattle.device.specs.Wholes.{arrays}
 use Rattle.device.specs.declared.Core.{Core}
 use Rattle.calls.specs.NewCore.{newCore}
@@ -30,7 +30,7 @@ use Rattle.host.specs.Takes.{TakesWith}
 use Rattle.uart.specs.declared.Uart.{Uart}
 
 abbrev pub arraysOf : Uart → Arrays
-arraysOf u = arrays (u .«gone_at») (u .flight) (u .tx) (u .host) (u .«run_dates») (u .«run_counts») (u .rx)
+arraysOf u = arrays (u .«gone_at») (u .flight) (u .tx) (u .host) (u .«run_at») (u .«run_len») (u .rx)
 
 -- the state of the definition that it stands for
 abbrev pub meaning : Uart → State.Uart ℕ ℕ
@@ -74,7 +74,7 @@ module _ (offsets resets : List ℕ) (a : Arrays) where
         empty-elems (sentAt (a .goneAt) (a .flight)) 129,
         empty-elems (slotOf (a .tx) 0) 1152,
         empty-elems (slotOf (a .host) 0) 1024,
-        empty-elems (runAt (a .runDates) (a .runCounts)) 64,
+        empty-elems (runIn (a .runAt) (a .runLen)) 64,
         empty-elems (slotOf (a .rx) 0) 128,
       )
 
@@ -82,7 +82,7 @@ module _ (offsets resets : List ℕ) (a : Arrays) where
   abbrev pub Slots : Type 0
   Slots =
       (length (a .goneAt) ≡ 129) × (length (a .flight) ≡ 129) × (length (a .tx) ≡ 1152) × (length (a .host) ≡ 1024)
-      × (length (a .runDates) ≡ 64) × (length (a .runCounts) ≡ 64) × (length (a .rx) ≡ 128)
+      × (length (a .runAt) ≡ 64) × (length (a .runLen) ≡ 64) × (length (a .rx) ≡ 128)
 
   new-shape : Slots → Shape (newCore offsets resets) a
   new-shape l = record {

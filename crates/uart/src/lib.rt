@@ -31,8 +31,8 @@ pub struct Uart {
     pub tx: [u8; 1152],
     // The host bytes that wait, and the runs that date them, in subcycles.
     pub host: [u8; 1024],
-    pub run_dates: [u64; 64],
-    pub run_counts: [u64; 64],
+    pub run_at: [u64; 64],
+    pub run_len: [u64; 64],
     // The receive FIFO.
     pub rx: [u8; 128],
 }
@@ -91,8 +91,8 @@ impl Uart {
         let flight = [0u8; 129];
         let tx = [0u8; 1152];
         let host = [0u8; 1024];
-        let run_dates = [0u64; 64];
-        let run_counts = [0u64; 64];
+        let run_at = [0u64; 64];
+        let run_len = [0u64; 64];
         let rx = [0u8; 128];
         let uart = Uart {
             core,
@@ -100,8 +100,8 @@ impl Uart {
             flight,
             tx,
             host,
-            run_dates,
-            run_counts,
+            run_at,
+            run_len,
             rx,
         };
         let reply = made.reply;
@@ -114,7 +114,7 @@ impl Uart {
         ensures { λ r. ⌜ Settles (settle cycle (meaning self)) (r .uart .core) (arraysOf (r .uart)) (r .passes) (r .overflows) ⌝ }
     {
         let mut tx = self.tx;
-        let mut run_counts = self.run_counts;
+        let mut run_len = self.run_len;
         let mut rx = self.rx;
         let done = settle::settle(
             self.core,
@@ -122,15 +122,15 @@ impl Uart {
             &self.flight,
             &mut tx,
             &self.host,
-            &self.run_dates,
-            &mut run_counts,
+            &self.run_at,
+            &mut run_len,
             &mut rx,
             cycle,
         );
         let core = done.core;
         self.core = core;
         self.tx = tx;
-        self.run_counts = run_counts;
+        self.run_len = run_len;
         self.rx = rx;
         AfterSettle {
             uart: self,
@@ -145,7 +145,7 @@ impl Uart {
         ensures { λ r. ⌜ Answered asRead readNumber (Calls·read cycle offset) self (r .uart) (r .reply) (r .report) ⌝ }
     {
         let mut tx = self.tx;
-        let mut run_counts = self.run_counts;
+        let mut run_len = self.run_len;
         let mut rx = self.rx;
         let done = access::read::read(
             self.core,
@@ -153,8 +153,8 @@ impl Uart {
             &self.flight,
             &mut tx,
             &self.host,
-            &self.run_dates,
-            &mut run_counts,
+            &self.run_at,
+            &mut run_len,
             &mut rx,
             cycle,
             offset,
@@ -162,7 +162,7 @@ impl Uart {
         let core = done.core;
         self.core = core;
         self.tx = tx;
-        self.run_counts = run_counts;
+        self.run_len = run_len;
         self.rx = rx;
         let reply = done.reply;
         let report = done.report;
@@ -181,7 +181,7 @@ impl Uart {
         let mut gone_at = self.gone_at;
         let mut flight = self.flight;
         let mut tx = self.tx;
-        let mut run_counts = self.run_counts;
+        let mut run_len = self.run_len;
         let mut rx = self.rx;
         let done = access::write::write(
             self.core,
@@ -189,8 +189,8 @@ impl Uart {
             &mut flight,
             &mut tx,
             &self.host,
-            &self.run_dates,
-            &mut run_counts,
+            &self.run_at,
+            &mut run_len,
             &mut rx,
             cycle,
             offset,
@@ -201,7 +201,7 @@ impl Uart {
         self.gone_at = gone_at;
         self.flight = flight;
         self.tx = tx;
-        self.run_counts = run_counts;
+        self.run_len = run_len;
         self.rx = rx;
         let reply = done.reply;
         let report = done.report;
@@ -218,7 +218,7 @@ impl Uart {
         ensures { λ r. ⌜ Answered (λ x. x) doneNumber (Calls·wake cycle) self (r .uart) (r .reply) (r .report) ⌝ }
     {
         let mut tx = self.tx;
-        let mut run_counts = self.run_counts;
+        let mut run_len = self.run_len;
         let mut rx = self.rx;
         let done = calls::wake::wake(
             self.core,
@@ -226,15 +226,15 @@ impl Uart {
             &self.flight,
             &mut tx,
             &self.host,
-            &self.run_dates,
-            &mut run_counts,
+            &self.run_at,
+            &mut run_len,
             &mut rx,
             cycle,
         );
         let core = done.core;
         self.core = core;
         self.tx = tx;
-        self.run_counts = run_counts;
+        self.run_len = run_len;
         self.rx = rx;
         let reply = done.reply;
         let report = done.report;
@@ -251,7 +251,7 @@ impl Uart {
         ensures { λ r. ⌜ Answered (λ x. x) doneNumber (Calls·reset cycle) self (r .uart) (r .reply) (r .report) ⌝ }
     {
         let mut tx = self.tx;
-        let mut run_counts = self.run_counts;
+        let mut run_len = self.run_len;
         let mut rx = self.rx;
         let done = calls::reset::reset(
             self.core,
@@ -259,15 +259,15 @@ impl Uart {
             &self.flight,
             &mut tx,
             &self.host,
-            &self.run_dates,
-            &mut run_counts,
+            &self.run_at,
+            &mut run_len,
             &mut rx,
             cycle,
         );
         let core = done.core;
         self.core = core;
         self.tx = tx;
-        self.run_counts = run_counts;
+        self.run_len = run_len;
         self.rx = rx;
         let reply = done.reply;
         let report = done.report;
@@ -284,7 +284,7 @@ impl Uart {
         ensures { λ r. ⌜ Answered (λ x. x) doneNumber (clockChange cycle period) self (r .uart) (r .reply) (r .report) ⌝ }
     {
         let mut tx = self.tx;
-        let mut run_counts = self.run_counts;
+        let mut run_len = self.run_len;
         let mut rx = self.rx;
         let done = calls::clock_change::clock_change(
             self.core,
@@ -292,8 +292,8 @@ impl Uart {
             &self.flight,
             &mut tx,
             &self.host,
-            &self.run_dates,
-            &mut run_counts,
+            &self.run_at,
+            &mut run_len,
             &mut rx,
             cycle,
             period,
@@ -301,7 +301,7 @@ impl Uart {
         let core = done.core;
         self.core = core;
         self.tx = tx;
-        self.run_counts = run_counts;
+        self.run_len = run_len;
         self.rx = rx;
         let reply = done.reply;
         let report = done.report;
@@ -320,8 +320,8 @@ impl Uart {
     {
         let mut tx = self.tx;
         let mut host = self.host;
-        let mut run_dates = self.run_dates;
-        let mut run_counts = self.run_counts;
+        let mut run_at = self.run_at;
+        let mut run_len = self.run_len;
         let mut rx = self.rx;
         let done = host::receive::receive(
             self.core,
@@ -329,8 +329,8 @@ impl Uart {
             &self.flight,
             &mut tx,
             &mut host,
-            &mut run_dates,
-            &mut run_counts,
+            &mut run_at,
+            &mut run_len,
             &mut rx,
             cycle,
             at,
@@ -340,8 +340,8 @@ impl Uart {
         self.core = core;
         self.tx = tx;
         self.host = host;
-        self.run_dates = run_dates;
-        self.run_counts = run_counts;
+        self.run_at = run_at;
+        self.run_len = run_len;
         self.rx = rx;
         let reply = done.reply;
         let report = done.report;
@@ -358,7 +358,7 @@ impl Uart {
         ensures { λ r. ⌜ Took (takeTx cycle (now (out .entry))) self (r .uart) (r .reply) (r .report) (now (out .exit)) ⌝ }
     {
         let mut tx = self.tx;
-        let mut run_counts = self.run_counts;
+        let mut run_len = self.run_len;
         let mut rx = self.rx;
         let done = host::take_tx::take_tx(
             self.core,
@@ -366,8 +366,8 @@ impl Uart {
             &self.flight,
             &mut tx,
             &self.host,
-            &self.run_dates,
-            &mut run_counts,
+            &self.run_at,
+            &mut run_len,
             &mut rx,
             cycle,
             out,
@@ -375,7 +375,7 @@ impl Uart {
         let core = done.core;
         self.core = core;
         self.tx = tx;
-        self.run_counts = run_counts;
+        self.run_len = run_len;
         self.rx = rx;
         let reply = done.reply;
         let report = done.report;
@@ -391,7 +391,7 @@ impl Uart {
         requires { ⌜ Good self ⌝ }
         ensures { λ r. ⌜ Answered (λ x. x) doneNumber (Calls·watch cycle on) self (r .uart) (r .reply) (r .report) ⌝ }
     {
-        let done = watch::watch(self.core, &self.gone_at, &self.run_dates, cycle, on);
+        let done = watch::watch(self.core, &self.gone_at, &self.run_at, cycle, on);
         let core = done.core;
         self.core = core;
         let reply = done.reply;

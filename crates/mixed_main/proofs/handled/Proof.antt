@@ -8,10 +8,10 @@ use Rattle.mixed_main.proofs.handled.Statement.{statement}
 use Rattle.mixed_main.proofs.handled.Tie as tie
 
 abbrev Inv-loop : tie.InvT-loop
-Inv-loop gone-at₀ flight₀ tx₀ host run-dates run-counts₀ rx₀ base tally₀ i₀ gone-at flight tx run-counts rx tally i = Ok (tally .core) (arrays gone-at flight tx host run-dates run-counts rx) × (i ≤ 20)
+Inv-loop gone-at₀ flight₀ tx₀ host run-at run-len₀ rx₀ base tally₀ i₀ gone-at flight tx run-len rx tally i = Ok (tally .core) (arrays gone-at flight tx host run-at run-len rx) × (i ≤ 20)
 
 abbrev μ-loop : tie.MeasureT-loop
-μ-loop gone-at₀ flight₀ tx₀ host run-dates run-counts₀ rx₀ base tally₀ i₀ gone-at flight tx run-counts rx tally i = 20 - i
+μ-loop gone-at₀ flight₀ tx₀ host run-at run-len₀ rx₀ base tally₀ i₀ gone-at flight tx run-len rx tally i = 20 - i
 
 loop-holds : tie.Need-loop-holds Inv-loop μ-loop
 loop-holds c = search needs

@@ -8,10 +8,10 @@ use Rattle.mixed_main.proofs.row_sent.Statement.{statement}
 use Rattle.mixed_main.proofs.row_sent.Tie as tie
 
 abbrev Inv-loop : tie.InvT-loop
-Inv-loop gone-at₀ flight₀ tx₀ host run-dates run-counts₀ rx₀ base core₀ sum₀ i₀ gone-at flight tx run-counts rx core sum i = Ok core (arrays gone-at flight tx host run-dates run-counts rx) × (i ≤ 16)
+Inv-loop gone-at₀ flight₀ tx₀ host run-at run-len₀ rx₀ base core₀ sum₀ i₀ gone-at flight tx run-len rx core sum i = Ok core (arrays gone-at flight tx host run-at run-len rx) × (i ≤ 16)
 
 abbrev μ-loop : tie.MeasureT-loop
-μ-loop gone-at₀ flight₀ tx₀ host run-dates run-counts₀ rx₀ base core₀ sum₀ i₀ gone-at flight tx run-counts rx core sum i = 16 - i
+μ-loop gone-at₀ flight₀ tx₀ host run-at run-len₀ rx₀ base core₀ sum₀ i₀ gone-at flight tx run-len rx core sum i = 16 - i
 
 loop-holds : tie.Need-loop-holds Inv-loop μ-loop
 loop-holds c = search needs

@@ -8,10 +8,10 @@ use Rattle.mixed_main.proofs.run.Statement.{statement}
 use Rattle.mixed_main.proofs.run.Tie as tie
 
 abbrev Inv-loop : tie.InvT-loop
-Inv-loop gone-at₀ flight₀ tx₀ host₀ run-dates₀ run-counts₀ rx₀ tally₀ row₀ gone-at flight tx host run-dates run-counts rx tally row = Ok (tally .core) (arrays gone-at flight tx host run-dates run-counts rx) × (row ≤ 100)
+Inv-loop gone-at₀ flight₀ tx₀ host₀ run-at₀ run-len₀ rx₀ tally₀ row₀ gone-at flight tx host run-at run-len rx tally row = Ok (tally .core) (arrays gone-at flight tx host run-at run-len rx) × (row ≤ 100)
 
 abbrev μ-loop : tie.MeasureT-loop
-μ-loop gone-at₀ flight₀ tx₀ host₀ run-dates₀ run-counts₀ rx₀ tally₀ row₀ gone-at flight tx host run-dates run-counts rx tally row = 100 - row
+μ-loop gone-at₀ flight₀ tx₀ host₀ run-at₀ run-len₀ rx₀ tally₀ row₀ gone-at flight tx host run-at run-len rx tally row = 100 - row
 
 enabled-requires : tie.Need-enabled-requires Inv-loop μ-loop
 enabled-requires c κs = search needs

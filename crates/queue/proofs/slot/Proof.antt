@@ -1,4 +1,4 @@
--- `queue::slot` meets its contract: the two ways of `wrap`. Assumes nothing.
+-- `slot` meets its contract: the two ways of `wrap`. Assumes nothing.
 use mathlib.Core.Path.{sym}
 use Prim.Native.Nat.{_+_}
 use borrow.Author.Needs.{needs}

@@ -1,4 +1,4 @@
--- `workload_main::bench::counted` fills an array, which keeps its length. Assumes nothing.
+-- `counted` fills an array, which keeps its length. Assumes nothing.
 use borrow.Author.Needs.{needs}
 use native.Mathlib.Omega.{arith}
 use mathlib.Core.Path.{_≡_}

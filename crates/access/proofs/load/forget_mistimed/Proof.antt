@@ -1,4 +1,4 @@
--- `reading::forget_mistimed` meets its contract, by the test. Assumes nothing.
+-- `load::forget_mistimed` meets its contract, by the test. Assumes nothing.
 use Rattle.model.specs.Numbers.{choose}
 use Rattle.access.proofs.load.forget_mistimed.Statement.{statement}
 use Rattle.access.proofs.load.forget_mistimed.Tie as tie

@@ -1,4 +1,4 @@
--- `reading::mistimed_at` meets its contract, by the test. Assumes nothing.
+-- `load::mistimed_at` meets its contract, by the test. Assumes nothing.
 use Rattle.model.specs.Numbers.{choose}
 use Rattle.access.proofs.load.mistimed_at.Statement.{statement}
 use Rattle.access.proofs.load.mistimed_at.Tie as tie

@@ -1,4 +1,4 @@
--- `reading::pop` meets its contract, by the test on the count. Assumes nothing.
+-- `load::pop` meets its contract, by the test on the count. Assumes nothing.
 use Rattle.access.specs.Reads.{pop-takes, pop-misses}
 use borrow.Author.Needs.{needs}
 use Rattle.access.proofs.load.pop.Statement.{statement}

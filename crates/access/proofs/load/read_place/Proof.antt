@@ -1,4 +1,4 @@
--- `reading::read_place` meets its contract: a mistimed reception is told of where the firmware looks, and then the byte or the word is given. Assumes nothing.
+-- `load::read_place` meets its contract: a mistimed reception is told of where the firmware looks, and then the byte or the word is given. Assumes nothing.
 use mathlib.Core.Path.{refl}
 use mathlib.Core.List.{[], _∷_}
 use Prim.Native.Nat.{_≤_}

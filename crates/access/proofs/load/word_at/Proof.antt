@@ -1,4 +1,4 @@
--- `reading::word_at` meets its contract: the words that are made up, and Storage's. Assumes nothing.
+-- `load::word_at` meets its contract: the words that are made up, and Storage's. Assumes nothing.
 use mathlib.Core.Path.{_≡_, refl, _∙_}
 use mathlib.Core.List.{[], _∷_}
 use Rattle.model.specs.Replies.{asRead}

@@ -1,4 +1,4 @@
--- `answer` meets its contract. Assumes nothing.
+-- `read::answer` meets its contract. Assumes nothing.
 use Rattle.access.proofs.read.answer.Statement.{statement}
 use Rattle.access.proofs.read.answer.Tie as tie
 

@@ -1,4 +1,4 @@
--- `carry_out` meets its contract: settled, and then read. Assumes nothing.
+-- `read::carry_out` meets its contract: settled, and then read. Assumes nothing.
 use mathlib.Core.Path.{refl}
 use Rattle.model.specs.Replies.{asRead}
 use Rattle.model.specs.Registers.{readAt}

@@ -1,4 +1,4 @@
--- `read` meets its contract: refused as the tests say, or carried out at the place of the offset. Assumes nothing.
+-- `read::read` meets its contract: refused as the tests say, or carried out at the place of the offset. Assumes nothing.
 use mathlib.Core.Option.{none}
 use Rattle.model.specs.Registers.{placeOf, readAt}
 use Rattle.model.specs.Calls.{afterSettling, readWork}

@@ -1,4 +1,4 @@
--- `refuse` meets its contract. Assumes nothing.
+-- `read::refuse` meets its contract. Assumes nothing.
 use Rattle.access.proofs.read.refuse.Statement.{statement}
 use Rattle.access.proofs.read.refuse.Tie as tie
 

@@ -1,4 +1,4 @@
--- `gone_at_of` meets its contract. Assumes nothing.
+-- `send::gone_at_of` meets its contract. Assumes nothing.
 use borrow.Author.Needs.{needs}
 use Rattle.access.proofs.send.gone_at_of.Statement.{statement}
 use Rattle.access.proofs.send.gone_at_of.Tie as tie

@@ -1,4 +1,4 @@
--- `send` meets its contract: dropped, or put at the back with its date. Assumes nothing.
+-- `send::send` meets its contract: dropped, or put at the back with its date. Assumes nothing.
 use mathlib.Core.Path.{ap, _∙_}
 use Rattle.replies.specs.Notices.{noted}
 use Rattle.model.specs.Registers.{sourceNotes}

@@ -1,4 +1,4 @@
--- `starts_at` meets its contract, by cases on the last date. Assumes nothing.
+-- `send::starts_at` meets its contract, by cases on the last date. Assumes nothing.
 use Rattle.model.specs.Registers.{startsAt}
 use borrow.Author.Needs.{needs}
 use Rattle.access.proofs.send.starts_at.Statement.{statement}

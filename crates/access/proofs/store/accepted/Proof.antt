@@ -1,4 +1,4 @@
--- `writing::accepted` meets its contract, by the test. Assumes nothing.
+-- `store::accepted` meets its contract, by the test. Assumes nothing.
 use Rattle.model.specs.Numbers.{choose}
 use Rattle.access.proofs.store.accepted.Statement.{statement}
 use Rattle.access.proofs.store.accepted.Tie as tie

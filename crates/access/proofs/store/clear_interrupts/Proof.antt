@@ -1,4 +1,4 @@
--- `writing::clear_interrupts` meets its contract. Assumes nothing.
+-- `store::clear_interrupts` meets its contract. Assumes nothing.
 use Rattle.access.proofs.store.clear_interrupts.Statement.{statement}
 use Rattle.access.proofs.store.clear_interrupts.Tie as tie
 

@@ -1,4 +1,4 @@
--- `writing::cut_if` meets its contract, by the test. Assumes nothing.
+-- `store::cut_if` meets its contract, by the test. Assumes nothing.
 use mathlib.Core.Path.{sym, _∙_}
 use Rattle.model.specs.Laws.Choose.{choose-true, choose-false}
 use Rattle.access.proofs.store.cut_if.Statement.{statement}

@@ -1,4 +1,4 @@
--- `writing::empty_if` meets its contract, by the test. Assumes nothing.
+-- `store::empty_if` meets its contract, by the test. Assumes nothing.
 use mathlib.Core.Path.{sym, _∙_}
 use Rattle.model.specs.Laws.Choose.{choose-true, choose-false}
 use Rattle.access.proofs.store.empty_if.Statement.{statement}

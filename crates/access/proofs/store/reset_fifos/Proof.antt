@@ -1,4 +1,4 @@
--- `writing::reset_fifos` meets its contract. Assumes nothing.
+-- `store::reset_fifos` meets its contract. Assumes nothing.
 use Rattle.access.specs.Writes.{resets}
 use Rattle.access.proofs.store.reset_fifos.Statement.{statement}
 use Rattle.access.proofs.store.reset_fifos.Tie as tie

@@ -1,4 +1,4 @@
--- `writing::store` meets its contract. Assumes nothing.
+-- `store::store` meets its contract. Assumes nothing.
 use Rattle.access.proofs.store.store.Statement.{statement}
 use Rattle.access.proofs.store.store.Tie as tie
 

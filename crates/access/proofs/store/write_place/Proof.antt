@@ -1,4 +1,4 @@
--- `writing::write_place` meets its contract: INT_CLR clears, CONF0 resets first, and all others go to Storage. Assumes nothing.
+-- `store::write_place` meets its contract: INT_CLR clears, CONF0 resets first, and all others go to Storage. Assumes nothing.
 use mathlib.Core.Path.{refl}
 use mathlib.Core.List.{[], _∷_}
 use Rattle.model.specs.Registers.{writePlace}

@@ -1,4 +1,4 @@
--- `answer` meets its contract. Assumes nothing.
+-- `write::answer` meets its contract. Assumes nothing.
 use Rattle.access.proofs.write.answer.Statement.{statement}
 use Rattle.access.proofs.write.answer.Tie as tie
 

@@ -1,4 +1,4 @@
--- `carry_out` meets its contract: settled, then the write, then levels, interrupt and wake. Assumes nothing.
+-- `write::carry_out` meets its contract: settled, then the write, then levels, interrupt and wake. Assumes nothing.
 use mathlib.Core.Path.{refl}
 use Rattle.access.specs.ByPlace.{accessAt, access-period, sent-access, placed-access}
 use Rattle.access.specs.Concludes.{access-ready, concluded-works}

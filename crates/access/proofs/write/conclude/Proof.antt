@@ -1,4 +1,4 @@
--- `conclude` meets its contract. Assumes nothing.
+-- `write::conclude` meets its contract. Assumes nothing.
 use Rattle.access.specs.Concludes.{concludes-any}
 use Rattle.access.proofs.write.conclude.Statement.{statement}
 use Rattle.access.proofs.write.conclude.Tie as tie

@@ -1,4 +1,4 @@
--- `is_fifo` meets its contract, by its two lists of places. Assumes nothing.
+-- `write::is_fifo` meets its contract, by its two lists of places. Assumes nothing.
 use mathlib.Core.Path.{_≡_, refl, sym, ap}
 use mathlib.Core.Bool.{false}
 use mathlib.Core.List.{[], _∷_}

@@ -1,4 +1,4 @@
--- `low_byte` meets its contract: a mask of 8 bits. Assumes nothing.
+-- `write::low_byte` meets its contract: a mask of 8 bits. Assumes nothing.
 use native.Mathlib.Omega.{arith}
 use lib.Bits.{and-mask, mask-lt}
 use Rattle.access.proofs.write.low_byte.Statement.{statement}

@@ -1,4 +1,4 @@
--- `refuse` meets its contract. Assumes nothing.
+-- `write::refuse` meets its contract. Assumes nothing.
 use Rattle.access.proofs.write.refuse.Statement.{statement}
 use Rattle.access.proofs.write.refuse.Tie as tie
 

@@ -1,4 +1,4 @@
--- `tests_at` meets its contract. Assumes nothing.
+-- `write::tests_at` meets its contract. Assumes nothing.
 use mathlib.Core.Path.{sym, ap, _∙_}
 use mathlib.Core.Bool.{Bool}
 use Rattle.access.specs.ByPlace.{testsAt}

@@ -1,4 +1,4 @@
--- `write` meets its contract: refused as the tests of its place say, or carried out. Assumes nothing.
+-- `write::write` meets its contract: refused as the tests of its place say, or carried out. Assumes nothing.
 use mathlib.Core.Path.{refl}
 use Rattle.calls.specs.Answers.{passes, refuses}
 use Rattle.access.specs.ByPlace.{tests-in-time, write-carried, write-refused}

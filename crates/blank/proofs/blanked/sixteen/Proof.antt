@@ -1,4 +1,4 @@
--- `trace::sixteen` is safe and ends. Assumes nothing.
+-- `blanked::sixteen` is safe and ends. Assumes nothing.
 use Prim.Native.Nat.{_≤_, _-_}
 use borrow.Author.Needs.{needs}
 use native.Mathlib.Omega.{arith}

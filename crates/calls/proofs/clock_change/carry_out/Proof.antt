@@ -1,4 +1,4 @@
--- `carry_out` meets its contract: two settlings, the period set between them, and armed. Assumes nothing.
+-- `clock_change::carry_out` meets its contract: two settlings, the period set between them, and armed. Assumes nothing.
 use native.Mathlib.Omega.{arith}
 use Rattle.calls.specs.Changes.{ready}
 use Rattle.calls.specs.Sums.{from-ok, sums-fit, reclocks}

@@ -1,4 +1,4 @@
--- `clock_change` meets its contract: refused as the tests say, or carried out. Assumes nothing.
+-- `clock_change::clock_change` meets its contract: refused as the tests say, or carried out. Assumes nothing.
 use mathlib.Core.Option.{none}
 use Rattle.model.specs.Calls.{clockChange, clockWork}
 use Rattle.model.specs.Keeps.EachCall.{clockChange-within}

@@ -1,4 +1,4 @@
--- `with_period` meets its contract. Assumes nothing.
+-- `clock_change::with_period` meets its contract. Assumes nothing.
 use Rattle.calls.proofs.clock_change.with_period.Statement.{statement}
 use Rattle.calls.proofs.clock_change.with_period.Tie as tie
 

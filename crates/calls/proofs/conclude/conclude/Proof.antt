@@ -1,4 +1,4 @@
--- `conclude` meets its contract. Assumes nothing.
+-- `conclude::conclude` meets its contract. Assumes nothing.
 use Rattle.calls.specs.Concludes.{leveled-ready, concludes-any}
 use Rattle.calls.proofs.conclude.conclude.Statement.{statement}
 use Rattle.calls.proofs.conclude.conclude.Tie as tie

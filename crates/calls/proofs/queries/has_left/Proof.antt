@@ -1,4 +1,4 @@
--- `undated::has_left` meets its contract. Assumes nothing.
+-- `queries::has_left` meets its contract. Assumes nothing.
 use Rattle.calls.specs.Undated.{has-left-of}
 use Rattle.calls.proofs.queries.has_left.Statement.{statement}
 use Rattle.calls.proofs.queries.has_left.Tie as tie

@@ -1,4 +1,4 @@
--- `undated::host_pending` meets its contract, by cases on the line. Assumes nothing.
+-- `queries::host_pending` meets its contract, by cases on the line. Assumes nothing.
 use Rattle.calls.specs.Undated.{pending-free, pending-on}
 use borrow.Author.Needs.{needs}
 use Rattle.calls.proofs.queries.host_pending.Statement.{statement}

@@ -1,4 +1,4 @@
--- `carry_out` meets its contract: settled from the end of a power-down, cleared, leveled and armed. Assumes nothing.
+-- `reset::carry_out` meets its contract: settled from the end of a power-down, cleared, leveled and armed. Assumes nothing.
 use Rattle.calls.specs.Resets.{from-ok, cleared-ready, restarted}
 use Rattle.calls.proofs.reset.carry_out.Statement.{statement}
 use Rattle.calls.proofs.reset.carry_out.Tie as tie

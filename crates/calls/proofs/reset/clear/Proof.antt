@@ -1,4 +1,4 @@
--- `clear` meets its contract. Assumes nothing.
+-- `reset::clear` meets its contract. Assumes nothing.
 use Rattle.calls.proofs.reset.clear.Statement.{statement}
 use Rattle.calls.proofs.reset.clear.Tie as tie
 

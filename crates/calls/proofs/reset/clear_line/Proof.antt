@@ -1,4 +1,4 @@
--- `clear_line` meets its contract. Assumes nothing.
+-- `reset::clear_line` meets its contract. Assumes nothing.
 use mathlib.Core.Path.{refl}
 use Rattle.model.specs.Calls.{clearedLine}
 use Rattle.calls.proofs.reset.clear_line.Statement.{statement}

@@ -1,4 +1,4 @@
--- `reset` meets its contract: refused as the tests say, or carried out. Assumes nothing.
+-- `reset::reset` meets its contract: refused as the tests say, or carried out. Assumes nothing.
 use mathlib.Core.Option.{none}
 use Rattle.model.specs.Calls.{reset, resetWork}
 use Rattle.model.specs.Keeps.EachCall.{reset-within}

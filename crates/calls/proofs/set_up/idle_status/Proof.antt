@@ -1,4 +1,4 @@
--- `setup::idle_status` meets its contract. Assumes nothing.
+-- `set_up::idle_status` meets its contract. Assumes nothing.
 use mathlib.Core.Path.{refl}
 use Rattle.calls.proofs.set_up.idle_status.Statement.{statement}
 use Rattle.calls.proofs.set_up.idle_status.Tie as tie

@@ -1,4 +1,4 @@
--- `setup::new_control` meets its contract, field by field. Assumes nothing.
+-- `set_up::new_control` meets its contract, field by field. Assumes nothing.
 use mathlib.Core.Path.{refl}
 use Rattle.model.specs.SetUp.{newControl}
 use Rattle.calls.proofs.set_up.new_control.Statement.{statement}

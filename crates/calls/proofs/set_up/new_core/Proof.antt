@@ -1,4 +1,4 @@
--- `new_core` meets its contract. Assumes nothing.
+-- `set_up::new_core` meets its contract. Assumes nothing.
 use borrow.Author.Needs.{needs}
 use Rattle.calls.proofs.set_up.new_core.Statement.{statement}
 use Rattle.calls.proofs.set_up.new_core.Tie as tie

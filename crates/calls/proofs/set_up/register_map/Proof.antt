@@ -1,4 +1,4 @@
--- `setup::register_map` meets its contract, field by field. Assumes nothing.
+-- `set_up::register_map` meets its contract, field by field. Assumes nothing.
 use borrow.Author.Needs.{needs}
 use Rattle.model.specs.SetUp.{mapOf}
 use Rattle.calls.proofs.set_up.register_map.Statement.{statement}

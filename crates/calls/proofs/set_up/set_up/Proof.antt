@@ -1,4 +1,4 @@
--- `set_up` meets its contract. Assumes nothing.
+-- `set_up::set_up` meets its contract. Assumes nothing.
 use mathlib.Core.Path.{ap₂}
 use Rattle.model.specs.declared.SetUp.{SetUp}
 use Rattle.device.specs.declared.Core.{Core}

@@ -1,4 +1,4 @@
--- `setup::words_among` meets its contract, word by word. Assumes nothing.
+-- `set_up::words_among` meets its contract, word by word. Assumes nothing.
 use mathlib.Core.Path.{refl}
 use borrow.Author.Needs.{needs}
 use Rattle.model.specs.SetUp.{wordsAmong}

@@ -1,4 +1,4 @@
--- `settled_at::settle_at` meets its contract: the core with its last date moved is settled. Assumes nothing.
+-- `settle_at::settle_at` meets its contract: the core with its last date moved is settled. Assumes nothing.
 use Rattle.model.specs.Calls.{settleAt, dated}
 use Rattle.calls.specs.Changes.{dated-ok}
 use Rattle.calls.proofs.settle_at.settle_at.Statement.{statement}

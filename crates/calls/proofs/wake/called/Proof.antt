@@ -1,4 +1,4 @@
--- `called` meets its contract. Assumes nothing.
+-- `wake::called` meets its contract. Assumes nothing.
 use Rattle.calls.proofs.wake.called.Statement.{statement}
 use Rattle.calls.proofs.wake.called.Tie as tie
 

@@ -1,4 +1,4 @@
--- `carry_out` meets its contract: settled from the cleared Deadline, and armed. Assumes nothing.
+-- `wake::carry_out` meets its contract: settled from the cleared Deadline, and armed. Assumes nothing.
 use Rattle.calls.specs.Changes.{ready}
 use Rattle.calls.specs.Wakes.{from-ok, woken}
 use Rattle.calls.proofs.wake.carry_out.Statement.{statement}

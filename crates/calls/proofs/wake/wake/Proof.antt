@@ -1,4 +1,4 @@
--- `wake` meets its contract: refused as the tests say, or carried out. Assumes nothing.
+-- `wake::wake` meets its contract: refused as the tests say, or carried out. Assumes nothing.
 use mathlib.Core.Option.{none}
 use Rattle.model.specs.Calls.{wake, wakeWork}
 use Rattle.model.specs.Keeps.EachCall.{wake-within}

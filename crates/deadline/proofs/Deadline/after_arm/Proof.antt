@@ -7,7 +7,7 @@ use Rattle.deadline.proofs.Contracts.{Lends}
 use Rattle.deadline.proofs.Taken.{taken-meets}
 use Rattle.deadline.proofs.Deadline.arm.Symbol as callee
 use Rattle.deadline.proofs.Deadline.arm.Met.{met}
-use Rattle.deadline.proofs.Deadline.armed as this
+use Rattle.deadline.proofs.Deadline.after_arm as this
 use Rattle.deadline.proofs.Deadline.after_arm.Key.{name}
 use Rattle.deadline.proofs.Deadline.after_arm.Statement.{statement}
 use Rattle.deadline.proofs.Deadline.after_arm.Code as code

@@ -1,4 +1,4 @@
--- `arm` meets its contract. Assumes nothing.
+-- `arm::arm` meets its contract. Assumes nothing.
 use mathlib.Core.Path.{sym, subst, ap, _∙_}
 use lib.ListN.{getD}
 use Rattle.device.specs.Arms.{arms, Arms}

@@ -1,4 +1,4 @@
--- `below_threshold_at` meets its contract, by cases. Assumes nothing.
+-- `arm::below_threshold_at` meets its contract, by cases. Assumes nothing.
 use mathlib.Core.Path.{ap, sym, _∙_}
 use Rattle.line.specs.Instants.{goneBelow}
 use Rattle.device.specs.Holds.{flightOf}

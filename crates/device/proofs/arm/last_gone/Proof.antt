@@ -1,4 +1,4 @@
--- `last_gone` meets its contract, by the test on the count. Assumes nothing.
+-- `arm::last_gone` meets its contract, by the test on the count. Assumes nothing.
 use native.Mathlib.Omega.{arith}
 use Rattle.device.specs.Arms.{last-in, last-none}
 use native.Mathlib.Omega.{arith}

@@ -1,4 +1,4 @@
--- `next_wake` meets its contract: each instant is the definition's. Assumes nothing.
+-- `arm::next_wake` meets its contract: each instant is the definition's. Assumes nothing.
 use mathlib.Core.Path.{sym, subst, ap, _∙_}
 use Rattle.model.specs.Arm.{firstGone}
 use Rattle.device.specs.Arms.{armed-by}

@@ -1,4 +1,4 @@
--- `nth_gone` meets its contract, by the test on the count. Assumes nothing.
+-- `arm::nth_gone` meets its contract, by the test on the count. Assumes nothing.
 use mathlib.Core.Path.{ap, _∙_}
 use lib.ListN.{getD}
 use Rattle.model.specs.declared.Date.{Date}

@@ -1,4 +1,4 @@
--- `with_wake_of` meets its contract, field by field. Assumes nothing.
+-- `arm::with_wake_of` meets its contract, field by field. Assumes nothing.
 use borrow.Author.Needs.{needs}
 use Rattle.device.proofs.arm.with_wake_of.Statement.{statement}
 use Rattle.device.proofs.arm.with_wake_of.Tie as tie

@@ -1,4 +1,4 @@
--- `passes::choose` meets its contract, by the test. Assumes nothing.
+-- `pass::choose` meets its contract, by the test. Assumes nothing.
 use Rattle.model.specs.Numbers.{choose}
 use Rattle.device.proofs.pass.choose.Statement.{statement}
 use Rattle.device.proofs.pass.choose.Tie as tie

@@ -1,4 +1,4 @@
--- `passes::is_spent` meets its contract, by the test. Assumes nothing.
+-- `pass::is_spent` meets its contract, by the test. Assumes nothing.
 use Rattle.device.specs.Receives.{spent}
 use Rattle.device.proofs.pass.is_spent.Statement.{statement}
 use Rattle.device.proofs.pass.is_spent.Tie as tie

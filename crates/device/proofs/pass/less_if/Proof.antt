@@ -1,4 +1,4 @@
--- `passes::less_if` meets its contract, by the test. Assumes nothing.
+-- `pass::less_if` meets its contract, by the test. Assumes nothing.
 use native.Mathlib.Omega.{arith}
 use borrow.Author.Needs.{needs}
 use Rattle.device.proofs.pass.less_if.Statement.{statement}

@@ -1,4 +1,4 @@
--- `passes::take_next_on_the_line` meets its contract: its calls give the parts that `assembled` puts together. Assumes nothing.
+-- `pass::take_next_on_the_line` meets its contract: its calls give the parts that `assembled` puts together. Assumes nothing.
 use native.Mathlib.Omega.{arith}
 use borrow.Author.Needs.{needs}
 use Rattle.device.specs.Carries.{assembled}
@@ -29,8 +29,8 @@ take-next-on-the-line-requires c κs = search needs
 is-stored-requires : tie.Need-is-stored-requires
 is-stored-requires c κs = search needs
 
-element-copy-out-chosen : tie.Need-element-copy-out-chosen
-element-copy-out-chosen c = search needs
+element-copy-out-choose : tie.Need-element-copy-out-choose
+element-copy-out-choose c = search needs
 
 choose-requires : tie.Need-choose-requires
 choose-requires c κs = search needs
@@ -49,11 +49,11 @@ element-write-rx c = let p = c .before .before .before .before .before .before .
 less-if-requires : tie.Need-less-if-requires
 less-if-requires c κs = search needs
 
-mul-run-counts : tie.Need-mul-run-counts
-mul-run-counts c = search needs
+mul-run-len : tie.Need-mul-run-len
+mul-run-len c = search needs
 
-element-write-run-counts : tie.Need-element-write-run-counts
-element-write-run-counts c = search needs
+element-write-run-len : tie.Need-element-write-run-len
+element-write-run-len c = search needs
 
 popped-if-requires : tie.Need-popped-if-requires
 popped-if-requires c κs = c .before .before .before .before .before .before .before .before .before .before .before .before .before .pre .host .low
@@ -71,7 +71,7 @@ pushed-if-requires c κs = let p = c .before .before .before .before .before .be
 returns : tie.Need-returns
 returns c = let start = c .before .before .before .before .before .before .before .before .before .before .before .before .before .before .before .before .before in
     let o = start .args in
-    assembled (o .settings) (o .date) (o .at) (o .host .now) (o .run-dates .now) (o .run-counts .now) (o .rx .now) (start .pre)
+    assembled (o .settings) (o .date) (o .at) (o .host .now) (o .run-at .now) (o .run-len .now) (o .rx .now) (start .pre)
     (c .before .before .before .before .before .before .before .before .before .before .before .before .waiting .ensures)
     (c .before .before .before .before .before .before .before .before .before .before .before .take-next-on-the-line .ensures)
     (c .before .before .before .before .before .before .before .before .before .before .is-stored .ensures)
@@ -96,14 +96,14 @@ take-next-on-the-line-spec =
     waiting-requires
     take-next-on-the-line-requires
     is-stored-requires
-    element-copy-out-chosen
+    element-copy-out-choose
     choose-requires
     element-copy-out-old
     choose-requires-2
     element-write-rx
     less-if-requires
-    mul-run-counts
-    element-write-run-counts
+    mul-run-len
+    element-write-run-len
     popped-if-requires
     is-spent-requires
     popped-if-requires-2

@@ -1,4 +1,4 @@
--- `comes_later` meets its contract, case by case. Assumes nothing.
+-- `passes::comes_later` meets its contract, case by case. Assumes nothing.
 use borrow.Author.Needs.{needs}
 use Rattle.device.specs.Quiet.{comesLater}
 use Rattle.device.proofs.passes.comes_later.Statement.{statement}

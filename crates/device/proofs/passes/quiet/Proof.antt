@@ -1,4 +1,4 @@
--- `quiet` meets its contract, case by case. Assumes nothing.
+-- `passes::quiet` meets its contract, case by case. Assumes nothing.
 use borrow.Author.Needs.{needs}
 use Rattle.device.specs.Quiet.{quiet}
 use Rattle.device.proofs.passes.quiet.Statement.{statement}

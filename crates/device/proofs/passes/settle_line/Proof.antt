@@ -1,4 +1,4 @@
--- `settle_line` meets its contract: where nothing is due one pass is made, and else `passes` makes them. Assumes nothing.
+-- `passes::settle_line` meets its contract: where nothing is due one pass is made, and else `passes` makes them. Assumes nothing.
 use borrow.Author.Needs.{needs}
 use mathlib.Core.Path.{sym, _∙_}
 use Rattle.device.specs.Quiet.{quiet-ends}
@@ -27,7 +27,7 @@ returns : tie.Need-returns
 returns c = let start = c .before .before .before .before .before in
     let o = start .args in
     let w = rw (c .before .before .waiting .ensures) at (c .before .quiet .ensures) in
-    quiet-ends _ (o .date) (o .from) (o .host .now) (o .run-dates .now) (o .run-counts .now) (o .rx .now) (start .pre .0) (sym w ∙ c .if1 .taken)
+    quiet-ends _ (o .date) (o .from) (o .host .now) (o .run-at .now) (o .run-len .now) (o .rx .now) (start .pre .0) (sym w ∙ c .if1 .taken)
 
 returns-2 : tie.Need-returns-2
 returns-2 c = rw (c .before .before .before .settings .ensures) at (c .take-all-on-the-line .ensures)

@@ -1,4 +1,4 @@
--- `starts_later` meets its contract, case by case. Assumes nothing.
+-- `passes::starts_later` meets its contract, case by case. Assumes nothing.
 use borrow.Author.Needs.{needs}
 use Rattle.device.specs.Quiet.{startsLater}
 use Rattle.device.proofs.passes.starts_later.Statement.{statement}

@@ -1,4 +1,4 @@
--- `take_all_on_the_line` meets its contract: in any state with such a receive side, what the definition runs from where the loop
+-- `passes::take_all_on_the_line` meets its contract: in any state with such a receive side, what the definition runs from where the loop
 -- stands is what is left of what it runs from the start. The measure is how many passes are left. Assumes nothing.
 use borrow.Author.Needs.{needs}
 use native.Mathlib.Omega.{arith}
@@ -14,17 +14,17 @@ use Rattle.device.proofs.passes.take_all_on_the_line.Statement.{stateme
 use Rattle.device.proofs.passes.take_all_on_the_line.Tie as tie
 
 abbrev Inv-loop : tie.InvT-loop
-Inv-loop settings date host run-dates run-counts₀ rx₀ at₀ passes₀ overflows₀ run-counts rx at passes overflows =
-    Fit at host run-dates run-counts rx
+Inv-loop settings date host run-at run-len₀ rx₀ at₀ passes₀ overflows₀ run-len rx at passes overflows =
+    Fit at host run-at run-len rx
     × ((u : Uart ℕ ℕ)
-    → Ran settings date (behind settings date (with at host run-dates run-counts rx u) passes overflows)
-    (Settle.passes settings date (with at₀ host run-dates run-counts₀ rx₀ u)))
+    → Ran settings date (behind settings date (with at host run-at run-len rx u) passes overflows)
+    (Settle.passes settings date (with at₀ host run-at run-len₀ rx₀ u)))
     × (overflows ≤ passes)
-    × (Settle.passes settings date (with at₀ host run-dates run-counts₀ rx₀ blank) .passes ≤ 2052)
+    × (Settle.passes settings date (with at₀ host run-at run-len₀ rx₀ blank) .passes ≤ 2052)
 
 abbrev μ-loop : tie.MeasureT-loop
-μ-loop settings date host run-dates run-counts₀ rx₀ at₀ passes₀ overflows₀ run-counts rx at passes overflows =
-    Settle.passes settings date (with at₀ host run-dates run-counts₀ rx₀ blank) .passes - passes
+μ-loop settings date host run-at run-len₀ rx₀ at₀ passes₀ overflows₀ run-len rx at passes overflows =
+    Settle.passes settings date (with at₀ host run-at run-len₀ rx₀ blank) .passes - passes
 
 loop-holds : tie.Need-loop-holds Inv-loop μ-loop
 loop-holds c = (c .pre, λ u. ran-first (c .args .settings) (c .args .date) _, omega arith, few-passes _ _ _ _ _ _ _ (c .pre))
@@ -36,12 +36,12 @@ add-passes : tie.Need-add-passes Inv-loop μ-loop
 add-passes c = let k = c .before .before .before .before .loop .inv in
     omega (arith, k .1 blank .passes, k .3)
 
-overflows-requires : tie.Need-overflows-requires Inv-loop μ-loop
-overflows-requires c κs = search needs
+overflow-of-requires : tie.Need-overflow-of-requires Inv-loop μ-loop
+overflow-of-requires c κs = search needs
 
 add-overflows : tie.Need-add-overflows Inv-loop μ-loop
 add-overflows c = let k = c .before .before .before .before .before .loop .inv in
-    omega (arith, c .overflows .ensures, lost-low (c .before .before .take-next-on-the-line .result .found), k .1 blank .passes, k .2, k .3)
+    omega (arith, c .overflow-of .ensures, lost-low (c .before .before .take-next-on-the-line .result .found), k .1 blank .passes, k .2, k .3)
 
 goes-on-requires : tie.Need-goes-on-requires Inv-loop μ-loop
 goes-on-requires c κs = search needs
@@ -55,8 +55,8 @@ loop-again c = let o = c .before .before .before .before .before .before .before
     let p = c .before .before .before .before .take-next-on-the-line .ensures in
     let more = sym (c .before .goes-on .ensures) ∙ not-false (c .before .goes-on .result) (c .if1 .left) in (
       p .fit,
-      λ u. ran-more (o .settings) (o .date) (k .1 u) (p .one u) (c .before .before .overflows .ensures) more,
-      omega (arith, c .before .before .overflows .ensures, lost-low (c .before .before .before .before .take-next-on-the-line .result .found), k .2),
+      λ u. ran-more (o .settings) (o .date) (k .1 u) (p .one u) (c .before .before .overflow-of .ensures) more,
+      omega (arith, c .before .before .overflow-of .ensures, lost-low (c .before .before .before .before .take-next-on-the-line .result .found), k .2),
       k .3,
     )
 
@@ -65,7 +65,7 @@ returns c = let o = c .before .before .before .before .before .before .before .b
     let k = c .before .before .before .before .before .before .before .loop .inv in
     let p = c .before .before .before .before .take-next-on-the-line .ensures in
     let last = sym (c .before .goes-on .ensures) ∙ not-true (c .before .goes-on .result) (c .if1 .taken) in
-    record { fit = p .fit; all = λ u. ran-end (o .settings) (o .date) (k .1 u) (p .one u) (c .before .before .overflows .ensures) last }
+    record { fit = p .fit; all = λ u. ran-end (o .settings) (o .date) (k .1 u) (p .one u) (c .before .before .overflow-of .ensures) last }
 
 pub take-all-on-the-line-spec : {M : Type 1} → statement M
 take-all-on-the-line-spec =
@@ -76,7 +76,7 @@ take-all-on-the-line-spec =
     loop-holds
     take-next-on-the-line-requires
     add-passes
-    overflows-requires
+    overflow-of-requires
     add-overflows
     goes-on-requires
     loop-less

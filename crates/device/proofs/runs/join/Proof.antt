@@ -1,4 +1,4 @@
--- `join` meets its contract, by whether the last run is joined. Assumes nothing.
+-- `runs::join` meets its contract, by whether the last run is joined. Assumes nothing.
 use native.Mathlib.Omega.{arith}
 use mathlib.Core.Path.{sym, _∙_}
 use Rattle.device.specs.Joins.{joins-true, joins-false, grows, adds}
@@ -9,49 +9,49 @@ use Rattle.device.proofs.runs.join.Tie as tie
 last-requires : tie.Need-last-requires
 last-requires c κs = search needs
 
-mul-joins : tie.Need-mul-joins
-mul-joins c = search needs
+mul-joins-last : tie.Need-mul-joins-last
+mul-joins-last c = search needs
 
-element-copy-out-joins : tie.Need-element-copy-out-joins
-element-copy-out-joins c = omega (arith, c .last .ensures .1, c .before .pre .1, c .before .pre .2)
+element-copy-out-joins-last : tie.Need-element-copy-out-joins-last
+element-copy-out-joins-last c = omega (arith, c .last .ensures .1, c .before .pre .1, c .before .pre .2)
 
 joins-last-requires : tie.Need-joins-last-requires
 joins-last-requires c κs = search needs
 
-mul-run-counts : tie.Need-mul-run-counts
-mul-run-counts c = search needs
+mul-run-len : tie.Need-mul-run-len
+mul-run-len c = search needs
 
-element-copy-out-run-counts : tie.Need-element-copy-out-run-counts
-element-copy-out-run-counts c = omega (arith, c .before .before .before .last .ensures .1, c .before .before .before .before .pre .1, c .before .before .before .before .pre .2)
+element-copy-out-run-len : tie.Need-element-copy-out-run-len
+element-copy-out-run-len c = omega (arith, c .before .before .before .last .ensures .1, c .before .before .before .before .pre .1, c .before .before .before .before .pre .2)
 
-add-run-counts : tie.Need-add-run-counts
-add-run-counts c =
+add-run-len : tie.Need-add-run-len
+add-run-len c =
     let p = c .before .before .before .before .before .pre in
     let o = c .before .before .before .before .before .args in
     let test = sym (c .before .before .joins-last .ensures) ∙ c .before .if1 .taken in
     let early = rw (c .before .before .before .before .last .ensures .0) at (joins-true _ _ _ test) in
     rw (c .before .before .before .before .last .ensures .0) (omega (arith, p .3 .fits (early .0)))
 
-mul-run-counts-2 : tie.Need-mul-run-counts-2
-mul-run-counts-2 c = search needs
+mul-run-len-2 : tie.Need-mul-run-len-2
+mul-run-len-2 c = search needs
 
-element-write-run-counts : tie.Need-element-write-run-counts
-element-write-run-counts c = omega (arith, c .before .before .before .before .last .ensures .1, c .before .before .before .before .before .pre .1, c .before .before .before .before .before .pre .2)
+element-write-run-len : tie.Need-element-write-run-len
+element-write-run-len c = omega (arith, c .before .before .before .before .last .ensures .1, c .before .before .before .before .before .pre .1, c .before .before .before .before .before .pre .2)
 
 back-requires : tie.Need-back-requires
 back-requires c κs = search needs
 
-mul-run-dates : tie.Need-mul-run-dates
-mul-run-dates c = search needs
+mul-run-at : tie.Need-mul-run-at
+mul-run-at c = search needs
 
-element-write-run-dates : tie.Need-element-write-run-dates
-element-write-run-dates c = omega (arith, c .back .ensures .1, c .before .before .before .before .before .pre .1, c .before .before .before .before .before .pre .2)
+element-write-run-at : tie.Need-element-write-run-at
+element-write-run-at c = omega (arith, c .back .ensures .1, c .before .before .before .before .before .pre .1, c .before .before .before .before .before .pre .2)
 
-mul-run-counts-3 : tie.Need-mul-run-counts-3
-mul-run-counts-3 c = search needs
+mul-run-len-3 : tie.Need-mul-run-len-3
+mul-run-len-3 c = search needs
 
-element-write-run-counts-2 : tie.Need-element-write-run-counts-2
-element-write-run-counts-2 c = omega (arith, c .back .ensures .1, c .before .before .before .before .before .pre .1, c .before .before .before .before .before .pre .2)
+element-write-run-len-2 : tie.Need-element-write-run-len-2
+element-write-run-len-2 c = omega (arith, c .back .ensures .1, c .before .before .before .before .before .pre .1, c .before .before .before .before .before .pre .2)
 
 pushed-requires : tie.Need-pushed-requires
 pushed-requires c κs = omega (arith, c .before .before .before .before .before .pre .0 .few)
@@ -62,7 +62,7 @@ returns c =
     let o = c .before .before .before .before .before .args in
     let test = sym (c .before .before .joins-last .ensures) ∙ c .before .if1 .taken in
     let early = rw (c .before .before .before .before .last .ensures .0) at (joins-true _ _ _ test) in
-    rw (c .before .before .before .before .last .ensures .0) (grows (o .date) (o .n) (o .runs) (o .run-dates .now) (o .run-counts .now) (p .0) (p .1) (p .2) (early .0) (early .1))
+    rw (c .before .before .before .before .last .ensures .0) (grows (o .date) (o .n) (o .runs) (o .run-at .now) (o .run-len .now) (p .0) (p .1) (p .2) (early .0) (early .1))
 
 returns-2 : tie.Need-returns-2
 returns-2 c =
@@ -70,26 +70,26 @@ returns-2 c =
     let o = c .before .before .before .before .before .before .args in
     let test = sym (c .before .before .before .joins-last .ensures) ∙ c .before .before .if1 .left in
     let late = rw (c .before .before .before .before .before .last .ensures .0) at (joins-false _ _ _ test) in
-    rw (c .before .back .ensures .0, c .pushed .ensures) (adds (o .date) (o .n) (o .runs) (o .run-dates .now) (o .run-counts .now) (p .0) (p .1) (p .2) (p .3 .slot late) late)
+    rw (c .before .back .ensures .0, c .pushed .ensures) (adds (o .date) (o .n) (o .runs) (o .run-at .now) (o .run-len .now) (p .0) (p .1) (p .2) (p .3 .slot late) late)
 
 pub join-spec : {M : Type 1} → statement M
 join-spec =
     tie.close
     (tie.spec
     last-requires
-    mul-joins
-    element-copy-out-joins
+    mul-joins-last
+    element-copy-out-joins-last
     joins-last-requires
-    mul-run-counts
-    element-copy-out-run-counts
-    add-run-counts
-    mul-run-counts-2
-    element-write-run-counts
+    mul-run-len
+    element-copy-out-run-len
+    add-run-len
+    mul-run-len-2
+    element-write-run-len
     back-requires
-    mul-run-dates
-    element-write-run-dates
-    mul-run-counts-3
-    element-write-run-counts-2
+    mul-run-at
+    element-write-run-at
+    mul-run-len-3
+    element-write-run-len-2
     pushed-requires
     returns
     returns-2)

@@ -1,4 +1,4 @@
--- `joins_last` meets its contract, by the test. Assumes nothing.
+-- `runs::joins_last` meets its contract, by the test. Assumes nothing.
 use borrow.Author.Tests.{lt-ltb, le-ltb}
 use Rattle.model.specs.Numbers.{choose}
 use Rattle.device.specs.Joins.{joins}

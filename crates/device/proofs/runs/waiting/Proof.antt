@@ -1,4 +1,4 @@
--- `waiting` meets its contract, by the tests on the way. Assumes nothing.
+-- `runs::waiting` meets its contract, by the tests on the way. Assumes nothing.
 use borrow.Author.Tests.{lt-ltb, le-ltb}
 use Rattle.model.specs.Numbers.{choose}
 use Rattle.device.specs.Waits.{waitingAt}

@@ -1,4 +1,4 @@
--- `settling::settle` meets its contract: each call gives a part, and `settles` puts them together. Assumes nothing.
+-- `settle::settle` meets its contract: each call gives a part, and `settles` puts them together. Assumes nothing.
 use borrow.Author.Needs.{needs}
 use mathlib.Core.Path.{refl}
 use Rattle.device.specs.Wholes.{arrays}
@@ -16,7 +16,7 @@ leave-requires : tie.Need-leave-requires
 leave-requires c κs = let o = c .before .before .before .before .args in
     let p = c .before .before .before .before .pre in
     let few = c .before .gone .ensures .1 in
-    let a = arrays (o .gone-at .now) (o .flight .now) (o .tx .now) (o .host .now) (o .run-dates .now) (o .run-counts .now) (o .rx .now) in
+    let a = arrays (o .gone-at .now) (o .flight .now) (o .tx .now) (o .host .now) (o .run-at .now) (o .run-len .now) (o .rx .now) in
     (p .shape .flight, p .shape .tx, p .shape .flightSlots, p .shape .txSlots, few, room (o .core) a _ p few)
 
 tx-done-requires : tie.Need-tx-done-requires
@@ -28,7 +28,7 @@ reception-requires c κs = search needs
 settle-line-requires : tie.Need-settle-line-requires
 settle-line-requires c κs = let start = c .before .before .before .before .before .before .before .before .before .before .before in
     let o = start .args in
-    let a = arrays (o .gone-at .now) (o .flight .now) (o .tx .now) (o .host .now) (o .run-dates .now) (o .run-counts .now) (o .rx .now) in
+    let a = arrays (o .gone-at .now) (o .flight .now) (o .tx .now) (o .host .now) (o .run-at .now) (o .run-len .now) (o .rx .now) in
     (rw (c .before .before .reception .ensures) (fit (o .core) a _ (start .pre)), start .pre .within .periodHigh)
 
 assert-levels-requires : tie.Need-assert-levels-requires
@@ -43,7 +43,7 @@ together-requires c κs = search needs
 returns : tie.Need-returns
 returns c = let start = c .before .before .before .before .before .before .before .before .before .before .before .before .before .before .before .before .before in
     let o = start .args in
-    let a = arrays (o .gone-at .now) (o .flight .now) (o .tx .now) (o .host .now) (o .run-dates .now) (o .run-counts .now) (o .rx .now) in
+    let a = arrays (o .gone-at .now) (o .flight .now) (o .tx .now) (o .host .now) (o .run-at .now) (o .run-len .now) (o .rx .now) in
     let runs = rw (c .before .before .before .before .before .before .before .before .reception .ensures) at (c .before .before .before .before .before .settle-line .ensures) in
     rw (c .together .ensures)
     (settles (o .cycle) (o .core) a (start .pre)

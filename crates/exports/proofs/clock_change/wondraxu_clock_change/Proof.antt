@@ -1,4 +1,4 @@
--- `wondraxu_clock_change` meets its contract, which is that of `clock_change` over the core that was meant. Assumes nothing.
+-- `clock_change::wondraxu_clock_change` meets its contract, which is that of `clock_change` over the core that was meant. Assumes nothing.
 use Rattle.ffi.specs.Answers.{ok-of, plainly}
 use Rattle.exports.proofs.clock_change.wondraxu_clock_change.Statement.{statement}
 use Rattle.exports.proofs.clock_change.wondraxu_clock_change.Tie as tie

@@ -1,4 +1,4 @@
--- `made` meets its contract: the core that set-up makes, and its reply, in plain numbers. Assumes nothing.
+-- `new::made` meets its contract: the core that set-up makes, and its reply, in plain numbers. Assumes nothing.
 use native.Mathlib.Omega.{arith}
 use mathlib.Core.Path.{ap, _∙_}
 use Rattle.ffi.specs.Plain.{plainCore}

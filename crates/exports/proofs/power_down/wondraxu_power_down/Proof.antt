@@ -1,4 +1,4 @@
--- `wondraxu_power_down` meets its contract, which is that of `power_down` over the core that was meant. Assumes nothing.
+-- `power_down::wondraxu_power_down` meets its contract, which is that of `power_down` over the core that was meant. Assumes nothing.
 use Rattle.ffi.specs.Answers.{ok-of, plainly}
 use Rattle.exports.proofs.power_down.wondraxu_power_down.Statement.{statement}
 use Rattle.exports.proofs.power_down.wondraxu_power_down.Tie as tie

@@ -1,4 +1,4 @@
--- `wondraxu_has_left` meets its contract, which is that of `has_left` over the core that was meant. Assumes nothing.
+-- `queries::wondraxu_has_left` meets its contract, which is that of `has_left` over the core that was meant. Assumes nothing.
 use Rattle.exports.proofs.queries.wondraxu_has_left.Statement.{statement}
 use Rattle.exports.proofs.queries.wondraxu_has_left.Tie as tie
 

@@ -1,4 +1,4 @@
--- `wondraxu_host_pending` meets its contract, which is that of `host_pending` over the core that was meant. Assumes nothing.
+-- `queries::wondraxu_host_pending` meets its contract, which is that of `host_pending` over the core that was meant. Assumes nothing.
 use Rattle.exports.proofs.queries.wondraxu_host_pending.Statement.{statement}
 use Rattle.exports.proofs.queries.wondraxu_host_pending.Tie as tie
 

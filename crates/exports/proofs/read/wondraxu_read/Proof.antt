@@ -1,4 +1,4 @@
--- `wondraxu_read` meets its contract, which is that of `read` over the core that was meant. Assumes nothing.
+-- `read::wondraxu_read` meets its contract, which is that of `read` over the core that was meant. Assumes nothing.
 use Rattle.ffi.specs.Answers.{ok-of, plainly}
 use Rattle.exports.proofs.read.wondraxu_read.Statement.{statement}
 use Rattle.exports.proofs.read.wondraxu_read.Tie as tie

@@ -1,4 +1,4 @@
--- `wondraxu_receive` meets its contract, which is that of `receive` over the core that was meant. Assumes nothing.
+-- `receive::wondraxu_receive` meets its contract, which is that of `receive` over the core that was meant. Assumes nothing.
 use Rattle.ffi.specs.Answers.{ok-of, plainly}
 use Rattle.exports.proofs.receive.wondraxu_receive.Statement.{statement}
 use Rattle.exports.proofs.receive.wondraxu_receive.Tie as tie

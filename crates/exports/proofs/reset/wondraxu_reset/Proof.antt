@@ -1,4 +1,4 @@
--- `wondraxu_reset` meets its contract, which is that of `reset` over the core that was meant. Assumes nothing.
+-- `reset::wondraxu_reset` meets its contract, which is that of `reset` over the core that was meant. Assumes nothing.
 use Rattle.ffi.specs.Answers.{ok-of, plainly}
 use Rattle.exports.proofs.reset.wondraxu_reset.Statement.{statement}
 use Rattle.exports.proofs.reset.wondraxu_reset.Tie as tie

@@ -1,4 +1,4 @@
--- `wondraxu_take_tx` meets its contract, which is that of `take_tx` over the core that was meant. Assumes nothing.
+-- `take_tx::wondraxu_take_tx` meets its contract, which is that of `take_tx` over the core that was meant. Assumes nothing.
 use borrow.Author.Needs.{needs}
 use Rattle.ffi.specs.Answers.{ok-of, plainly}
 use Rattle.exports.proofs.take_tx.wondraxu_take_tx.Statement.{statement}

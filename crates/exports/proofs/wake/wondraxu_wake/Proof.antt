@@ -1,4 +1,4 @@
--- `wondraxu_wake` meets its contract, which is that of `wake` over the core that was meant. Assumes nothing.
+-- `wake::wondraxu_wake` meets its contract, which is that of `wake` over the core that was meant. Assumes nothing.
 use Rattle.ffi.specs.Answers.{ok-of, plainly}
 use Rattle.exports.proofs.wake.wondraxu_wake.Statement.{statement}
 use Rattle.exports.proofs.wake.wondraxu_wake.Tie as tie

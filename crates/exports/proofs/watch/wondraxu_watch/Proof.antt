@@ -1,4 +1,4 @@
--- `wondraxu_watch` meets its contract, which is that of `watch` over the core that was meant. Assumes nothing.
+-- `watch::wondraxu_watch` meets its contract, which is that of `watch` over the core that was meant. Assumes nothing.
 use Rattle.ffi.specs.Answers.{ok-of, plainly}
 use Rattle.exports.proofs.watch.wondraxu_watch.Statement.{statement}
 use Rattle.exports.proofs.watch.wondraxu_watch.Tie as tie

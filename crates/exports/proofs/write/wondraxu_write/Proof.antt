@@ -1,4 +1,4 @@
--- `wondraxu_write` meets its contract, which is that of `write` over the core that was meant. Assumes nothing.
+-- `write::wondraxu_write` meets its contract, which is that of `write` over the core that was meant. Assumes nothing.
 use Rattle.ffi.specs.Answers.{ok-of, plainly}
 use Rattle.exports.proofs.write.wondraxu_write.Statement.{statement}
 use Rattle.exports.proofs.write.wondraxu_write.Tie as tie

@@ -1,4 +1,4 @@
--- `answer` meets its contract. Assumes nothing.
+-- `answers::answer` meets its contract. Assumes nothing.
 use Rattle.ffi.proofs.answers.answer.Statement.{statement}
 use Rattle.ffi.proofs.answers.answer.Tie as tie
 

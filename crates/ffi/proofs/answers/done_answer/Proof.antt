@@ -1,4 +1,4 @@
--- `done_answer` meets its contract. Assumes nothing.
+-- `answers::done_answer` meets its contract. Assumes nothing.
 use Rattle.ffi.proofs.answers.done_answer.Statement.{statement}
 use Rattle.ffi.proofs.answers.done_answer.Tie as tie
 

@@ -1,4 +1,4 @@
--- `read_answer` meets its contract. Assumes nothing.
+-- `answers::read_answer` meets its contract. Assumes nothing.
 use Rattle.ffi.proofs.answers.read_answer.Statement.{statement}
 use Rattle.ffi.proofs.answers.read_answer.Tie as tie
 

@@ -1,4 +1,4 @@
--- `taken_answer` meets its contract. Assumes nothing.
+-- `answers::taken_answer` meets its contract. Assumes nothing.
 use Rattle.ffi.proofs.answers.taken_answer.Statement.{statement}
 use Rattle.ffi.proofs.answers.taken_answer.Tie as tie
 

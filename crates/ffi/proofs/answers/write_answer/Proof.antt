@@ -1,4 +1,4 @@
--- `write_answer` meets its contract. Assumes nothing.
+-- `answers::write_answer` meets its contract. Assumes nothing.
 use Rattle.ffi.proofs.answers.write_answer.Statement.{statement}
 use Rattle.ffi.proofs.answers.write_answer.Tie as tie
 

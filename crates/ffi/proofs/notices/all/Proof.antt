@@ -1,4 +1,4 @@
--- `all` meets its contract. Assumes nothing.
+-- `notices::all` meets its contract. Assumes nothing.
 use borrow.Author.Needs.{needs}
 use Rattle.ffi.specs.Notes.{plainAll}
 use Rattle.ffi.proofs.notices.all.Statement.{statement}

@@ -1,4 +1,4 @@
--- `mode_number` meets its contract, case by case. Assumes nothing.
+-- `notices::mode_number` meets its contract, case by case. Assumes nothing.
 use mathlib.Core.Path.{ap, sym}
 use borrow.Author.Needs.{needs}
 use Rattle.ffi.specs.Notes.{modeNumber}

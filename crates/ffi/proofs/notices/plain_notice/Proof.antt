@@ -1,4 +1,4 @@
--- `plain_notice` meets its contract, case by case. Assumes nothing.
+-- `notices::plain_notice` meets its contract, case by case. Assumes nothing.
 use mathlib.Core.Path.{ap, sym}
 use borrow.Author.Needs.{needs}
 use Rattle.ffi.specs.Notes.{plainUnsupported}

@@ -1,4 +1,4 @@
--- `plain_notices` meets its contract. Assumes nothing.
+-- `notices::plain_notices` meets its contract. Assumes nothing.
 use borrow.Author.Tests.{eq-eqb, ne-eqb}
 use Rattle.model.specs.Numbers.{choose}
 use Rattle.ffi.specs.Notes.{plainNotices}

@@ -1,4 +1,4 @@
--- `number_of` meets its contract, case by case. Assumes nothing.
+-- `replies::number_of` meets its contract, case by case. Assumes nothing.
 use mathlib.Core.Path.{ap, sym}
 use borrow.Author.Needs.{needs}
 use Rattle.model.specs.Replies.{number}

@@ -1,4 +1,4 @@
--- `plain_report` meets its contract. Assumes nothing.
+-- `replies::plain_report` meets its contract. Assumes nothing.
 use Rattle.ffi.specs.Replies.{plainReport}
 use Rattle.ffi.proofs.replies.plain_report.Statement.{statement}
 use Rattle.ffi.proofs.replies.plain_report.Tie as tie

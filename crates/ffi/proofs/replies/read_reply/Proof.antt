@@ -1,4 +1,4 @@
--- `read_reply` meets its contract, case by case. Assumes nothing.
+-- `replies::read_reply` meets its contract, case by case. Assumes nothing.
 use mathlib.Core.Path.{ap, sym, _∙_}
 use borrow.Author.Needs.{needs}
 use Rattle.ffi.specs.Replies.{plainRead}

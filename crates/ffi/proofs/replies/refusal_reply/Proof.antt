@@ -1,4 +1,4 @@
--- `refusal_reply` meets its contract. Assumes nothing.
+-- `replies::refusal_reply` meets its contract. Assumes nothing.
 use Rattle.ffi.proofs.replies.refusal_reply.Statement.{statement}
 use Rattle.ffi.proofs.replies.refusal_reply.Tie as tie
 

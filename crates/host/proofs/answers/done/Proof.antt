@@ -1,4 +1,4 @@
--- `taking::done` meets its contract. Assumes nothing.
+-- `answers::done` meets its contract. Assumes nothing.
 use Rattle.host.proofs.answers.done.Statement.{statement}
 use Rattle.host.proofs.answers.done.Tie as tie
 

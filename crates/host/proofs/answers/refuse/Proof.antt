@@ -1,4 +1,4 @@
--- `taking::refuse` meets its contract. Assumes nothing.
+-- `answers::refuse` meets its contract. Assumes nothing.
 use Rattle.host.proofs.answers.refuse.Statement.{statement}
 use Rattle.host.proofs.answers.refuse.Tie as tie
 

@@ -1,4 +1,4 @@
--- `taking::undated` meets its contract. Assumes nothing.
+-- `answers::undated` meets its contract. Assumes nothing.
 use Rattle.host.proofs.answers.undated.Statement.{statement}
 use Rattle.host.proofs.answers.undated.Tie as tie
 

@@ -1,4 +1,4 @@
--- `carry_out` meets its contract: settled, and handed over. Assumes nothing.
+-- `receive::carry_out` meets its contract: settled, and handed over. Assumes nothing.
 use Rattle.model.specs.Calls.{hostDate}
 use Rattle.host.specs.Receives.{takes, received}
 use Rattle.host.proofs.receive.carry_out.Statement.{statement}

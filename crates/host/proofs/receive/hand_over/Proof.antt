@@ -1,4 +1,4 @@
--- `hand_over` meets its contract: none changes nothing, and others wait behind those that do. Assumes nothing.
+-- `receive::hand_over` meets its contract: none changes nothing, and others wait behind those that do. Assumes nothing.
 use native.Mathlib.Omega.{arith}
 use Rattle.host.specs.Hands.{hands-none, hands-some}
 use Rattle.host.proofs.receive.hand_over.Statement.{statement}
@@ -7,7 +7,7 @@ use Rattle.host.proofs.receive.hand_over.Tie as tie
 returns : tie.Need-returns
 returns c =
     let o = c .before .before .args in
-    hands-none (o .date) (o .bytes .now) (o .core) (o .gone-at .now) (o .host .now) (o .run-dates .now) (o .run-counts .now) (c .if1 .taken)
+    hands-none (o .date) (o .bytes .now) (o .core) (o .gone-at .now) (o .host .now) (o .run-at .now) (o .run-len .now) (c .if1 .taken)
 
 append-requires : tie.Need-append-requires
 append-requires c κs =
@@ -31,7 +31,7 @@ returns-2 c =
     let o = start .args in
     let put = c .before .before .before .before .before .append .ensures in
     let some-byte = c .before .before .before .before .before .before .before .if1 .left in
-    hands-some (o .date) (o .bytes .now) (o .core) (o .gone-at .now) (o .host .now) (o .run-dates .now) (o .run-counts .now) (omega (arith, some-byte))
+    hands-some (o .date) (o .bytes .now) (o .core) (o .gone-at .now) (o .host .now) (o .run-at .now) (o .run-len .now) (omega (arith, some-byte))
     (start .pre .room (omega (arith, some-byte))) (put .1) (c .before .before .join .ensures) (put .0) (c .arm .ensures)
 
 pub hand-over-spec : {M : Type 1} → statement M

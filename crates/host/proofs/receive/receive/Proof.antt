@@ -1,4 +1,4 @@
--- `receive` meets its contract: refused as the tests say, or carried out. Assumes nothing.
+-- `receive::receive` meets its contract: refused as the tests say, or carried out. Assumes nothing.
 use Rattle.model.specs.Calls.{receive, receiveWork}
 use Rattle.model.specs.Keeps.EachCall.{receive-within}
 use Rattle.calls.specs.Answers.{passes, refuses}
@@ -29,7 +29,7 @@ carry-out-requires : tie.Need-carry-out-requires
 carry-out-requires c κs =
     let start = c .before .before .before .before .before .before .before .before .before .before .before .before .before in
     let o = start .args in
-    left-room (o .cycle) (o .at) (o .bytes .now) (start .pre) (c .before .before .before .before .before .before .before .before .before .last-date .ensures (o .run-counts .now)) (c .before .before .before .before .before .before .before .before .host-date .ensures)
+    left-room (o .cycle) (o .at) (o .bytes .now) (start .pre) (c .before .before .before .before .before .before .before .before .before .last-date .ensures (o .run-len .now)) (c .before .before .before .before .before .before .before .before .host-date .ensures)
     (passes (c .before .before .before .before .before .before .before .receive-refusal .ensures) (c .before .before .before .before .before .enum-told .given .1))
 
 returns : tie.Need-returns
@@ -37,7 +37,7 @@ returns c =
     let start = c .before .before .before .before .before .before .before .before .before .before in
     let o = start .args in
     done-refused (receive (o .cycle) (o .at) (o .bytes .now)) (receiveWork (o .cycle) (o .at) (o .bytes .now)) (start .pre)
-    (receive-checks (o .cycle) (o .at) (o .bytes .now) (start .pre) (c .before .before .before .before .before .before .last-date .ensures (o .run-counts .now)) (c .before .before .before .before .before .host-date .ensures))
+    (receive-checks (o .cycle) (o .at) (o .bytes .now) (start .pre) (c .before .before .before .before .before .before .last-date .ensures (o .run-len .now)) (c .before .before .before .before .before .host-date .ensures))
     (refuses (c .before .before .before .before .receive-refusal .ensures) (c .before .before .tests .given .1)) (c .refuse .ensures)
 
 returns-2 : tie.Need-returns-2
@@ -45,7 +45,7 @@ returns-2 c =
     let start = c .before .before .before .before .before .before .before .before .before .before .before .before .before .before in
     let o = start .args in
     done-carried (receive (o .cycle) (o .at) (o .bytes .now)) (receiveWork (o .cycle) (o .at) (o .bytes .now)) (start .pre)
-    (receive-checks (o .cycle) (o .at) (o .bytes .now) (start .pre) (c .before .before .before .before .before .before .before .before .before .before .last-date .ensures (o .run-counts .now)) (c .before .before .before .before .before .before .before .before .before .host-date .ensures))
+    (receive-checks (o .cycle) (o .at) (o .bytes .now) (start .pre) (c .before .before .before .before .before .before .before .before .before .before .last-date .ensures (o .run-len .now)) (c .before .before .before .before .before .before .before .before .before .host-date .ensures))
     (passes (c .before .before .before .before .before .before .before .before .receive-refusal .ensures) (c .before .before .before .before .before .before .enum-told .given .1)) (receive-within (o .cycle) (o .at) (o .bytes .now) _ (start .pre .within))
     (receive-zero (o .cycle) _ (o .at) (o .bytes .now)) (c .carry-out .ensures)
 

@@ -1,4 +1,4 @@
--- `carry_out` meets its contract: settled, and what left copied out. Assumes nothing.
+-- `take_tx::carry_out` meets its contract: settled, and what left copied out. Assumes nothing.
 use native.Mathlib.Omega.{arith}
 use Rattle.host.specs.TakesTx.{tx-taken}
 use borrow.Author.Needs.{needs}

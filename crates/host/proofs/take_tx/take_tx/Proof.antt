@@ -1,4 +1,4 @@
--- `take_tx` meets its contract: refused as the tests say, or carried out. Assumes nothing.
+-- `take_tx::take_tx` meets its contract: refused as the tests say, or carried out. Assumes nothing.
 use mathlib.Core.Option.{none}
 use borrow.Author.Tests.{ltb-false}
 use Rattle.model.specs.Tests.{bufferTooShort}

@@ -1,4 +1,4 @@
--- `fill` meets its contract: the second copy stands after the first. Assumes nothing.
+-- `take_written::fill` meets its contract: the second copy stands after the first. Assumes nothing.
 use mathlib.Core.Path.{refl}
 use Rattle.queue.specs.CopyOut.{copied-after}
 use borrow.Author.Needs.{needs}

@@ -1,4 +1,4 @@
--- `take_written` meets its contract: refused as the test says, or carried out. Assumes nothing.
+-- `take_written::take_written` meets its contract: refused as the test says, or carried out. Assumes nothing.
 use mathlib.Core.Path.{refl}
 use mathlib.Core.Option.{none}
 use borrow.Author.Tests.{ltb-false}

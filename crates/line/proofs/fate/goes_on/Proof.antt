@@ -1,4 +1,4 @@
--- `finds::goes_on` meets its contract, case by case. Assumes nothing.
+-- `fate::goes_on` meets its contract, case by case. Assumes nothing.
 use Rattle.model.specs.Settle.{goesOn}
 use Rattle.line.proofs.fate.goes_on.Statement.{statement}
 use Rattle.line.proofs.fate.goes_on.Tie as tie

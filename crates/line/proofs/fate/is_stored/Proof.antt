@@ -1,4 +1,4 @@
--- `finds::is_stored` meets its contract, case by case. Assumes nothing.
+-- `fate::is_stored` meets its contract, case by case. Assumes nothing.
 use Rattle.line.specs.Applied.{isStored}
 use Rattle.line.proofs.fate.is_stored.Statement.{statement}
 use Rattle.line.proofs.fate.is_stored.Tie as tie

@@ -1,4 +1,4 @@
--- `frames::frame` meets its contract. Assumes nothing.
+-- `frame::frame` meets its contract. Assumes nothing.
 use mathlib.Core.Path.{refl}
 use Rattle.model.specs.Line.{frame}
 use Rattle.line.proofs.frame.frame.Statement.{statement}

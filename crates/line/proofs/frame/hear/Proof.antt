@@ -1,4 +1,4 @@
--- `frames::hear` meets its contract, by the test of the receiver's clock. Assumes nothing.
+-- `frame::hear` meets its contract, by the test of the receiver's clock. Assumes nothing.
 use Rattle.model.specs.Numbers.{choose}
 use Rattle.line.proofs.frame.hear.Statement.{statement}
 use Rattle.line.proofs.frame.hear.Tie as tie

@@ -1,4 +1,4 @@
--- `frames::land` meets its contract, case by case. Assumes nothing.
+-- `frame::land` meets its contract, case by case. Assumes nothing.
 use Rattle.model.specs.Line.{raiseIf, land}
 use Rattle.line.proofs.frame.land.Statement.{statement}
 use Rattle.line.proofs.frame.land.Tie as tie

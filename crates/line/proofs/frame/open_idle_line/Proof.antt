@@ -1,4 +1,4 @@
--- `frames::open_idle_line` meets its contract. Assumes nothing.
+-- `frame::open_idle_line` meets its contract. Assumes nothing.
 use Rattle.model.specs.Line.{opened}
 use Rattle.line.proofs.frame.open_idle_line.Statement.{statement}
 use Rattle.line.proofs.frame.open_idle_line.Tie as tie

@@ -1,4 +1,4 @@
--- `frames::start` meets its contract. Assumes nothing.
+-- `frame::start` meets its contract. Assumes nothing.
 use Rattle.model.specs.Line.{start}
 use Rattle.line.proofs.frame.start.Statement.{statement}
 use Rattle.line.proofs.frame.start.Tie as tie

@@ -1,4 +1,4 @@
--- `settling::above_full` meets its contract. Assumes nothing.
+-- `levels::above_full` meets its contract. Assumes nothing.
 use Rattle.model.specs.Settle.{aboveFull}
 use Rattle.line.proofs.levels.above_full.Statement.{statement}
 use Rattle.line.proofs.levels.above_full.Tie as tie

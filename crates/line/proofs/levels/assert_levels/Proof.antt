@@ -1,4 +1,4 @@
--- `settling::assert_levels` meets its contract. Assumes nothing.
+-- `levels::assert_levels` meets its contract. Assumes nothing.
 use Rattle.model.specs.Line.{raiseIf}
 use Rattle.line.specs.Levels.{levels}
 use Rattle.line.proofs.levels.assert_levels.Statement.{statement}

@@ -1,4 +1,4 @@
--- `settling::below_empty` meets its contract. Assumes nothing.
+-- `levels::below_empty` meets its contract. Assumes nothing.
 use Rattle.model.specs.Settle.{belowEmpty, emptyThreshold}
 use Rattle.line.proofs.levels.below_empty.Statement.{statement}
 use Rattle.line.proofs.levels.below_empty.Tie as tie

@@ -1,4 +1,4 @@
--- `settling::in_fifo` meets its contract. Assumes nothing.
+-- `levels::in_fifo` meets its contract. Assumes nothing.
 use Rattle.model.specs.Settle.{inFifo}
 use borrow.Author.Needs.{needs}
 use native.Mathlib.Omega.{arith}

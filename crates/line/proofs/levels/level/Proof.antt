@@ -1,4 +1,4 @@
--- `settling::level` meets its contract. Assumes nothing.
+-- `levels::level` meets its contract. Assumes nothing.
 use Rattle.line.proofs.levels.level.Statement.{statement}
 use Rattle.line.proofs.levels.level.Tie as tie
 

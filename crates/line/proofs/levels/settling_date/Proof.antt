@@ -1,4 +1,4 @@
--- `settling::settling_date` meets its contract, by cases on the power-down. Assumes nothing.
+-- `levels::settling_date` meets its contract, by cases on the power-down. Assumes nothing.
 use Rattle.model.specs.Settle.{noLaterThan}
 use Rattle.line.proofs.levels.settling_date.Statement.{statement}
 use Rattle.line.proofs.levels.settling_date.Tie as tie

@@ -1,4 +1,4 @@
--- `settling::tx_done` meets its contract, by the first test. Assumes nothing.
+-- `levels::tx_done` meets its contract, by the first test. Assumes nothing.
 use borrow.Author.Tests.{lt-ltb, le-ltb}
 use Rattle.model.specs.Numbers.{choose}
 use Rattle.model.specs.Line.{raiseIf}

@@ -1,4 +1,4 @@
--- `arming::arm` meets its contract: each instant in turn. Assumes nothing.
+-- `next::arm` meets its contract: each instant in turn. Assumes nothing.
 use Rattle.model.specs.Arm.{armAll}
 use Rattle.line.proofs.next.arm.Statement.{statement}
 use Rattle.line.proofs.next.arm.Tie as tie

@@ -1,4 +1,4 @@
--- `arming::below_threshold` meets its contract, by the tests on the way. Assumes nothing.
+-- `next::below_threshold` meets its contract, by the tests on the way. Assumes nothing.
 use borrow.Author.Tests.{lt-ltb, le-ltb}
 use Rattle.model.specs.Numbers.{choose}
 use Rattle.model.specs.Settle.{emptyThreshold}

@@ -1,4 +1,4 @@
--- `arming::next_landing` meets its contract, by cases on what is on the line. Assumes nothing.
+-- `next::next_landing` meets its contract, by cases on what is on the line. Assumes nothing.
 use Rattle.line.specs.Instants.{nextLanding}
 use Rattle.line.proofs.next.next_landing.Statement.{statement}
 use Rattle.line.proofs.next.next_landing.Tie as tie

@@ -1,4 +1,4 @@
--- `arming::next_start` meets its contract, case by case. Assumes nothing.
+-- `next::next_start` meets its contract, case by case. Assumes nothing.
 use Rattle.line.specs.Instants.{nextStart}
 use Rattle.line.proofs.next.next_start.Statement.{statement}
 use Rattle.line.proofs.next.next_start.Tie as tie

@@ -1,4 +1,4 @@
--- `arming::only_if` meets its contract, by the test. Assumes nothing.
+-- `next::only_if` meets its contract, by the test. Assumes nothing.
 use Rattle.model.specs.Numbers.{onlyIf}
 use Rattle.line.proofs.next.only_if.Statement.{statement}
 use Rattle.line.proofs.next.only_if.Tie as tie

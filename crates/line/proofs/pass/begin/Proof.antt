@@ -1,4 +1,4 @@
--- `passes::begin` meets its contract, by cases on what is on the line. Assumes nothing.
+-- `pass::begin` meets its contract, by cases on what is on the line. Assumes nothing.
 use borrow.Author.Needs.{needs}
 use Rattle.line.specs.Begins.{begun}
 use Rattle.line.proofs.pass.begin.Statement.{statement}

@@ -1,4 +1,4 @@
--- `passes::idle` meets its contract, by the timeout's date. Assumes nothing.
+-- `pass::idle` meets its contract, by the timeout's date. Assumes nothing.
 use Rattle.model.specs.Numbers.{choose}
 use Rattle.line.specs.Moves.{idle}
 use Rattle.line.proofs.pass.idle.Statement.{statement}

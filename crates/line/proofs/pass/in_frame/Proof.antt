@@ -1,4 +1,4 @@
--- `passes::in_frame` meets its contract, by the tests on the way. Assumes nothing.
+-- `pass::in_frame` meets its contract, by the tests on the way. Assumes nothing.
 use borrow.Author.Tests.{lt-ltb, le-ltb}
 use Rattle.model.specs.Numbers.{choose}
 use Rattle.line.specs.Moves.{inFrame}

@@ -1,4 +1,4 @@
--- `passes::land` meets its contract. Assumes nothing.
+-- `pass::land` meets its contract. Assumes nothing.
 use Rattle.line.specs.Moves.{landing}
 use Rattle.line.proofs.pass.land.Statement.{statement}
 use Rattle.line.proofs.pass.land.Tie as tie

@@ -1,4 +1,4 @@
--- `passes::line_free` meets its contract, by cases on whether a host byte waits. Assumes nothing.
+-- `pass::line_free` meets its contract, by cases on whether a host byte waits. Assumes nothing.
 use borrow.Author.Needs.{needs}
 use Rattle.line.specs.Begins.{lineFree}
 use Rattle.line.proofs.pass.line_free.Statement.{statement}

@@ -1,4 +1,4 @@
--- `passes::rest` meets its contract. Assumes nothing.
+-- `pass::rest` meets its contract. Assumes nothing.
 use mathlib.Core.Path.{refl}
 use Rattle.line.specs.Moves.{resting}
 use Rattle.line.proofs.pass.rest.Statement.{statement}

@@ -1,4 +1,4 @@
--- `passes::start` meets its contract, by the tests on the way. Assumes nothing.
+-- `pass::start` meets its contract, by the tests on the way. Assumes nothing.
 use borrow.Author.Tests.{lt-ltb, le-ltb}
 use Rattle.model.specs.Numbers.{choose}
 use Rattle.line.specs.Begins.{started}

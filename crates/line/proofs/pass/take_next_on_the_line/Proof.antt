@@ -1,4 +1,4 @@
--- `passes::take_next_on_the_line` meets its contract: its two steps are the move. Assumes nothing.
+-- `pass::take_next_on_the_line` meets its contract: its two steps are the move. Assumes nothing.
 use borrow.Author.Needs.{needs}
 use Rattle.line.specs.Begins.{moveOn, moved}
 use Rattle.line.proofs.pass.take_next_on_the_line.Statement.{statement}

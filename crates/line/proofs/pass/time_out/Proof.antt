@@ -1,4 +1,4 @@
--- `passes::time_out` meets its contract. Assumes nothing.
+-- `pass::time_out` meets its contract. Assumes nothing.
 use Rattle.line.specs.Moves.{timingOut}
 use Rattle.line.proofs.pass.time_out.Statement.{statement}
 use Rattle.line.proofs.pass.time_out.Tie as tie

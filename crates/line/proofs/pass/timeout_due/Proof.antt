@@ -1,4 +1,4 @@
--- `passes::timeout_due` meets its contract. Assumes nothing.
+-- `pass::timeout_due` meets its contract. Assumes nothing.
 use Rattle.line.proofs.pass.timeout_due.Statement.{statement}
 use Rattle.line.proofs.pass.timeout_due.Tie as tie
 

@@ -1,4 +1,4 @@
--- `queue::Cursor::back` meets its contract, by that of `nth`. Assumes nothing.
+-- `Cursor::back` meets its contract, by that of `nth`. Assumes nothing.
 use borrow.Author.Needs.{needs}
 use Rattle.queue.proofs.Cursor.back.Statement.{statement}
 use Rattle.queue.proofs.Cursor.back.Tie as tie

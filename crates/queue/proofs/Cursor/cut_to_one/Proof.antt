@@ -1,4 +1,4 @@
--- `queue::Cursor::cut_to_one` meets its contract, by that of `smaller`. Assumes nothing.
+-- `Cursor::cut_to_one` meets its contract, by that of `smaller`. Assumes nothing.
 use borrow.Author.Needs.{needs}
 use Rattle.queue.proofs.Cursor.cut_to_one.Statement.{statement}
 use Rattle.queue.proofs.Cursor.cut_to_one.Tie as tie

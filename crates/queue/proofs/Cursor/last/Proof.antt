@@ -1,4 +1,4 @@
--- `queue::Cursor::last` meets its contract, by those of `less_one` and `nth`. Assumes nothing.
+-- `Cursor::last` meets its contract, by those of `less_one` and `nth`. Assumes nothing.
 use mathlib.Core.Path.{ap, _∙_}
 use Prim.Native.Nat.{ℕ}
 use borrow.Author.Needs.{needs}

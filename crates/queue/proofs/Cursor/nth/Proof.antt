@@ -1,4 +1,4 @@
--- `queue::Cursor::nth` meets its contract: a place less than two rounds on has a slot. Assumes nothing.
+-- `Cursor::nth` meets its contract: a place less than two rounds on has a slot. Assumes nothing.
 use Prim.Native.Nat.{_+_}
 use borrow.Author.Needs.{needs}
 use native.Mathlib.Omega.{arith}

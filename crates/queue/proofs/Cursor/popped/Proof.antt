@@ -1,4 +1,4 @@
--- `queue::Cursor::popped` meets its contract, by those of `slot` and `less_one`. Assumes nothing.
+-- `Cursor::popped` meets its contract, by those of `slot` and `less_one`. Assumes nothing.
 use borrow.Author.Needs.{needs}
 use Rattle.queue.proofs.Cursor.popped.Statement.{statement}
 use Rattle.queue.proofs.Cursor.popped.Tie as tie

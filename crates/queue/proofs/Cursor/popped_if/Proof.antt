@@ -1,4 +1,4 @@
--- `queue::Cursor::popped_if` meets its contract, by the test and by that of `popped`. Assumes nothing.
+-- `Cursor::popped_if` meets its contract, by the test and by that of `popped`. Assumes nothing.
 use borrow.Author.Needs.{needs}
 use Rattle.queue.specs.Cursors.{poppedIf}
 use Rattle.queue.proofs.Cursor.popped_if.Statement.{statement}

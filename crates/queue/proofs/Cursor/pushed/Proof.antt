@@ -1,4 +1,4 @@
--- `queue::Cursor::pushed` meets its contract: its fields are those that the definition has. Assumes nothing.
+-- `Cursor::pushed` meets its contract: its fields are those that the definition has. Assumes nothing.
 use mathlib.Core.Path.{refl}
 use borrow.Author.Needs.{needs}
 use Rattle.queue.proofs.Cursor.pushed.Statement.{statement}

@@ -1,4 +1,4 @@
--- `queue::Cursor::pushed_if` meets its contract, by the test and by that of `pushed`. Assumes nothing.
+-- `Cursor::pushed_if` meets its contract, by the test and by that of `pushed`. Assumes nothing.
 use borrow.Author.Needs.{needs}
 use Rattle.queue.specs.Cursors.{pushedIf}
 use Rattle.queue.proofs.Cursor.pushed_if.Statement.{statement}

@@ -1,4 +1,4 @@
--- `append` meets its contract: two copies, which are stores one after the other (`appended`). Assumes nothing.
+-- `copy::append` meets its contract: two copies, which are stores one after the other (`appended`). Assumes nothing.
 use mathlib.Core.Path.{refl}
 use Prim.Native.Nat.{_+_}
 use borrow.Author.Needs.{needs}

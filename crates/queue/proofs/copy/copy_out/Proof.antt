@@ -1,4 +1,4 @@
--- `copy_out` meets its contract: two copies put the elements at the front (`copied-out`). Assumes nothing.
+-- `copy::copy_out` meets its contract: two copies put the elements at the front (`copied-out`). Assumes nothing.
 use mathlib.Core.Path.{refl}
 use borrow.Author.Needs.{needs}
 use Rattle.queue.specs.CopyOut.{copied-out}

@@ -1,4 +1,4 @@
--- `copy_run` meets its contract. The loop's invariant: `dst` is as it was, with the first i bytes copied in.
+-- `copy::copy_run` meets its contract. The loop's invariant: `dst` is as it was, with the first i bytes copied in.
 -- Assumes nothing.
 use mathlib.Core.Path.{_≡_, refl, sym, ap, _∙_}
 use mathlib.Core.List.{List}

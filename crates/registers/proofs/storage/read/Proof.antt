@@ -1,4 +1,4 @@
--- `read` meets its contract, place by place. Assumes nothing.
+-- `storage::read` meets its contract, place by place. Assumes nothing.
 use mathlib.Core.Path.{ap, sym}
 use Rattle.model.specs.Replies.{asRead}
 use Rattle.model.specs.Registers.{loaded}

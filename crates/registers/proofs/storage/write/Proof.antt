@@ -1,4 +1,4 @@
--- `write` meets its contract, place by place. Assumes nothing.
+-- `storage::write` meets its contract, place by place. Assumes nothing.
 use mathlib.Core.Path.{ap, sym}
 use Rattle.model.specs.Registers.{stored, holds}
 use borrow.Author.Needs.{needs}

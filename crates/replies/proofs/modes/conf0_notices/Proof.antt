@@ -1,4 +1,4 @@
--- `conf0_notices` meets its contract: the tests stand in the order of the bits. Assumes nothing.
+-- `modes::conf0_notices` meets its contract: the tests stand in the order of the bits. Assumes nothing.
 use mathlib.Core.Path.{ap, ap₂, _∙_}
 use Prim.Native.Nat.{ℕ}
 use lib.Dec.{eqb}

@@ -1,4 +1,4 @@
--- `low_modes` meets its contract: the tests stand in the order of the bits. Assumes nothing.
+-- `modes::low_modes` meets its contract: the tests stand in the order of the bits. Assumes nothing.
 use mathlib.Core.Path.{ap, _∙_}
 use Prim.Native.Nat.{ℕ}
 use borrow.Author.Needs.{needs}

@@ -1,4 +1,4 @@
--- `refuse_if` meets its contract. Assumes nothing.
+-- `modes::refuse_if` meets its contract. Assumes nothing.
 use mathlib.Core.Path.{ap, _∙_}
 use native.Mathlib.Omega.{arith}
 use mathlib.Core.List.{[]}

@@ -1,4 +1,4 @@
--- `refuse_mode` meets its contract: a shift and a mask give the bit. Assumes nothing.
+-- `modes::refuse_mode` meets its contract: a shift and a mask give the bit. Assumes nothing.
 use mathlib.Core.Path.{ap, _∙_}
 use borrow.Author.Needs.{needs}
 use Rattle.model.specs.declared.Unsupported.{Unsupported}

@@ -1,4 +1,4 @@
--- `stored_notices` meets its contract, by the places that give a notice and the list of those that give none. Assumes nothing.
+-- `modes::stored_notices` meets its contract, by the places that give a notice and the list of those that give none. Assumes nothing.
 use mathlib.Core.Path.{_≡_, refl, sym, ap, _∙_}
 use mathlib.Core.Bool.{not}
 use mathlib.Core.List.{[], _∷_}

@@ -1,4 +1,4 @@
--- `repeated` meets its contract: each offset is looked for among those behind it. Assumes nothing.
+-- `offsets::repeated` meets its contract: each offset is looked for among those behind it. Assumes nothing.
 use mathlib.Core.Path.{_≡_, refl, sym, _∙_}
 use Prim.Native.Nat.{_≤_, _-_}
 use native.Mathlib.Omega.{arith}

@@ -1,4 +1,4 @@
--- `stands_from` meets its contract: the offset is looked for among those not yet passed. Assumes nothing.
+-- `offsets::stands_from` meets its contract: the offset is looked for among those not yet passed. Assumes nothing.
 use mathlib.Core.Path.{_≡_, refl, sym, _∙_}
 use Prim.Native.Nat.{_≤_, _-_}
 use native.Mathlib.Omega.{arith}

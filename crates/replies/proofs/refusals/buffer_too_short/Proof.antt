@@ -1,4 +1,4 @@
--- `buffer_too_short` meets its contract. Assumes nothing.
+-- `refusals::buffer_too_short` meets its contract. Assumes nothing.
 use mathlib.Core.Path.{refl}
 use Rattle.model.specs.Tests.{bufferTooShort}
 use Rattle.replies.proofs.refusals.buffer_too_short.Statement.{statement}

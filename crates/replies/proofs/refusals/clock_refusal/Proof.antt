@@ -1,4 +1,4 @@
--- `clock_refusal` meets its contract: the date comes first. Assumes nothing.
+-- `refusals::clock_refusal` meets its contract: the date comes first. Assumes nothing.
 use mathlib.Core.Path.{ap, _∙_}
 use mathlib.Core.Option.{none}
 use borrow.Author.Needs.{needs}

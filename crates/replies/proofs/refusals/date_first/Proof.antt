@@ -1,4 +1,4 @@
--- `date_first` meets its contract: the date past the end is tested before the date that went back. Assumes nothing.
+-- `refusals::date_first` meets its contract: the date past the end is tested before the date that went back. Assumes nothing.
 use mathlib.Core.Path.{ap, ap₂, _∙_}
 use borrow.Author.Needs.{needs}
 use Rattle.model.specs.Tests.{refuseIf}

@@ -1,4 +1,4 @@
--- `date_refusal` meets its contract. Assumes nothing.
+-- `refusals::date_refusal` meets its contract. Assumes nothing.
 use borrow.Author.Needs.{needs}
 use Rattle.replies.specs.Refusals.{verdict, datesOnly}
 use Rattle.replies.proofs.refusals.date_refusal.Statement.{statement}

@@ -1,4 +1,4 @@
--- `host_full` meets its contract. Assumes nothing.
+-- `refusals::host_full` meets its contract. Assumes nothing.
 use mathlib.Core.Path.{sym}
 use Prim.Native.Nat.{_+_}
 use native.Mathlib.Omega.{arith}

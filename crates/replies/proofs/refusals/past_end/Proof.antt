@@ -1,4 +1,4 @@
--- `past_end` meets its contract. Assumes nothing.
+-- `refusals::past_end` meets its contract. Assumes nothing.
 use mathlib.Core.Path.{refl}
 use Rattle.model.specs.Tests.{pastEnd}
 use Rattle.replies.proofs.refusals.past_end.Statement.{statement}

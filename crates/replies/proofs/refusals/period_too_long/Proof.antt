@@ -1,4 +1,4 @@
--- `period_too_long` meets its contract. Assumes nothing.
+-- `refusals::period_too_long` meets its contract. Assumes nothing.
 use mathlib.Core.Path.{refl}
 use Rattle.model.specs.Tests.{periodTooLong}
 use Rattle.replies.proofs.refusals.period_too_long.Statement.{statement}

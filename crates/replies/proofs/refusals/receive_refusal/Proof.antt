@@ -1,4 +1,4 @@
--- `receive_refusal` meets its contract: the date, the bytes that wait, and then the runs. Assumes nothing.
+-- `refusals::receive_refusal` meets its contract: the date, the bytes that wait, and then the runs. Assumes nothing.
 use mathlib.Core.Path.{ap, ap₂, _∙_}
 use mathlib.Core.Option.{none}
 use borrow.Author.Needs.{needs}

@@ -1,4 +1,4 @@
--- `refuse_if` meets its contract, by its test. Assumes nothing.
+-- `refusals::refuse_if` meets its contract, by its test. Assumes nothing.
 use Rattle.model.specs.Tests.{refuseIf}
 use Rattle.replies.specs.Refusals.{verdict}
 use Rattle.replies.proofs.refusals.refuse_if.Statement.{statement}

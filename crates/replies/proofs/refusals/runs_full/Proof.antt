@@ -1,4 +1,4 @@
--- `runs_full` meets its contract. Assumes nothing.
+-- `refusals::runs_full` meets its contract. Assumes nothing.
 use Rattle.replies.specs.Room.{no-bytes, few-runs, all-runs}
 use Rattle.replies.proofs.refusals.runs_full.Statement.{statement}
 use Rattle.replies.proofs.refusals.runs_full.Tie as tie

@@ -1,4 +1,4 @@
--- `set_up_reply` meets its contract. Assumes nothing.
+-- `refusals::set_up_reply` meets its contract. Assumes nothing.
 use mathlib.Core.Path.{sym, _∙_}
 use borrow.Author.Needs.{needs}
 use Rattle.model.specs.Laws.Choose.{choose-true, choose-false}

@@ -1,4 +1,4 @@
--- `take_refusal` meets its contract: the date comes first. Assumes nothing.
+-- `refusals::take_refusal` meets its contract: the date comes first. Assumes nothing.
 use mathlib.Core.Path.{ap, _∙_}
 use borrow.Author.Needs.{needs}
 use Rattle.replies.specs.Refusals.{takingTx, dates}

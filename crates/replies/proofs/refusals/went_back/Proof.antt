@@ -1,4 +1,4 @@
--- `went_back` meets its contract. Assumes nothing.
+-- `refusals::went_back` meets its contract. Assumes nothing.
 use mathlib.Core.Path.{refl}
 use Rattle.model.specs.Tests.{wentBack}
 use Rattle.replies.proofs.refusals.went_back.Statement.{statement}

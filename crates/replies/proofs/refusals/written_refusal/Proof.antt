@@ -1,4 +1,4 @@
--- `written_refusal` meets its contract. Assumes nothing.
+-- `refusals::written_refusal` meets its contract. Assumes nothing.
 use mathlib.Core.Path.{ap, _∙_}
 use mathlib.Core.Option.{none}
 use borrow.Author.Needs.{needs}

@@ -1,4 +1,4 @@
--- `reports::no_report` meets its contract. Assumes nothing.
+-- `report::no_report` meets its contract. Assumes nothing.
 use mathlib.Core.Path.{ap, _∙_}
 use mathlib.Core.Bool.{false}
 use borrow.Author.Needs.{needs}

@@ -1,4 +1,4 @@
--- `reports::report` meets its contract, field by field. Assumes nothing.
+-- `report::report` meets its contract, field by field. Assumes nothing.
 use mathlib.Core.Path.{refl}
 use Rattle.replies.specs.Reports.{reported}
 use Rattle.replies.proofs.report.report.Statement.{statement}

@@ -1,4 +1,4 @@
--- `hexes::pair` meets its contract. Assumes nothing.
+-- `hex::pair` meets its contract. Assumes nothing.
 use borrow.Author.Needs.{needs}
 use borrow.Author.Tests.{lt-ltb, le-ltb}
 use Rattle.text.specs.Hexes.{pairValue}

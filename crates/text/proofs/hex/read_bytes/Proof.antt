@@ -1,4 +1,4 @@
--- `hexes::read_bytes` meets its contract. Assumes nothing.
+-- `hex::read_bytes` meets its contract. Assumes nothing.
 use mathlib.Core.Path.{_∙_, sym}
 use borrow.Author.Tests.{lt-ltb, le-ltb}
 use native.Mathlib.Omega.{arith}

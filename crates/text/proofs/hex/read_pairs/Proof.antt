@@ -1,4 +1,4 @@
--- `hexes::read_pairs` meets its contract. The loop's invariant: the first n bytes are those of the pairs so far, the others are as they
+-- `hex::read_pairs` meets its contract. The loop's invariant: the first n bytes are those of the pairs so far, the others are as they
 -- were. Assumes nothing.
 use mathlib.Core.Path.{_≡_, refl, ap, _∙_}
 use mathlib.Core.List.{List, [], _++_}

@@ -1,4 +1,4 @@
--- `forms::form_of` meets its contract. Assumes nothing.
+-- `arguments::form_of` meets its contract. Assumes nothing.
 use mathlib.Core.Path.{_∙_, ap, sym}
 use Rattle.trace.specs.Forms.{formOf}
 use Rattle.trace.proofs.arguments.form_of.Statement.{statement}

@@ -1,4 +1,4 @@
--- `words::read_bit` meets its contract. Assumes nothing.
+-- `last_argument::read_bit` meets its contract. Assumes nothing.
 use mathlib.Core.Path.{refl, sym, _∙_}
 use Rattle.trace.specs.Steps.{missing, no-word, some-word}
 use Rattle.trace.specs.Last.{bitIn, bitAt, bit-zero, bit-one, no-bit}

@@ -1,4 +1,4 @@
--- `words::read_last` meets its contract. Assumes nothing.
+-- `last_argument::read_last` meets its contract. Assumes nothing.
 use mathlib.Core.Path.{_∙_, ap, sym}
 use lib.ListN.{length}
 use Rattle.trace.specs.declared.arguments.Form.{Form}

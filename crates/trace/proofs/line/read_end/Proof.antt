@@ -1,4 +1,4 @@
--- `lines::read_end` meets its contract. Assumes nothing.
+-- `line::read_end` meets its contract. Assumes nothing.
 use Rattle.trace.specs.Steps.{no-word, some-word}
 use Rattle.trace.specs.declared.line.Line.{Line}
 use Rattle.trace.specs.Lines.{extra, endAt}

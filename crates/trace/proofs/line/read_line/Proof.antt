@@ -1,4 +1,4 @@
--- `lines::read_line` meets its contract. Assumes nothing.
+-- `line::read_line` meets its contract. Assumes nothing.
 use mathlib.Core.Path.{_∙_, ap, sym}
 use mathlib.Core.List.{List, []}
 use Prim.Native.Nat.{ℕ}

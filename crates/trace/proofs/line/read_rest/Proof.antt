@@ -1,4 +1,4 @@
--- `lines::read_rest` meets its contract. Assumes nothing.
+-- `line::read_rest` meets its contract. Assumes nothing.
 use mathlib.Core.Path.{_∙_, ap, sym}
 use Rattle.trace.specs.declared.step.Step.{Step}
 use Rattle.trace.specs.Lines.{endAt, after}

@@ -1,4 +1,4 @@
--- `lines::read_words` meets its contract. Assumes nothing.
+-- `line::read_words` meets its contract. Assumes nothing.
 use mathlib.Core.Path.{_∙_, ap, sym}
 use lib.ListN.{length}
 use Rattle.trace.specs.declared.step.Step.{Step}

@@ -1,4 +1,4 @@
--- `numbers::limit_of` meets its contract. Assumes nothing.
+-- `number::limit_of` meets its contract. Assumes nothing.
 use mathlib.Core.Path.{ap, sym}
 use Rattle.trace.specs.One.{limitOf}
 use Rattle.trace.proofs.number.limit_of.Statement.{statement}

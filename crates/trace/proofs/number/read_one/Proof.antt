@@ -1,4 +1,4 @@
--- `numbers::read_one` meets its contract. Assumes nothing.
+-- `number::read_one` meets its contract. Assumes nothing.
 use mathlib.Core.Path.{_∙_, ap, sym}
 use Prim.Native.Nat.{ℕ}
 use Rattle.text.specs.Numbers.{numberOf}

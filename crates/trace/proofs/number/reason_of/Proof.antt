@@ -1,4 +1,4 @@
--- `numbers::reason_of` meets its contract. Assumes nothing.
+-- `number::reason_of` meets its contract. Assumes nothing.
 use mathlib.Core.Path.{ap, sym}
 use Rattle.trace.specs.One.{reasonOf}
 use Rattle.trace.proofs.number.reason_of.Statement.{statement}

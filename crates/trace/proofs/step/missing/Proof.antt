@@ -1,4 +1,4 @@
--- `numbers::missing` meets its contract. Assumes nothing.
+-- `step::missing` meets its contract. Assumes nothing.
 use mathlib.Core.Path.{_∙_, ap}
 use Rattle.trace.specs.Steps.{wrong}
 use Rattle.trace.specs.declared.faults.Reason.{Reason}

@@ -1,4 +1,4 @@
--- `stand_in` meets its contract: its offsets all differ, so set-up is not refused. Assumes nothing.
+-- `placeholder::stand_in` meets its contract: its offsets all differ, so set-up is not refused. Assumes nothing.
 use borrow.Author.Needs.{needs}
 use Rattle.model.specs.SetUp.{setUpReply}
 use Rattle.model.specs.Tests.{among, repeated}

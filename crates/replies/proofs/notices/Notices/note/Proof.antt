@@ -1,4 +1,4 @@
--- `Notices::note` meets its contract, by the count. Assumes nothing.
+-- `notices::Notices::note` meets its contract, by the count. Assumes nothing.
 use mathlib.Core.Path.{sym}
 use native.Mathlib.Omega.{arith}
 use borrow.Author.Needs.{needs}

@@ -1,4 +1,4 @@
--- `Notices::note_if` meets its contract, by its test. Assumes nothing.
+-- `notices::Notices::note_if` meets its contract, by its test. Assumes nothing.
 use mathlib.Core.Path.{sym, _∙_}
 use borrow.Author.Needs.{needs}
 use Rattle.model.specs.Laws.Choose.{choose-true, choose-false}

@@ -1,7 +1,7 @@
--- `finds::overflows` meets its contract, case by case. Assumes nothing.
+-- `fate::overflow_of` meets its contract, case by case. Assumes nothing.
 use Rattle.model.specs.Settle.{lost}
-use Rattle.line.proofs.fate.overflows.Statement.{statement}
-use Rattle.line.proofs.fate.overflows.Tie as tie
+use Rattle.line.proofs.fate.overflow_of.Statement.{statement}
+use Rattle.line.proofs.fate.overflow_of.Tie as tie
 
 enum-told : tie.Need-enum-told
 enum-told c = c .match .keys1
@@ -55,8 +55,8 @@ returns-7 : tie.Need-returns-7
 unfolding lost
 returns-7 c = rw (c .before .before .before .found .given .1, c .enum-told7 .given .1)
 
-pub overflows-spec : {M : Type 1} → statement M
-overflows-spec =
+pub overflow-of-spec : {M : Type 1} → statement M
+overflow-of-spec =
     tie.close
     (tie.spec
     enum-told
