@@ -160,6 +160,7 @@ static void refused(void)
 
 int main(void)
 {
+    expect("wondraxu_abi_1", "version", wondraxu_abi_1(), 1);
     send_a_row();
     receive_a_row();
     overflow();

@@ -17,6 +17,21 @@
 extern "C" {
 #endif
 
+/*
+ * The version of the structs and calls below; answers 1. The number goes up whenever one of them changes. Every file that
+ * has this header needs the symbol, so that an archive of another version, whose structs may differ, does not link.
+ */
+uint32_t wondraxu_abi_1(void);
+#ifdef __GNUC__
+__attribute__((used))
+#endif
+#ifdef __has_attribute
+#if __has_attribute(retain)
+__attribute__((retain)) /* the linker keeps it too, where it drops what nothing reads */
+#endif
+#endif
+static uint32_t (*const wondraxu_abi)(void) = wondraxu_abi_1;
+
 /* How many slots each array has. */
 #define WONDRAXU_FLIGHT 129   /* gone_at, flight: the bytes in flight and their dates */
 #define WONDRAXU_LEFT 1152    /* tx: the bytes that have left */

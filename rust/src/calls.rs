@@ -33,7 +33,13 @@ extern "C" {
     fn wondraxu_power_down(core: PlainCore, cycle: u64) -> PlainAnswer;
     fn wondraxu_has_left(core: PlainCore) -> bool;
     fn wondraxu_host_pending(core: PlainCore) -> usize;
+    fn wondraxu_abi_1() -> u32;
 }
+
+/// A program needs the library of the version that these declarations are of, or does not link: the structs of another one
+/// may have other places. The number goes up with every change of a struct or a call that crosses (`c/versions`).
+#[used]
+static VERSION: unsafe extern "C" fn() -> u32 = wondraxu_abi_1;
 
 /// Nothing is required: a repeated offset is refused.
 #[inline]

@@ -1,4 +1,4 @@
-//! The structs of the static library, field by field as crates/plain, plain_replies, plain_answers and export_new declare them.
+//! The structs of the static library, field by field as crates/ffi, crates/exports, crates/model and crates/queue declare them.
 //! `include/wondraxu.h` has them for C. Sizes and offsets of both are held to `c/layout.out`; `tests/fields.rs` looks at the
 //! value that each call gives to each field.
 

@@ -9,6 +9,7 @@ pub mod receive;
 pub mod reset;
 pub mod take_tx;
 pub mod take_written;
+pub mod version;
 pub mod wake;
 pub mod watch;
 pub mod write;

@@ -30,7 +30,7 @@ fn prototype(name: &str, signature: &str) -> String {
     let (parameters, result) = signature.trim_start_matches('(').split_once(") -> ").expect("there is a result");
     let parameters: Vec<String> = parameters
         .split(", ")
-        .map(|parameter| parameter.split_once(": ").map_or_else(String::new, |(name, of)| in_c(name, of)))
+        .map(|parameter| parameter.split_once(": ").map_or_else(|| "void".to_owned(), |(name, of)| in_c(name, of)))
         .collect();
     format!("{}({});", in_c(name, result), parameters.join(", "))
 }
