@@ -17,6 +17,7 @@ use Rattle.model.specs.declared.Report.{Report}
 use Rattle.model.specs.declared.Write.{Write}
 use Rattle.model.specs.declared.Place.{Place}
 use Rattle.model.specs.declared.Place.the-variants.{Fifo, IntRaw, IntSt, IntEna, IntClr, Clkdiv, Status, FsmStatus, Conf0, Conf1, ClkConf, IdleConf, Rs485Conf, AtCmdChar, MemConf, MemRxStatus, Unknown}
+use Rattle.model.specs.Refuses.Conditions.{isFifo}
 use Rattle.replies.specs.declared.notices.Notices.{Notices}
 use Rattle.replies.specs.Calls.{write-tests}
 use Rattle.replies.specs.Refusals.{sending, datesOnly}
@@ -27,25 +28,6 @@ use Rattle.access.specs.Sends.{send-checks, send-period}
 use Rattle.access.specs.Writes.{write-period}
 use Rattle.access.specs.WriteStructs.{refusedWrite}
 use Rattle.access.specs.declared.write.WriteCore.{WriteCore}
-
-unfoldable pub isFifo : Place → Bool
-isFifo Fifo = true
-isFifo IntRaw = false
-isFifo IntSt = false
-isFifo IntEna = false
-isFifo IntClr = false
-isFifo Clkdiv = false
-isFifo Status = false
-isFifo FsmStatus = false
-isFifo Conf0 = false
-isFifo Conf1 = false
-isFifo ClkConf = false
-isFifo IdleConf = false
-isFifo Rs485Conf = false
-isFifo AtCmdChar = false
-isFifo MemConf = false
-isFifo MemRxStatus = false
-isFifo Unknown = false
 
 -- the tests, from the last carried-out date and the numbers of bytes left and in flight
 unfoldable pub testsAt : Bool → ℕ → ℕ → ℕ → ℕ → Option Refusal

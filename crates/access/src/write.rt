@@ -17,6 +17,7 @@ ghost use lib.ListN.{length};
 ghost use Rattle.model.specs.Tests.{dateEnd};
 ghost use Rattle.model.specs.Replies.{writeNumber};
 ghost use Rattle.model.specs.Calls.{write as Calls·write};
+ghost use Rattle.model.specs.Refuses.Conditions.{isFifo};
 ghost use Rattle.queue.specs.Cursors.{Held};
 ghost use Rattle.replies.specs.Refusals.{verdict};
 ghost use Rattle.device.specs.Holds.{abs, Ok};
@@ -24,7 +25,7 @@ ghost use Rattle.device.specs.Arms.{Ready};
 ghost use Rattle.device.specs.Wholes.{lent};
 ghost use Rattle.calls.specs.Answers.{Works, Answers};
 ghost use Rattle.access.specs.WriteStructs.{writeCore, refusedWrite};
-ghost use Rattle.access.specs.ByPlace.{isFifo, testsAt, workAt};
+ghost use Rattle.access.specs.ByPlace.{testsAt, workAt};
 ghost use Rattle.access.specs.Concludes.{ConcludesAny};
 
 #[repr(C)]

@@ -18,7 +18,7 @@ use Rattle.model.specs.declared.Date.{Date}
 use Rattle.model.specs.declared.Line.{Line}
 use Rattle.model.specs.declared.Control.{Control}
 use Rattle.queue.specs.Cursors.{Held, slotOf, empty}
-use Rattle.queue.specs.Laws.{elems-length, elems-none}
+use Rattle.queue.specs.Laws.{elems-length, elems-none, empty-held}
 use Rattle.line.specs.Levels
 use Rattle.device.specs.Holds.{Arrays, sentAt, abs, Shape, Ok}
 use Rattle.device.specs.Settles.{control-after}
@@ -39,20 +39,7 @@ withControlOf v c = record {
 }
 
 pub shape-of : (c : Core) (a : Arrays) (v : Control) → Shape c a → Shape (withControlOf v c) a
-shape-of c a v k = record {
-  flight = k .flight;
-  tx = k .tx;
-  host = k .host;
-  runs = k .runs;
-  rx = k .rx;
-  goneAtSlots = k .goneAtSlots;
-  flightSlots = k .flightSlots;
-  txSlots = k .txSlots;
-  hostSlots = k .hostSlots;
-  runDateSlots = k .runDateSlots;
-  runCountSlots = k .runCountSlots;
-  rxSlots = k .rxSlots;
-}
+shape-of c a v k = search
 
 abbrev pub datedCore : ℕ → Core → Core
 datedCore cycle c = withControlOf (withLast cycle (c .control)) c
@@ -135,17 +122,7 @@ unfolding cleared
 cleared-abs c a = rw (elems-none (sentAt (a .goneAt) (a .flight)) 129 empty refl, elems-none (slotOf (a .rx) 0) 128 empty refl)
 
 pub cleared-shape : (c : Core) (a : Arrays) → Shape c a → Shape (clearedCore c) a
-cleared-shape c a k = record {
-  flight = record { low = omega arith; few = omega arith };
-  tx = k .tx;
-  host = k .host;
-  runs = k .runs;
-  rx = record { low = omega arith; few = omega arith };
-  goneAtSlots = k .goneAtSlots;
-  flightSlots = k .flightSlots;
-  txSlots = k .txSlots;
-  hostSlots = k .hostSlots;
-  runDateSlots = k .runDateSlots;
-  runCountSlots = k .runCountSlots;
-  rxSlots = k .rxSlots;
-}
+cleared-shape c a k =
+    let flight = empty-held 129 (omega arith) in
+    let rx = empty-held 128 (omega arith) in
+    search

@@ -28,17 +28,4 @@ flyingIn dates bytes a = record { goneAt = dates; flight = bytes; tx = a .tx; ho
 -- the queues stand in their slots again
 pub queues-shape : (c : Core) (a : Arrays) → Shape c a → {flight rx : Cursor} → Held 129 flight → Held 128 rx → {dates bytes : List ℕ}
     → length dates ≡ 129 → length bytes ≡ 129 → Shape (withQueuesOf flight rx c) (flyingIn dates bytes a)
-queues-shape c a k hf hr ed eb = record {
-  flight = hf;
-  tx = k .tx;
-  host = k .host;
-  runs = k .runs;
-  rx = hr;
-  goneAtSlots = ed;
-  flightSlots = eb;
-  txSlots = k .txSlots;
-  hostSlots = k .hostSlots;
-  runDateSlots = k .runDateSlots;
-  runCountSlots = k .runCountSlots;
-  rxSlots = k .rxSlots;
-}
+queues-shape c a k hf hr ed eb = search

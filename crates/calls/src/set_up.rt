@@ -1,6 +1,7 @@
 // What set-up makes of sixteen offsets and sixteen reset words. Carried over from inkemu's uart.rs and changed.
 use device::Core;
 use line::Receiving;
+use line::marks;
 use model::Control;
 use model::Date;
 use model::Line;
@@ -17,8 +18,6 @@ ghost use Rattle.calls.specs.NewCore.{newCore, newParts};
 
 // STATUS bits 0-9, RXFIFO_CNT, and 16-25, TXFIFO_CNT.
 const FIFO_COUNTS: u32 = 0x03FF03FF;
-
-const TXFIFO_EMPTY: u32 = 1 << 1;
 
 // The nine stored words among the sixteen.
 fn words_among(resets: [u32; 16]) -> Words
@@ -65,7 +64,7 @@ pub fn new_control(words: Words) -> Control
     Control {
         words: words,
         line: Line {
-            int_raw: TXFIFO_EMPTY,
+            int_raw: marks::TXFIFO_EMPTY,
             rx_mistimed: Source::None,
             idle_since: Date::None,
             line_free_at: 0,

@@ -10,7 +10,7 @@ use Rattle.model.specs.declared.Unsupported.{Unsupported}
 use Rattle.model.specs.declared.Notice.{Notice}
 use Rattle.ffi.specs.declared.notices.PlainNotice.{PlainNotice}
 
-unfoldable pub modeNumber : Feature → ℕ
+abbrev pub modeNumber : Feature → ℕ
 modeNumber Feature.Loopback = 0
 modeNumber Feature.InvertedRx = 1
 modeNumber Feature.Autobaud = 2

@@ -67,7 +67,7 @@ unfoldable pub plainDate : Date → PlainDate
 plainDate Date.None = record { set = false; at = 0 }
 plainDate (Date.At n) = record { set = true; at = n }
 
-unfoldable pub plainSource : Source → ℕ
+abbrev pub plainSource : Source → ℕ
 plainSource Source.None = 0
 plainSource Source.Sel0 = 1
 plainSource Source.Sel2 = 3
@@ -109,7 +109,7 @@ date-back Date.None = refl
 date-back (Date.At n) = refl
 
 source-back : (s : Source) → sourceOf (plainSource s) ≡ s
-unfolding sourceOf plainSource choose
+unfolding sourceOf choose
 source-back Source.None = refl
 source-back Source.Sel0 = refl
 source-back Source.Sel2 = refl

@@ -34,39 +34,31 @@ fn answer(core: Core, reply: PlainReply, report: Report) -> PlainAnswer
 pub fn read_answer(done: ReadCore) -> PlainAnswer
     ensures { λ r. ⌜ r ≡ plainAnswer (done .core) (plainRead (done .reply)) (done .report) ⌝ }
 {
-    let core = done.core;
     let reply = done.reply;
-    let report = done.report;
     let plain_reply = crate::replies::read_reply(reply);
-    answer(core, plain_reply, report)
+    answer(done.core, plain_reply, done.report)
 }
 
 pub fn write_answer(done: WriteCore) -> PlainAnswer
     ensures { λ r. ⌜ r ≡ plainAnswer (done .core) (plainWrite (done .reply)) (done .report) ⌝ }
 {
-    let core = done.core;
     let reply = done.reply;
-    let report = done.report;
     let plain_reply = crate::replies::write_reply(reply);
-    answer(core, plain_reply, report)
+    answer(done.core, plain_reply, done.report)
 }
 
 pub fn done_answer(done: DoneCore) -> PlainAnswer
     ensures { λ r. ⌜ r ≡ plainAnswer (done .core) (plainDone (done .reply)) (done .report) ⌝ }
 {
-    let core = done.core;
     let reply = done.reply;
-    let report = done.report;
     let plain_reply = crate::replies::done_reply(reply);
-    answer(core, plain_reply, report)
+    answer(done.core, plain_reply, done.report)
 }
 
 pub fn taken_answer(done: TakeCore) -> PlainAnswer
     ensures { λ r. ⌜ r ≡ plainAnswer (done .core) (plainTaken (done .reply)) (done .report) ⌝ }
 {
-    let core = done.core;
     let reply = done.reply;
-    let report = done.report;
     let plain_reply = crate::replies::taken_reply(reply);
-    answer(core, plain_reply, report)
+    answer(done.core, plain_reply, done.report)
 }

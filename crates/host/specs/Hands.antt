@@ -49,20 +49,10 @@ module _ (date : ℕ) (bs : List ℕ) (c : Core) (a : Arrays) (k : Shape c a) (r
   nextArrays = waitingArrays a hosts′ dates′ counts′
 
   pub waits-shape : Shape nextCore nextArrays
-  waits-shape = record {
-    flight = k .flight;
-    tx = k .tx;
-    host = push-held 1024 (c .host) (k .host) (length bs) room;
-    runs = j .held;
-    rx = k .rx;
-    goneAtSlots = k .goneAtSlots;
-    flightSlots = k .flightSlots;
-    txSlots = k .txSlots;
-    hostSlots = ap length stored ∙ stored-length 1024 (a .host) _ bs ∙ k .hostSlots;
-    runDateSlots = j .dateSlots;
-    runCountSlots = j .countSlots;
-    rxSlots = k .rxSlots;
-  }
+  waits-shape =
+      let host = push-held 1024 (c .host) (k .host) (length bs) room in
+      let slots = ap length stored ∙ stored-length 1024 (a .host) _ bs ∙ k .hostSlots in
+      search
 
   waits-abs : abs nextCore nextArrays ≡ withHost (abs c a .host ++ bs) (joined date (length bs) (abs c a .hostRuns)) (abs c a)
   waits-abs = rw (stored, append-elems 0 1024 bs (a .host) (c .host) (k .hostSlots) (k .host) room, j .same)

@@ -37,20 +37,7 @@ TakeWorks o c′ a′ reply report out = Works (λ t. t .taken) o c′ a′ repl
 
 pub emptied-shape : (c : Core) (a : Arrays) (flight : Cursor) → Held 129 flight → Shape c a
     → Shape (record { map = c .map; control = c .control; receiving = c .receiving; byte = c .byte; flight = flight; tx = empty; host = c .host; runs = c .runs; rx = c .rx }) a
-emptied-shape c a flight f k = record {
-  flight = f;
-  tx = empty-held 1152 (omega arith);
-  host = k .host;
-  runs = k .runs;
-  rx = k .rx;
-  goneAtSlots = k .goneAtSlots;
-  flightSlots = k .flightSlots;
-  txSlots = k .txSlots;
-  hostSlots = k .hostSlots;
-  runDateSlots = k .runDateSlots;
-  runCountSlots = k .runCountSlots;
-  rxSlots = k .rxSlots;
-}
+emptied-shape c a flight f k = let tx = empty-held 1152 (omega arith) in search
 
 -- ---- the structs
 

@@ -33,11 +33,11 @@ pub fn done(core: Core, count: usize, passes: u64, overflows: u64) -> TakeCore
 pub fn undated(core: Core, count: usize) -> TakeCore
     ensures { λ r. ⌜ r ≡ undatedCore core count ⌝ }
 {
-    let report = report::no_report();
+    let none = report::no_report();
     TakeCore {
         core,
         reply: Taken::Bytes(count),
-        report,
+        report: none,
     }
 }
 

@@ -26,8 +26,12 @@ use Rattle.device.specs.Wholes.{arrays}
 use Rattle.device.specs.declared.Core.{Core}
 use Rattle.calls.specs.NewCore.{newCore}
 use Rattle.calls.specs.Answers.{Answers}
+use Rattle.calls.specs.declared.answers.DoneCore.{DoneCore}
 use Rattle.host.specs.Takes.{TakesWith}
+use Rattle.host.specs.declared.answers.TakeCore.{TakeCore}
 use Rattle.uart.specs.declared.Uart.{Uart}
+use Rattle.uart.specs.declared.AfterDone.{AfterDone}
+use Rattle.uart.specs.declared.AfterTake.{AfterTake}
 
 abbrev pub arraysOf : Uart → Arrays
 arraysOf u = arrays (u .«gone_at») (u .flight) (u .tx) (u .host) (u .«run_at») (u .«run_len») (u .rx)
@@ -47,6 +51,25 @@ Answered view number call u u′ reply report = Answers view number (call (meani
 -- the same of a call that fills a lent buffer
 abbrev pub Took : (State.Uart ℕ ℕ → Outcome (Take ℕ ℕ) ℕ ℕ) → Uart → Uart → Taken → Report → List ℕ → Type 0
 Took call u u′ reply report out = TakesWith call (u .core) (arraysOf u) (u′ .core) (arraysOf u′) reply report out
+
+-- the same arrays beside another core
+abbrev pub withCore : Core → Uart → Uart
+withCore c u = record {
+  core = c;
+  «gone_at» = u .«gone_at»;
+  flight = u .flight;
+  tx = u .tx;
+  host = u .host;
+  «run_at» = u .«run_at»;
+  «run_len» = u .«run_len»;
+  rx = u .rx;
+}
+
+abbrev pub afterDone : Uart → DoneCore → AfterDone
+afterDone u done = record { uart = withCore (done .core) u; reply = done .reply; report = done .report }
+
+abbrev pub afterTake : Uart → TakeCore → AfterTake
+afterTake u taken = record { uart = withCore (taken .core) u; reply = taken .reply; report = taken .report }
 
 -- set-up gives the definition's new state, within the limits unless it is refused
 pub record SetsUp (offsets resets : List ℕ) (u : Uart) (reply : SetUp) : Type 0 where
@@ -85,20 +108,7 @@ module _ (offsets resets : List ℕ) (a : Arrays) where
       × (length (a .runAt) ≡ 64) × (length (a .runLen) ≡ 64) × (length (a .rx) ≡ 128)
 
   new-shape : Slots → Shape (newCore offsets resets) a
-  new-shape l = record {
-    flight = empty-held 129 (omega arith);
-    tx = empty-held 1152 (omega arith);
-    host = empty-held 1024 (omega arith);
-    runs = empty-held 64 (omega arith);
-    rx = empty-held 128 (omega arith);
-    goneAtSlots = l .0;
-    flightSlots = l .1;
-    txSlots = l .2;
-    hostSlots = l .3;
-    runDateSlots = l .4;
-    runCountSlots = l .5;
-    rxSlots = l .6;
-  }
+  new-shape l = search (l, empty-held, arith)
 
   -- set-up that is not refused has offsets that all differ
   all-differ : {reply : SetUp} → reply ≡ setUpReply offsets → reply ≡ SetUp.Ready → repeated offsets ≡ false

@@ -2,10 +2,12 @@
 // parts, by the crates below. Carried over from inkemu's uart.rs and changed.
 pub mod placeholder;
 
+use calls::answers::DoneCore;
 use calls::power_down;
 use calls::watch;
 use device::Core;
 use device::settle;
+use host::answers::TakeCore;
 use model::Done;
 use model::Read;
 use model::Report;
@@ -19,7 +21,7 @@ ghost use Rattle.model.specs.Calls.{read as Calls·read, write as Calls·write,
 ghost use Rattle.model.specs.Calls.{watch as Calls·watch, receive as Calls·receive, clockChange, powerDown};
 ghost use Rattle.model.specs.Calls.{takeTx, takeWritten, hasLeft, hostPending};
 ghost use Rattle.device.specs.Settles.{Settles};
-ghost use Rattle.uart.specs.Whole.{arraysOf, meaning, Good, Answered, Took, SetsUp};
+ghost use Rattle.uart.specs.Whole.{arraysOf, meaning, Good, Answered, Took, SetsUp, afterDone, afterTake};
 
 #[repr(C)]
 pub struct Uart {
@@ -212,6 +214,36 @@ impl Uart {
         }
     }
 
+    // What a call gives back, once the arrays that it changed are put back: its core, its reply and its report.
+    fn after_done(mut self, done: DoneCore) -> AfterDone
+        ensures { λ r. ⌜ r ≡ afterDone self done ⌝ }
+    {
+        let core = done.core;
+        self.core = core;
+        let reply = done.reply;
+        let report = done.report;
+        AfterDone {
+            uart: self,
+            reply,
+            report,
+        }
+    }
+
+    // The same of a call that fills a lent buffer.
+    fn after_take(mut self, taken: TakeCore) -> AfterTake
+        ensures { λ r. ⌜ r ≡ afterTake self taken ⌝ }
+    {
+        let core = taken.core;
+        self.core = core;
+        let reply = taken.reply;
+        let report = taken.report;
+        AfterTake {
+            uart: self,
+            reply,
+            report,
+        }
+    }
+
     // The armed cycle has come.
     pub fn wake(mut self, cycle: u64) -> AfterDone
         requires { ⌜ Good self ⌝ }
@@ -231,18 +263,10 @@ impl Uart {
             &mut rx,
             cycle,
         );
-        let core = done.core;
-        self.core = core;
         self.tx = tx;
         self.run_len = run_len;
         self.rx = rx;
-        let reply = done.reply;
-        let report = done.report;
-        AfterDone {
-            uart: self,
-            reply,
-            report,
-        }
+        self.after_done(done)
     }
 
     // A reset of the UART.
@@ -264,18 +288,10 @@ impl Uart {
             &mut rx,
             cycle,
         );
-        let core = done.core;
-        self.core = core;
         self.tx = tx;
         self.run_len = run_len;
         self.rx = rx;
-        let reply = done.reply;
-        let report = done.report;
-        AfterDone {
-            uart: self,
-            reply,
-            report,
-        }
+        self.after_done(done)
     }
 
     // Another period of the APB clock, in cycles.
@@ -298,18 +314,10 @@ impl Uart {
             cycle,
             period,
         );
-        let core = done.core;
-        self.core = core;
         self.tx = tx;
         self.run_len = run_len;
         self.rx = rx;
-        let reply = done.reply;
-        let report = done.report;
-        AfterDone {
-            uart: self,
-            reply,
-            report,
-        }
+        self.after_done(done)
     }
 
     // The host hands over bytes that may start at a cycle.
@@ -336,20 +344,12 @@ impl Uart {
             at,
             bytes,
         );
-        let core = done.core;
-        self.core = core;
         self.tx = tx;
         self.host = host;
         self.run_at = run_at;
         self.run_len = run_len;
         self.rx = rx;
-        let reply = done.reply;
-        let report = done.report;
-        AfterDone {
-            uart: self,
-            reply,
-            report,
-        }
+        self.after_done(done)
     }
 
     // The bytes that have left, to the front of a lent buffer.
@@ -372,18 +372,10 @@ impl Uart {
             cycle,
             out,
         );
-        let core = done.core;
-        self.core = core;
         self.tx = tx;
         self.run_len = run_len;
         self.rx = rx;
-        let reply = done.reply;
-        let report = done.report;
-        AfterTake {
-            uart: self,
-            reply,
-            report,
-        }
+        self.after_take(done)
     }
 
     // Whether the first departure asks for a wake.
@@ -392,15 +384,7 @@ impl Uart {
         ensures { λ r. ⌜ Answered (λ x. x) doneNumber (Calls·watch cycle on) self (r .uart) (r .reply) (r .report) ⌝ }
     {
         let done = watch::watch(self.core, &self.gone_at, &self.run_at, cycle, on);
-        let core = done.core;
-        self.core = core;
-        let reply = done.reply;
-        let report = done.report;
-        AfterDone {
-            uart: self,
-            reply,
-            report,
-        }
+        self.after_done(done)
     }
 
     // Nothing moves after this cycle until a reset.
@@ -409,15 +393,7 @@ impl Uart {
         ensures { λ r. ⌜ Answered (λ x. x) doneNumber (powerDown cycle) self (r .uart) (r .reply) (r .report) ⌝ }
     {
         let done = power_down::power_down(self.core, cycle);
-        let core = done.core;
-        self.core = core;
-        let reply = done.reply;
-        let report = done.report;
-        AfterDone {
-            uart: self,
-            reply,
-            report,
-        }
+        self.after_done(done)
     }
 
     // All that was written, to the front of a lent buffer.
@@ -426,15 +402,7 @@ impl Uart {
         ensures { λ r. ⌜ Took (takeWritten (now (out .entry))) self (r .uart) (r .reply) (r .report) (now (out .exit)) ⌝ }
     {
         let done = host::take_written::take_written(self.core, &self.flight, &self.tx, out);
-        let core = done.core;
-        self.core = core;
-        let reply = done.reply;
-        let report = done.report;
-        AfterTake {
-            uart: self,
-            reply,
-            report,
-        }
+        self.after_take(done)
     }
 
     // Whether a byte has left that no call has taken.

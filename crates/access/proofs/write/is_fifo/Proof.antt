@@ -3,7 +3,7 @@ use mathlib.Core.Path.{_≡_, refl, sym, ap}
 use mathlib.Core.Bool.{false}
 use mathlib.Core.List.{[], _∷_}
 use Rattle.registers.proofs.Tags.{place-keys}
-use Rattle.access.specs.ByPlace.{isFifo}
+use Rattle.model.specs.Refuses.Conditions.{isFifo}
 use borrow.Author.Needs.{needs}
 use Rattle.access.proofs.write.is_fifo.Statement.{statement}
 use Rattle.access.proofs.write.is_fifo.Tie as tie

@@ -6,8 +6,11 @@ use Rattle.uart.proofs.Uart.power_down.Tie as tie
 power-down-requires : tie.Need-power-down-requires
 power-down-requires c κs = search needs
 
+after-done-requires : tie.Need-after-done-requires
+after-done-requires c κs = tt
+
 returns : tie.Need-returns
-returns c = c .before .before .power-down .ensures _ (c .before .before .before .pre)
+returns c = rw (c .after-done .ensures) (c .before .power-down .ensures _ (c .before .before .pre))
 
 pub power-down-spec : {M : Type 1} → statement M
-power-down-spec = tie.close (tie.spec power-down-requires returns)
+power-down-spec = tie.close (tie.spec power-down-requires after-done-requires returns)

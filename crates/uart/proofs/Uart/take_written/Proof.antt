@@ -10,11 +10,15 @@ take-written-requires c κs =
     let ok = c .before .before .before .before .before .before .pre in
     (ok .shape .flight, ok .shape .tx, ok .shape .flightSlots, ok .shape .txSlots, sent-few _ _ ok)
 
+after-take-requires : tie.Need-after-take-requires
+after-take-requires c κs = tt
+
 same-length : tie.Need-same-length
 same-length c = search needs
 
 returns : tie.Need-returns
-returns c = c .before .before .before .before .take-written .ensures _ refl refl (c .before .before .before .before .before .before .before .before .before .before .before .pre)
+returns c = rw (c .after-take .ensures) (c .before .before .before .take-written .ensures _ refl refl (c .before .before .before .before .before .before .before .before .before .before .pre))
 
 pub take-written-spec : {M : Type 1} → statement M
-take-written-spec = tie.close (tie.spec take-written-requires same-length returns)
+take-written-spec =
+    tie.close (tie.spec take-written-requires after-take-requires same-length returns)

@@ -6,8 +6,11 @@ use Rattle.uart.proofs.Uart.wake.Tie as tie
 wake-requires : tie.Need-wake-requires
 wake-requires c κs = search needs
 
+after-done-requires : tie.Need-after-done-requires
+after-done-requires c κs = tt
+
 returns : tie.Need-returns
-returns c = c .before .before .wake .ensures
+returns c = rw (c .after-done .ensures) (c .before .wake .ensures)
 
 pub wake-spec : {M : Type 1} → statement M
-wake-spec = tie.close (tie.spec wake-requires returns)
+wake-spec = tie.close (tie.spec wake-requires after-done-requires returns)
