@@ -94,8 +94,8 @@ static void whole(void)
     FIELD(slots, flight);
     FIELD(slots, tx);
     FIELD(slots, host);
-    FIELD(slots, run_dates);
-    FIELD(slots, run_counts);
+    FIELD(slots, run_at);
+    FIELD(slots, run_len);
     FIELD(slots, rx);
     SIZE(uart);
     FIELD(uart, core);

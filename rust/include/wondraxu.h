@@ -36,7 +36,7 @@ static uint32_t (*const wondraxu_abi)(void) = wondraxu_abi_1;
 #define WONDRAXU_FLIGHT 129   /* gone_at, flight: the bytes in flight and their dates */
 #define WONDRAXU_LEFT 1152    /* tx: the bytes that have left */
 #define WONDRAXU_HOST 1024    /* host: the host bytes that wait */
-#define WONDRAXU_RUNS 64      /* run_dates, run_counts: the runs that date them */
+#define WONDRAXU_RUNS 64      /* run_at, run_len: the runs that date them */
 #define WONDRAXU_RECEIVED 128 /* rx: the receive FIFO */
 
 /* The length that a buffer lent to take_tx or take_written must have at least. */
@@ -185,8 +185,8 @@ struct wondraxu_slots {
     uint8_t flight[WONDRAXU_FLIGHT];
     uint8_t tx[WONDRAXU_LEFT];
     uint8_t host[WONDRAXU_HOST];
-    uint64_t run_dates[WONDRAXU_RUNS];
-    uint64_t run_counts[WONDRAXU_RUNS];
+    uint64_t run_at[WONDRAXU_RUNS];
+    uint64_t run_len[WONDRAXU_RUNS];
     uint8_t rx[WONDRAXU_RECEIVED];
 };
 
@@ -197,7 +197,7 @@ struct wondraxu_slots {
  *   those that the calls since then were lent, and nothing else has written to them. What stands in the slots before the
  *   first call is free. The core to bring is that of the last call: one from before it no longer fits the slots, unless
  *   that call was refused.
- * - THE POINTERS. gone_at and flight point to 129 elements, tx to 1,152, host to 1,024, run_dates and run_counts to 64 each,
+ * - THE POINTERS. gone_at and flight point to 129 elements, tx to 1,152, host to 1,024, run_at and run_len to 64 each,
  *   rx to 128, aligned for their type. No two of one call's pointers overlap. A call writes only through those that are
  *   not const.
  * - THE BUFFERS. bytes points to count bytes, out to length bytes. Where the count or the length is 0 the pointer may be
@@ -212,39 +212,39 @@ struct wondraxu_set_up wondraxu_new(struct wondraxu_sixteen offsets, struct wond
 /* The value at an offset; holds is false where nothing can be read. From an empty FIFO 0, with a notice. Requires the state
  * and the pointers. */
 struct wondraxu_answer wondraxu_read(struct wondraxu_core core, const uint64_t *gone_at, const uint8_t *flight, uint8_t *tx,
-                                     const uint8_t *host, const uint64_t *run_dates, uint64_t *run_counts, uint8_t *rx,
+                                     const uint8_t *host, const uint64_t *run_at, uint64_t *run_len, uint8_t *rx,
                                      uint64_t cycle, uint32_t offset);
 
 /* A write at an offset: holds says whether it was accepted. Requires the state and the pointers. Number 4. */
 struct wondraxu_answer wondraxu_write(struct wondraxu_core core, uint64_t *gone_at, uint8_t *flight, uint8_t *tx,
-                                      const uint8_t *host, const uint64_t *run_dates, uint64_t *run_counts, uint8_t *rx,
+                                      const uint8_t *host, const uint64_t *run_at, uint64_t *run_len, uint8_t *rx,
                                       uint64_t cycle, uint32_t offset, uint32_t value);
 
 /* The cycle of the wake that was armed has come. Requires the state and the pointers. */
 struct wondraxu_answer wondraxu_wake(struct wondraxu_core core, const uint64_t *gone_at, const uint8_t *flight, uint8_t *tx,
-                                     const uint8_t *host, const uint64_t *run_dates, uint64_t *run_counts, uint8_t *rx,
+                                     const uint8_t *host, const uint64_t *run_at, uint64_t *run_len, uint8_t *rx,
                                      uint64_t cycle);
 
 /* A reset. Host bytes, the byte on the line and bytes that left stay. Requires the state and the pointers. */
 struct wondraxu_answer wondraxu_reset(struct wondraxu_core core, const uint64_t *gone_at, const uint8_t *flight, uint8_t *tx,
-                                      const uint8_t *host, const uint64_t *run_dates, uint64_t *run_counts, uint8_t *rx,
+                                      const uint8_t *host, const uint64_t *run_at, uint64_t *run_len, uint8_t *rx,
                                       uint64_t cycle);
 
 /* Another period of the APB clock, in cycles; 0 counts as 1. Requires the state and the pointers. Number 7. */
 struct wondraxu_answer wondraxu_clock_change(struct wondraxu_core core, const uint64_t *gone_at, const uint8_t *flight,
-                                             uint8_t *tx, const uint8_t *host, const uint64_t *run_dates,
-                                             uint64_t *run_counts, uint8_t *rx, uint64_t cycle, uint64_t period);
+                                             uint8_t *tx, const uint8_t *host, const uint64_t *run_at,
+                                             uint64_t *run_len, uint8_t *rx, uint64_t cycle, uint64_t period);
 
 /* The host hands over count bytes, which start on the line at cycle at at the earliest. Requires the state, the pointers and
  * the buffer bytes, which is only read. Numbers 5 and 6. */
 struct wondraxu_answer wondraxu_receive(struct wondraxu_core core, const uint64_t *gone_at, const uint8_t *flight, uint8_t *tx,
-                                        uint8_t *host, uint64_t *run_dates, uint64_t *run_counts, uint8_t *rx, uint64_t cycle,
+                                        uint8_t *host, uint64_t *run_at, uint64_t *run_len, uint8_t *rx, uint64_t cycle,
                                         uint64_t at, const uint8_t *bytes, size_t count);
 
 /* The bytes that have left, to the front of out: value says how many, and what stands after them is not written. Requires
  * the state, the pointers and the buffer out. Number 8. */
 struct wondraxu_answer wondraxu_take_tx(struct wondraxu_core core, const uint64_t *gone_at, const uint8_t *flight, uint8_t *tx,
-                                        const uint8_t *host, const uint64_t *run_dates, uint64_t *run_counts, uint8_t *rx,
+                                        const uint8_t *host, const uint64_t *run_at, uint64_t *run_len, uint8_t *rx,
                                         uint64_t cycle, uint8_t *out, size_t length);
 
 /* All that was written, the bytes that left and those in flight, to the front of out: value says how many. Undated. Requires
@@ -253,7 +253,7 @@ struct wondraxu_answer wondraxu_take_written(struct wondraxu_core core, const ui
                                              size_t length);
 
 /* Whether each departure asks for a wake. Requires the state and its two pointers. */
-struct wondraxu_answer wondraxu_watch(struct wondraxu_core core, const uint64_t *gone_at, const uint64_t *run_dates,
+struct wondraxu_answer wondraxu_watch(struct wondraxu_core core, const uint64_t *gone_at, const uint64_t *run_at,
                                       uint64_t cycle, bool on);
 
 /* Nothing moves after this cycle until a reset. Requires the state. */
@@ -295,7 +295,7 @@ static inline uint32_t wondraxu_uart_new(struct wondraxu_uart *u, struct wondrax
 static inline struct wondraxu_answer wondraxu_uart_read(struct wondraxu_uart *u, uint64_t now, uint32_t offset)
 {
     struct wondraxu_slots *s = &u->slots;
-    return wondraxu_uart_kept(u, wondraxu_read(u->core, s->gone_at, s->flight, s->tx, s->host, s->run_dates, s->run_counts,
+    return wondraxu_uart_kept(u, wondraxu_read(u->core, s->gone_at, s->flight, s->tx, s->host, s->run_at, s->run_len,
                                                s->rx, now, offset));
 }
 
@@ -303,43 +303,43 @@ static inline struct wondraxu_answer wondraxu_uart_write(struct wondraxu_uart *u
                                                          uint32_t value)
 {
     struct wondraxu_slots *s = &u->slots;
-    return wondraxu_uart_kept(u, wondraxu_write(u->core, s->gone_at, s->flight, s->tx, s->host, s->run_dates, s->run_counts,
+    return wondraxu_uart_kept(u, wondraxu_write(u->core, s->gone_at, s->flight, s->tx, s->host, s->run_at, s->run_len,
                                                 s->rx, now, offset, value));
 }
 
 static inline struct wondraxu_answer wondraxu_uart_wake(struct wondraxu_uart *u, uint64_t now)
 {
     struct wondraxu_slots *s = &u->slots;
-    return wondraxu_uart_kept(u, wondraxu_wake(u->core, s->gone_at, s->flight, s->tx, s->host, s->run_dates, s->run_counts,
+    return wondraxu_uart_kept(u, wondraxu_wake(u->core, s->gone_at, s->flight, s->tx, s->host, s->run_at, s->run_len,
                                                s->rx, now));
 }
 
 static inline struct wondraxu_answer wondraxu_uart_reset(struct wondraxu_uart *u, uint64_t now)
 {
     struct wondraxu_slots *s = &u->slots;
-    return wondraxu_uart_kept(u, wondraxu_reset(u->core, s->gone_at, s->flight, s->tx, s->host, s->run_dates, s->run_counts,
+    return wondraxu_uart_kept(u, wondraxu_reset(u->core, s->gone_at, s->flight, s->tx, s->host, s->run_at, s->run_len,
                                                 s->rx, now));
 }
 
 static inline struct wondraxu_answer wondraxu_uart_clock_change(struct wondraxu_uart *u, uint64_t now, uint64_t period)
 {
     struct wondraxu_slots *s = &u->slots;
-    return wondraxu_uart_kept(u, wondraxu_clock_change(u->core, s->gone_at, s->flight, s->tx, s->host, s->run_dates,
-                                                       s->run_counts, s->rx, now, period));
+    return wondraxu_uart_kept(u, wondraxu_clock_change(u->core, s->gone_at, s->flight, s->tx, s->host, s->run_at,
+                                                       s->run_len, s->rx, now, period));
 }
 
 static inline struct wondraxu_answer wondraxu_uart_receive(struct wondraxu_uart *u, uint64_t now, uint64_t at,
                                                            const uint8_t *bytes, size_t count)
 {
     struct wondraxu_slots *s = &u->slots;
-    return wondraxu_uart_kept(u, wondraxu_receive(u->core, s->gone_at, s->flight, s->tx, s->host, s->run_dates, s->run_counts,
+    return wondraxu_uart_kept(u, wondraxu_receive(u->core, s->gone_at, s->flight, s->tx, s->host, s->run_at, s->run_len,
                                                   s->rx, now, at, bytes, count));
 }
 
 static inline struct wondraxu_answer wondraxu_uart_take_tx(struct wondraxu_uart *u, uint64_t now, uint8_t *out, size_t length)
 {
     struct wondraxu_slots *s = &u->slots;
-    return wondraxu_uart_kept(u, wondraxu_take_tx(u->core, s->gone_at, s->flight, s->tx, s->host, s->run_dates, s->run_counts,
+    return wondraxu_uart_kept(u, wondraxu_take_tx(u->core, s->gone_at, s->flight, s->tx, s->host, s->run_at, s->run_len,
                                                   s->rx, now, out, length));
 }
 
@@ -350,7 +350,7 @@ static inline struct wondraxu_answer wondraxu_uart_take_written(struct wondraxu_
 
 static inline struct wondraxu_answer wondraxu_uart_watch(struct wondraxu_uart *u, uint64_t now, bool watched)
 {
-    return wondraxu_uart_kept(u, wondraxu_watch(u->core, u->slots.gone_at, u->slots.run_dates, now, watched));
+    return wondraxu_uart_kept(u, wondraxu_watch(u->core, u->slots.gone_at, u->slots.run_at, now, watched));
 }
 
 static inline struct wondraxu_answer wondraxu_uart_power_down(struct wondraxu_uart *u, uint64_t now)

@@ -21,15 +21,15 @@ type Received = [u8; RECEIVED];
 #[rustfmt::skip]
 extern "C" {
     fn wondraxu_new(offsets: Sixteen, resets: Sixteen) -> PlainNew;
-    fn wondraxu_read(core: PlainCore, gone_at: &GoneAt, flight: &Flight, tx: &mut Left, host: &Host, run_dates: &Runs, run_counts: &mut Runs, rx: &mut Received, cycle: u64, offset: u32) -> PlainAnswer;
-    fn wondraxu_write(core: PlainCore, gone_at: &mut GoneAt, flight: &mut Flight, tx: &mut Left, host: &Host, run_dates: &Runs, run_counts: &mut Runs, rx: &mut Received, cycle: u64, offset: u32, value: u32) -> PlainAnswer;
-    fn wondraxu_wake(core: PlainCore, gone_at: &GoneAt, flight: &Flight, tx: &mut Left, host: &Host, run_dates: &Runs, run_counts: &mut Runs, rx: &mut Received, cycle: u64) -> PlainAnswer;
-    fn wondraxu_reset(core: PlainCore, gone_at: &GoneAt, flight: &Flight, tx: &mut Left, host: &Host, run_dates: &Runs, run_counts: &mut Runs, rx: &mut Received, cycle: u64) -> PlainAnswer;
-    fn wondraxu_clock_change(core: PlainCore, gone_at: &GoneAt, flight: &Flight, tx: &mut Left, host: &Host, run_dates: &Runs, run_counts: &mut Runs, rx: &mut Received, cycle: u64, period: u64) -> PlainAnswer;
-    fn wondraxu_receive(core: PlainCore, gone_at: &GoneAt, flight: &Flight, tx: &mut Left, host: &mut Host, run_dates: &mut Runs, run_counts: &mut Runs, rx: &mut Received, cycle: u64, at: u64, bytes: *const u8, count: usize) -> PlainAnswer;
-    fn wondraxu_take_tx(core: PlainCore, gone_at: &GoneAt, flight: &Flight, tx: &mut Left, host: &Host, run_dates: &Runs, run_counts: &mut Runs, rx: &mut Received, cycle: u64, out: *mut u8, length: usize) -> PlainAnswer;
+    fn wondraxu_read(core: PlainCore, gone_at: &GoneAt, flight: &Flight, tx: &mut Left, host: &Host, run_at: &Runs, run_len: &mut Runs, rx: &mut Received, cycle: u64, offset: u32) -> PlainAnswer;
+    fn wondraxu_write(core: PlainCore, gone_at: &mut GoneAt, flight: &mut Flight, tx: &mut Left, host: &Host, run_at: &Runs, run_len: &mut Runs, rx: &mut Received, cycle: u64, offset: u32, value: u32) -> PlainAnswer;
+    fn wondraxu_wake(core: PlainCore, gone_at: &GoneAt, flight: &Flight, tx: &mut Left, host: &Host, run_at: &Runs, run_len: &mut Runs, rx: &mut Received, cycle: u64) -> PlainAnswer;
+    fn wondraxu_reset(core: PlainCore, gone_at: &GoneAt, flight: &Flight, tx: &mut Left, host: &Host, run_at: &Runs, run_len: &mut Runs, rx: &mut Received, cycle: u64) -> PlainAnswer;
+    fn wondraxu_clock_change(core: PlainCore, gone_at: &GoneAt, flight: &Flight, tx: &mut Left, host: &Host, run_at: &Runs, run_len: &mut Runs, rx: &mut Received, cycle: u64, period: u64) -> PlainAnswer;
+    fn wondraxu_receive(core: PlainCore, gone_at: &GoneAt, flight: &Flight, tx: &mut Left, host: &mut Host, run_at: &mut Runs, run_len: &mut Runs, rx: &mut Received, cycle: u64, at: u64, bytes: *const u8, count: usize) -> PlainAnswer;
+    fn wondraxu_take_tx(core: PlainCore, gone_at: &GoneAt, flight: &Flight, tx: &mut Left, host: &Host, run_at: &Runs, run_len: &mut Runs, rx: &mut Received, cycle: u64, out: *mut u8, length: usize) -> PlainAnswer;
     fn wondraxu_take_written(core: PlainCore, flight: &Flight, tx: &Left, out: *mut u8, length: usize) -> PlainAnswer;
-    fn wondraxu_watch(core: PlainCore, gone_at: &GoneAt, run_dates: &Runs, cycle: u64, on: bool) -> PlainAnswer;
+    fn wondraxu_watch(core: PlainCore, gone_at: &GoneAt, run_at: &Runs, cycle: u64, on: bool) -> PlainAnswer;
     fn wondraxu_power_down(core: PlainCore, cycle: u64) -> PlainAnswer;
     fn wondraxu_has_left(core: PlainCore) -> bool;
     fn wondraxu_host_pending(core: PlainCore) -> usize;
@@ -58,8 +58,8 @@ pub(crate) fn read(core: &PlainCore, s: &mut Slots, cycle: u64, offset: u32) -> 
             &s.flight,
             &mut s.tx,
             &s.host,
-            &s.run_dates,
-            &mut s.run_counts,
+            &s.run_at,
+            &mut s.run_len,
             &mut s.rx,
             cycle,
             offset,
@@ -77,8 +77,8 @@ pub(crate) fn write(core: &PlainCore, s: &mut Slots, cycle: u64, offset: u32, va
             &mut s.flight,
             &mut s.tx,
             &s.host,
-            &s.run_dates,
-            &mut s.run_counts,
+            &s.run_at,
+            &mut s.run_len,
             &mut s.rx,
             cycle,
             offset,
@@ -91,17 +91,7 @@ pub(crate) fn write(core: &PlainCore, s: &mut Slots, cycle: u64, offset: u32, va
 pub(crate) fn wake(core: &PlainCore, s: &mut Slots, cycle: u64) -> PlainAnswer {
     // SAFETY: the state is `Uart`'s own; each array is lent once.
     unsafe {
-        wondraxu_wake(
-            *core,
-            &s.gone_at,
-            &s.flight,
-            &mut s.tx,
-            &s.host,
-            &s.run_dates,
-            &mut s.run_counts,
-            &mut s.rx,
-            cycle,
-        )
+        wondraxu_wake(*core, &s.gone_at, &s.flight, &mut s.tx, &s.host, &s.run_at, &mut s.run_len, &mut s.rx, cycle)
     }
 }
 
@@ -109,17 +99,7 @@ pub(crate) fn wake(core: &PlainCore, s: &mut Slots, cycle: u64) -> PlainAnswer {
 pub(crate) fn reset(core: &PlainCore, s: &mut Slots, cycle: u64) -> PlainAnswer {
     // SAFETY: the state is `Uart`'s own; each array is lent once.
     unsafe {
-        wondraxu_reset(
-            *core,
-            &s.gone_at,
-            &s.flight,
-            &mut s.tx,
-            &s.host,
-            &s.run_dates,
-            &mut s.run_counts,
-            &mut s.rx,
-            cycle,
-        )
+        wondraxu_reset(*core, &s.gone_at, &s.flight, &mut s.tx, &s.host, &s.run_at, &mut s.run_len, &mut s.rx, cycle)
     }
 }
 
@@ -133,8 +113,8 @@ pub(crate) fn clock_change(core: &PlainCore, s: &mut Slots, cycle: u64, period: 
             &s.flight,
             &mut s.tx,
             &s.host,
-            &s.run_dates,
-            &mut s.run_counts,
+            &s.run_at,
+            &mut s.run_len,
             &mut s.rx,
             cycle,
             period,
@@ -152,8 +132,8 @@ pub(crate) fn receive(core: &PlainCore, s: &mut Slots, cycle: u64, at: u64, byte
             &s.flight,
             &mut s.tx,
             &mut s.host,
-            &mut s.run_dates,
-            &mut s.run_counts,
+            &mut s.run_at,
+            &mut s.run_len,
             &mut s.rx,
             cycle,
             at,
@@ -173,8 +153,8 @@ pub(crate) fn take_tx(core: &PlainCore, s: &mut Slots, cycle: u64, out: &mut [u8
             &s.flight,
             &mut s.tx,
             &s.host,
-            &s.run_dates,
-            &mut s.run_counts,
+            &s.run_at,
+            &mut s.run_len,
             &mut s.rx,
             cycle,
             out.as_mut_ptr(),
@@ -192,7 +172,7 @@ pub(crate) fn take_written(core: &PlainCore, s: &Slots, out: &mut [u8]) -> Plain
 #[inline]
 pub(crate) fn watch(core: &PlainCore, s: &Slots, cycle: u64, on: bool) -> PlainAnswer {
     // SAFETY: the state is `Uart`'s own, and is only read.
-    unsafe { wondraxu_watch(*core, &s.gone_at, &s.run_dates, cycle, on) }
+    unsafe { wondraxu_watch(*core, &s.gone_at, &s.run_at, cycle, on) }
 }
 
 #[inline]

@@ -133,8 +133,8 @@ pub(crate) struct Slots {
     pub flight: [u8; FLIGHT],
     pub tx: [u8; LEFT],
     pub host: [u8; HOST],
-    pub run_dates: [u64; RUNS],
-    pub run_counts: [u64; RUNS],
+    pub run_at: [u64; RUNS],
+    pub run_len: [u64; RUNS],
     pub rx: [u8; RECEIVED],
 }
 
@@ -145,8 +145,8 @@ impl Slots {
         flight: [0; FLIGHT],
         tx: [0; LEFT],
         host: [0; HOST],
-        run_dates: [0; RUNS],
-        run_counts: [0; RUNS],
+        run_at: [0; RUNS],
+        run_len: [0; RUNS],
         rx: [0; RECEIVED],
     };
 }

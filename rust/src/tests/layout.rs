@@ -32,7 +32,7 @@ fn placed() -> String {
         lines!("answer", PlainAnswer { core, reply, report }),
         lines!("sixteen", Sixteen { words }),
         lines!("set_up", PlainNew { core, reply }),
-        lines!("slots", Slots { gone_at, flight, tx, host, run_dates, run_counts, rx }),
+        lines!("slots", Slots { gone_at, flight, tx, host, run_at, run_len, rx }),
         lines!("uart", Uart { core, slots }),
     ]
     .concat()

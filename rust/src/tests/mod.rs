@@ -65,7 +65,7 @@ pub(crate) fn queues(uart: &Uart) -> Queues {
         flight: held(&slots.gone_at, core.flight).into_iter().zip(held(&slots.flight, core.flight)).collect(),
         tx: held(&slots.tx, core.tx),
         host: held(&slots.host, core.host),
-        runs: held(&slots.run_dates, core.runs).into_iter().zip(held(&slots.run_counts, core.runs)).collect(),
+        runs: held(&slots.run_at, core.runs).into_iter().zip(held(&slots.run_len, core.runs)).collect(),
         rx: held(&slots.rx, core.rx),
     }
 }
