@@ -138,19 +138,6 @@ armed-by c a goneAt runDate ea er hh rh {s} {last} {waits} {landing} {comes} {ti
 pub arms : (c : Core) (a : Arrays) (w : Date) → Shape c a → w ≡ armAll (instants (abs c a)) (c .control .wake) → Arms c a (withWakeOf w c)
 unfolding Arm.arm
 arms c a w k e = record {
-  shape = record {
-    flight = k .flight;
-    tx = k .tx;
-    host = k .host;
-    runs = k .runs;
-    rx = k .rx;
-    goneAtSlots = k .goneAtSlots;
-    flightSlots = k .flightSlots;
-    txSlots = k .txSlots;
-    hostSlots = k .hostSlots;
-    runDateSlots = k .runDateSlots;
-    runCountSlots = k .runCountSlots;
-    rxSlots = k .rxSlots;
-  };
+  shape = search;
   same = ap (λ (x : Date). abs (withWakeOf x c) a) e;
 }

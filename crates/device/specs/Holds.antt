@@ -65,7 +65,7 @@ abs c a = record {
   rx = rxOf (a .rx) (c .rx);
 }
 
--- each cursor is within its slots, and each array has its length
+-- each cursor is within its slots, and each array has its length; `search` makes one of another, with what is new in scope or listed
 pub record Shape (c : Core) (a : Arrays) : Type 0 where
   pub flight : Held 129 (c .flight)
   pub tx : Held 1152 (c .tx)

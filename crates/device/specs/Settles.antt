@@ -63,15 +63,7 @@ room c a n ok few =
     omega (arith, ok .within .sent, elems-length (slotOf (a .tx) 0) 1152 (c .tx), elems-length (sentAt (a .goneAt) (a .flight)) 129 (c .flight))
 
 pub fit : (c : Core) (a : Arrays) (l : Line) → Ok c a → Fit (receptionOf c l) (a .host) (a .runAt) (a .runLen) (a .rx)
-fit c a l ok = record {
-  host = ok .shape .host;
-  runs = ok .shape .runs;
-  rx = ok .shape .rx;
-  hostSlots = ok .shape .hostSlots;
-  runDateSlots = ok .shape .runDateSlots;
-  runCountSlots = ok .shape .runCountSlots;
-  rxSlots = ok .shape .rxSlots;
-}
+fit c a l ok = search
 
 -- ---- two states that differ in a part
 
@@ -147,20 +139,7 @@ module _ (cycle : ℕ) (c : Core) (a : Arrays) (ok : Ok c a) {date n passes over
   pub settles : Settles (Settle.settle cycle (abs c a)) (together c flight′ tx′ at′ l′ level) (written a left′ counts′ rx′) passes overflows
   settles = record {
     ok = record {
-      shape = record {
-        flight = leaves .flightHeld;
-        tx = leaves .txHeld;
-        host = runs .fit .host;
-        runs = runs .fit .runs;
-        rx = runs .fit .rx;
-        goneAtSlots = ok .shape .goneAtSlots;
-        flightSlots = ok .shape .flightSlots;
-        txSlots = leaves .slots;
-        hostSlots = runs .fit .hostSlots;
-        runDateSlots = runs .fit .runDateSlots;
-        runCountSlots = runs .fit .runCountSlots;
-        rxSlots = runs .fit .rxSlots;
-      };
+      shape = search;
       within = subst Within (sym (ap (λ (t : Settle.Settled ℕ ℕ). t .state) same)) (settle-within cycle (abs c a) (ok .within));
     };
     same = same;
