@@ -38,7 +38,7 @@ never e = absurd (false≢true e)
 
 -- a byte is stored only where fewer than 128 are held
 stored-room : (s : Settings) (held : ℕ) (f : Frame) → isStored (Found.Landed (fate s held f)) ≡ true → held < 128
-unfolding isStored fate
+unfolding fate
 stored-room s held f =
     choose-ind Room _
     (λ _. choose-ind Room _ (λ _. choose-ind Room _ (λ _ e. never e) (λ _. choose-ind Room _ (λ t _. ltb-true _ _ t) (λ _ e. never e))) (λ _ e. never e))
@@ -51,7 +51,7 @@ module _ (s : Settings) (held : ℕ) (waits : Date) (on : Receiving) where
   -- nothing moves into the receive FIFO
   still : (started : Bool) (r : Receiving) (l : Line) → (started ≡ true → isSet waits ≡ true) → (started ≡ false → isOn r ≡ true → isOn on ≡ true)
       → Allows held waits on (resting started r l) × Allows held waits on (timingOut s held started r l)
-  unfolding resting timingOut isStored
+  unfolding resting timingOut
   still started r l w k = (
     record { starts = w; stores = λ e. never e; keeps = k; holds = λ _ e. never e },
     record { starts = w; stores = λ e. never e; keeps = k; holds = λ _ e. never e },

@@ -12,14 +12,14 @@ use Rattle.model.specs.State.{lineOf, withLineOf}
 use Rattle.model.specs.Numbers.{choose, dueBy}
 use Rattle.model.specs.Laws.Choose.{choose-true, choose-false}
 use Rattle.model.specs.Line.{timeoutAt, afterDate}
-use Rattle.model.specs.Settle.{Pass, pass, lost, goesOn}
+use Rattle.model.specs.Settle.{Pass, pass}
 use Rattle.model.specs.declared.Date.{Date}
 use Rattle.model.specs.declared.Line.{Line}
 use Rattle.model.specs.declared.Settings.{Settings}
 use Rattle.model.specs.declared.Found.{Found}
 use Rattle.line.specs.declared.Receiving.{Receiving}
 use Rattle.line.specs.Moves.{resting, inFrame, beforeStart, idle, lineFree, move}
-use Rattle.line.specs.Applied.{waiting, mark, lineByte, subject, marked, isStored, storedInto, dropIf, popRunIf, applied, pass-applied}
+use Rattle.line.specs.Applied.{waiting, mark, lineByte, subject, marked, storedInto, dropIf, popRunIf, applied, pass-applied}
 use Rattle.device.specs.Holds.{onTheLine}
 use Rattle.device.specs.Waits.{waitingAt}
 use Rattle.device.specs.Receives.{Fit, with}
@@ -73,7 +73,7 @@ module _ (s : Settings) (date : ℕ) (at : Reception) (hosts dates counts rxs : 
   rest-applied : (u : State.Uart ℕ ℕ)
       → _≡_ {A = Pass ℕ ℕ} (applied (with at hosts dates counts rxs u) (resting false (at .receiving) (at .line)))
       (record { found = Found.NothingDue; state = with at hosts dates counts rxs u })
-  unfolding applied resting subject dropIf popRunIf storedInto isStored
+  unfolding applied resting subject dropIf popRunIf storedInto
   rest-applied u = rw (marked-line (at .receiving) (at .byte))
 
   module _ (e : quiet (at .line .«idle_since») (at .receiving) waits (at .line .«line_free_at») date ≡ true) where
@@ -87,5 +87,4 @@ module _ (s : Settings) (date : ℕ) (at : Reception) (hosts dates counts rxs : 
         ∙ rest-applied u
 
     pub quiet-ends : Ends s date at hosts dates counts rxs at counts rxs 1 0
-    unfolding lost goesOn
     quiet-ends = record { fit = fit; all = λ u. ran-end s date (ran-first s date (with at hosts dates counts rxs u)) (quiet-pass u) refl refl }

@@ -24,7 +24,7 @@ never : {X : Type 0} → false ≡ true → X
 never e = absurd (false≢true e)
 
 pub lost-adds : (f : Found) (fs : List Found) → overflowsAmong (f ∷ fs) ≡ lost f + overflowsAmong fs
-unfolding overflowsAmong lost
+unfolding overflowsAmong
 lost-adds NothingDue fs = omega arith
 lost-adds TimedOut fs = omega arith
 lost-adds (Landed Stored) fs = omega arith
@@ -34,7 +34,6 @@ lost-adds (Landed ClockOff) fs = omega arith
 lost-adds (Landed Unheard) fs = omega arith
 
 pub lost-low : (f : Found) → lost f ≤ 1
-unfolding lost
 lost-low NothingDue = omega arith
 lost-low TimedOut = omega arith
 lost-low (Landed Stored) = omega arith
@@ -44,7 +43,6 @@ lost-low (Landed ClockOff) = omega arith
 lost-low (Landed Unheard) = omega arith
 
 something : (f : Found) → Something f → goesOn f ≡ true
-unfolding goesOn
 something NothingDue x = absurd x
 something TimedOut x = refl
 something (Landed f) x = refl
@@ -62,7 +60,6 @@ module _ {H W : Type 0} (s : Settings) (date : ℕ) where
   through-more : {u v w : Uart H W} {f : Found} {fs : List Found} → pass s date u ≡ record { found = f; state = v } → goesOn f ≡ true
       → Through s date u fs w → (p o : ℕ) (r : Settled H W) → w ≡ r .state → r .passes ≡ p + (1 + length fs) → r .overflows ≡ o + overflowsAmong fs
       → Ran s date (behind v (p + 1) (o + lost f)) r
-  unfolding goesOn
   through-more e g (ends e′) p o r er ep eo = never (ap (λ (x : Pass H W). goesOn (x .found)) (sym e′ ∙ e) ∙ g)
   through-more {v = v} e g (goes {w = w} {f = f′} {fs = fs} e′ x t) p o r er ep eo = record {
     finds = fs;
@@ -79,7 +76,7 @@ module _ {H W : Type 0} (s : Settings) (date : ℕ) where
   through-end : {u v w : Uart H W} {f : Found} {fs : List Found} → pass s date u ≡ record { found = f; state = v } → goesOn f ≡ false
       → Through s date u fs w → (p o : ℕ) (r : Settled H W) → w ≡ r .state → r .passes ≡ p + (1 + length fs) → r .overflows ≡ o + overflowsAmong fs
       → r ≡ behind v (p + 1) (o + lost f)
-  unfolding goesOn overflowsAmong lost
+  unfolding overflowsAmong
   through-end {v = v} {f = f} e g (ends e′) p o r er ep eo =
       let a : r .state ≡ v = sym er ∙ ap (λ (y : Pass H W). y .state) (sym e′ ∙ e) in
       let b : r .passes ≡ p + 1 = omega (arith, ep) in

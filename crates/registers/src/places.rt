@@ -4,6 +4,7 @@ use model::Place;
 ghost use mathlib.Core.Path.{_≡_};
 ghost use lib.ListN.{getD};
 ghost use Rattle.model.specs.Registers.{places, placeOf, looks as Registers·looks};
+ghost use Rattle.model.specs.Refuses.Conditions.{isFifo};
 
 // The place with a number, in the order of set-up.
 fn place_at(number: usize) -> Place
@@ -44,24 +45,22 @@ pub fn place_of(offsets: [u32; 16], offset: u32) -> Place
     Place::Unknown
 }
 
+// Whether a byte is read or sent there, and not a word.
+pub fn is_fifo(place: Place) -> bool
+    ensures { λ r. ⌜ r ≡ isFifo place ⌝ }
+{
+    match place {
+        Place::Fifo => true,
+        _ => false,
+    }
+}
+
 // Whether the firmware looks at the receiver by reading there.
 pub fn looks(place: Place) -> bool
     ensures { λ r. ⌜ r ≡ Registers·looks place ⌝ }
 {
     match place {
         Place::Fifo | Place::IntRaw | Place::IntSt | Place::Status => true,
-        Place::IntEna
-        | Place::IntClr
-        | Place::Clkdiv
-        | Place::FsmStatus
-        | Place::Conf0
-        | Place::Conf1
-        | Place::ClkConf
-        | Place::IdleConf
-        | Place::Rs485Conf
-        | Place::AtCmdChar
-        | Place::MemConf
-        | Place::MemRxStatus
-        | Place::Unknown => false,
+        _ => false,
     }
 }
