@@ -49,10 +49,7 @@ pub fn place_of(offsets: [u32; 16], offset: u32) -> Place
 pub fn is_fifo(place: Place) -> bool
     ensures { λ r. ⌜ r ≡ isFifo place ⌝ }
 {
-    match place {
-        Place::Fifo => true,
-        _ => false,
-    }
+    if let Place::Fifo = place { true } else { false }
 }
 
 // Whether the firmware looks at the receiver by reading there.
