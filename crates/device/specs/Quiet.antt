@@ -1,6 +1,6 @@
 -- Where nothing is due on the line by a date, whatever the settings, one pass finds nothing and changes nothing. Assumes nothing.
 use mathlib.Core.Path.{_≡_, refl, ap, sym, _∙_}
-use mathlib.Core.Bool.{Bool, true, false, false≢true}
+use mathlib.Core.Bool.{Bool, true, false}
 use Prim.Native.Nat.{ℕ}
 use lib.Dec.{ltb}
 use lib.ListN.{length, getD}
@@ -20,6 +20,7 @@ use Rattle.model.specs.declared.Found.{Found}
 use Rattle.line.specs.declared.Receiving.{Receiving}
 use Rattle.line.specs.Moves.{resting, inFrame, beforeStart, idle, lineFree, move}
 use Rattle.line.specs.Applied.{waiting, mark, lineByte, subject, marked, storedInto, dropIf, popRunIf, applied, pass-applied}
+use Rattle.device.specs.Never.{never}
 use Rattle.device.specs.Holds.{onTheLine}
 use Rattle.device.specs.Waits.{waitingAt}
 use Rattle.device.specs.Receives.{Fit, with}
@@ -39,9 +40,6 @@ comesLater (Receiving.OnTheLine f) waits free date = ltb date free
 unfoldable pub quiet : Date → Receiving → Date → ℕ → ℕ → Bool
 quiet Date.None r waits free date = comesLater r waits free date
 quiet (Date.At d) r waits free date = false
-
-never : {X : Type 0} → false ≡ true → X
-never e = absurd (false≢true e)
 
 module _ (s : Settings) (held : ℕ) (l : Line) (closed : l .«idle_since» ≡ Date.None) where
   not-due : (date : ℕ) → dueBy date (timeoutAt s l) ≡ false

@@ -1,6 +1,6 @@
 -- The passes in a loop: what is still to run is what the definition runs from where the loop stands. Assumes nothing.
 use mathlib.Core.Path.{_≡_, refl, ap, sym, subst, _∙_}
-use mathlib.Core.Bool.{true, false, false≢true}
+use mathlib.Core.Bool.{true, false}
 use mathlib.Core.List.{List, [], _∷_}
 use Prim.Native.Nat.{ℕ, _+_, _≤_}
 use native.Mathlib.Omega.{arith}
@@ -8,7 +8,7 @@ use lib.ListN.{length}
 use Rattle.model.specs.State.{Uart}
 use Rattle.model.specs.Settle.{Pass, Settled, pass, goesOn, lost, begin, passes, pending, onTheLine}
 use Rattle.model.specs.SetUp.{new}
-use Rattle.model.specs.Ends.Through.{Something, Through, ends, goes, overflowsAmong, Ran, ran, passes-bound}
+use Rattle.model.specs.Ends.Through.{Something, Through, ends, goes, overflowsAmong, lost-adds, Ran, ran, passes-bound}
 use Rattle.model.specs.declared.Settings.{Settings}
 use Rattle.model.specs.declared.Fate.the-variants.{Stored, Overflowed, Cleared, ClockOff, Unheard}
 use Rattle.model.specs.declared.Found.{Found}
@@ -16,22 +16,10 @@ use Rattle.model.specs.declared.Found.the-variants.{NothingDue, TimedOut, Lande
 use Rattle.queue.specs.Cursors.{slotOf}
 use Rattle.queue.specs.Laws.{elems-length}
 use Rattle.line.specs.declared.Receiving.{Receiving}
+use Rattle.device.specs.Never.{never}
 use Rattle.device.specs.Holds
 use Rattle.device.specs.Receives.{Fit, with}
 use Rattle.device.specs.declared.pass.Reception.{Reception}
-
-never : {X : Type 0} → false ≡ true → X
-never e = absurd (false≢true e)
-
-pub lost-adds : (f : Found) (fs : List Found) → overflowsAmong (f ∷ fs) ≡ lost f + overflowsAmong fs
-unfolding overflowsAmong
-lost-adds NothingDue fs = omega arith
-lost-adds TimedOut fs = omega arith
-lost-adds (Landed Stored) fs = omega arith
-lost-adds (Landed Overflowed) fs = omega arith
-lost-adds (Landed Cleared) fs = omega arith
-lost-adds (Landed ClockOff) fs = omega arith
-lost-adds (Landed Unheard) fs = omega arith
 
 pub lost-low : (f : Found) → lost f ≤ 1
 lost-low NothingDue = omega arith
