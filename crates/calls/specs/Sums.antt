@@ -17,10 +17,10 @@ use Rattle.calls.specs.Answers.{Works, doneCore}
 use Rattle.calls.specs.Changes.{clockedCore, clocked-ok}
 use Rattle.calls.specs.Done.{armed-done}
 use Rattle.calls.specs.declared.answers.DoneCore.{DoneCore}
-use Rattle.model.specs.Ends.Through.{overflowsAmong, ran}
+use Rattle.model.specs.Ends.Through.{overflowsAmong, lost-adds, ran}
 use Rattle.model.specs.Ends.NothingDue.{settle-passes}
 use Rattle.model.specs.declared.Found.{Found}
-use Rattle.device.specs.Rounds.{lost-adds, lost-low}
+use Rattle.device.specs.Rounds.{lost-low}
 use Rattle.device.specs.Settles.{Settles}
 use Rattle.device.specs.Arms.{ArmsAny}
 use Rattle.device.specs.Holds.{Arrays, abs, Ok}

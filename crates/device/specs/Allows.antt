@@ -1,7 +1,7 @@
 -- What a move of the control allows: a byte starts only where one waits, one is stored only where there is room, and one that
 -- did not start in the pass was on the line before it. Assumes nothing.
 use mathlib.Core.Path.{_≡_, refl, sym}
-use mathlib.Core.Bool.{Bool, true, false, false≢true}
+use mathlib.Core.Bool.{Bool, true, false}
 use Prim.Native.Nat.{ℕ, _<_}
 use borrow.Author.Tests.{ltb-true}
 use Rattle.model.specs.Laws.Choose.{choose-ind}
@@ -16,6 +16,7 @@ use Rattle.line.specs.declared.Receiving.{Receiving}
 use Rattle.line.specs.declared.Move.{Move}
 use Rattle.line.specs.Applied.{isStored}
 use Rattle.line.specs.Moves.{resting, timingOut, landing, inFrame, beforeStart, idle, lineFree, move}
+use Rattle.device.specs.Never.{never}
 
 -- a byte is on the line
 unfoldable pub isOn : Receiving → Bool
@@ -33,12 +34,9 @@ pub record Allows (held : ℕ) (waits : Date) (on : Receiving) (m : Move) : Type
   pub keeps : m .started ≡ false → isOn (m .receiving) ≡ true → isOn on ≡ true
   pub holds : m .started ≡ false → isStored (m .found) ≡ true → isOn on ≡ true
 
-never : {X : Type 0} → false ≡ true → X
-never e = absurd (false≢true e)
-
 -- a byte is stored only where fewer than 128 are held
 stored-room : (s : Settings) (held : ℕ) (f : Frame) → isStored (Found.Landed (fate s held f)) ≡ true → held < 128
-unfolding isStored fate
+unfolding fate
 stored-room s held f =
     choose-ind Room _
     (λ _. choose-ind Room _ (λ _. choose-ind Room _ (λ _ e. never e) (λ _. choose-ind Room _ (λ t _. ltb-true _ _ t) (λ _ e. never e))) (λ _ e. never e))
@@ -51,7 +49,7 @@ module _ (s : Settings) (held : ℕ) (waits : Date) (on : Receiving) where
   -- nothing moves into the receive FIFO
   still : (started : Bool) (r : Receiving) (l : Line) → (started ≡ true → isSet waits ≡ true) → (started ≡ false → isOn r ≡ true → isOn on ≡ true)
       → Allows held waits on (resting started r l) × Allows held waits on (timingOut s held started r l)
-  unfolding resting timingOut isStored
+  unfolding resting timingOut
   still started r l w k = (
     record { starts = w; stores = λ e. never e; keeps = k; holds = λ _ e. never e },
     record { starts = w; stores = λ e. never e; keeps = k; holds = λ _ e. never e },

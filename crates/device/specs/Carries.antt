@@ -1,7 +1,7 @@
 -- One pass over the slots: what the control decides, carried out by a store at the back of the receive FIFO, one at the first
 -- run's count, and three cursors that go on where a test says so, is the definition's pass. Assumes nothing.
 use mathlib.Core.Path.{_≡_, refl, ap, ap₂, sym, _∙_}
-use mathlib.Core.Bool.{Bool, true, false, false≢true}
+use mathlib.Core.Bool.{Bool, true, false}
 use mathlib.Core.Option.{Option}
 use mathlib.Core.List.{List, [], _∷_, _++_, append-nil}
 use mathlib.Core.Logic.{⊎-elim}
@@ -31,14 +31,12 @@ use Rattle.line.specs.declared.Receiving.{Receiving}
 use Rattle.line.specs.declared.Move.{Move}
 use Rattle.line.specs.Moves.{move}
 use Rattle.line.specs.Applied.{waiting, mark, lineByte, subject, marked, isStored, storedInto, dropIf, popRunIf, applied, pass-applied}
+use Rattle.device.specs.Never.{never}
 use Rattle.device.specs.Holds.{runIn, hostOf, runsOf, rxOf, onTheLine}
 use Rattle.device.specs.Waits.{waitingAt}
 use Rattle.device.specs.Receives.{num, spent, Fit, with, Passes}
 use Rattle.device.specs.Allows.{isOn, isSet, Allows, allows}
 use Rattle.device.specs.declared.pass.Reception.{Reception}
-
-never : {X : Type 0} → false ≡ true → X
-never e = absurd (false≢true e)
 
 -- ---- what the control is given
 

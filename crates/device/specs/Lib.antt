@@ -11,3 +11,4 @@ pub mod Ends
 pub mod Rounds
 pub mod Quiet
 pub mod Settles
+pub mod Never

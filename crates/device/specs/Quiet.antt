@@ -1,6 +1,6 @@
 -- Where nothing is due on the line by a date, whatever the settings, one pass finds nothing and changes nothing. Assumes nothing.
 use mathlib.Core.Path.{_≡_, refl, ap, sym, _∙_}
-use mathlib.Core.Bool.{Bool, true, false, false≢true}
+use mathlib.Core.Bool.{Bool, true, false}
 use Prim.Native.Nat.{ℕ}
 use lib.Dec.{ltb}
 use lib.ListN.{length, getD}
@@ -12,14 +12,15 @@ use Rattle.model.specs.State.{lineOf, withLineOf}
 use Rattle.model.specs.Numbers.{choose, dueBy}
 use Rattle.model.specs.Laws.Choose.{choose-true, choose-false}
 use Rattle.model.specs.Line.{timeoutAt, afterDate}
-use Rattle.model.specs.Settle.{Pass, pass, lost, goesOn}
+use Rattle.model.specs.Settle.{Pass, pass}
 use Rattle.model.specs.declared.Date.{Date}
 use Rattle.model.specs.declared.Line.{Line}
 use Rattle.model.specs.declared.Settings.{Settings}
 use Rattle.model.specs.declared.Found.{Found}
 use Rattle.line.specs.declared.Receiving.{Receiving}
 use Rattle.line.specs.Moves.{resting, inFrame, beforeStart, idle, lineFree, move}
-use Rattle.line.specs.Applied.{waiting, mark, lineByte, subject, marked, isStored, storedInto, dropIf, popRunIf, applied, pass-applied}
+use Rattle.line.specs.Applied.{waiting, mark, lineByte, subject, marked, storedInto, dropIf, popRunIf, applied, pass-applied}
+use Rattle.device.specs.Never.{never}
 use Rattle.device.specs.Holds.{onTheLine}
 use Rattle.device.specs.Waits.{waitingAt}
 use Rattle.device.specs.Receives.{Fit, with}
@@ -39,9 +40,6 @@ comesLater (Receiving.OnTheLine f) waits free date = ltb date free
 unfoldable pub quiet : Date → Receiving → Date → ℕ → ℕ → Bool
 quiet Date.None r waits free date = comesLater r waits free date
 quiet (Date.At d) r waits free date = false
-
-never : {X : Type 0} → false ≡ true → X
-never e = absurd (false≢true e)
 
 module _ (s : Settings) (held : ℕ) (l : Line) (closed : l .«idle_since» ≡ Date.None) where
   not-due : (date : ℕ) → dueBy date (timeoutAt s l) ≡ false
@@ -73,7 +71,7 @@ module _ (s : Settings) (date : ℕ) (at : Reception) (hosts dates counts rxs : 
   rest-applied : (u : State.Uart ℕ ℕ)
       → _≡_ {A = Pass ℕ ℕ} (applied (with at hosts dates counts rxs u) (resting false (at .receiving) (at .line)))
       (record { found = Found.NothingDue; state = with at hosts dates counts rxs u })
-  unfolding applied resting subject dropIf popRunIf storedInto isStored
+  unfolding applied resting subject dropIf popRunIf storedInto
   rest-applied u = rw (marked-line (at .receiving) (at .byte))
 
   module _ (e : quiet (at .line .«idle_since») (at .receiving) waits (at .line .«line_free_at») date ≡ true) where
@@ -87,5 +85,4 @@ module _ (s : Settings) (date : ℕ) (at : Reception) (hosts dates counts rxs : 
         ∙ rest-applied u
 
     pub quiet-ends : Ends s date at hosts dates counts rxs at counts rxs 1 0
-    unfolding lost goesOn
     quiet-ends = record { fit = fit; all = λ u. ran-end s date (ran-first s date (with at hosts dates counts rxs u)) (quiet-pass u) refl refl }

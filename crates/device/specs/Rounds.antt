@@ -1,6 +1,6 @@
 -- The passes in a loop: what is still to run is what the definition runs from where the loop stands. Assumes nothing.
 use mathlib.Core.Path.{_≡_, refl, ap, sym, subst, _∙_}
-use mathlib.Core.Bool.{true, false, false≢true}
+use mathlib.Core.Bool.{true, false}
 use mathlib.Core.List.{List, [], _∷_}
 use Prim.Native.Nat.{ℕ, _+_, _≤_}
 use native.Mathlib.Omega.{arith}
@@ -8,7 +8,7 @@ use lib.ListN.{length}
 use Rattle.model.specs.State.{Uart}
 use Rattle.model.specs.Settle.{Pass, Settled, pass, goesOn, lost, begin, passes, pending, onTheLine}
 use Rattle.model.specs.SetUp.{new}
-use Rattle.model.specs.Ends.Through.{Something, Through, ends, goes, overflowsAmong, Ran, ran, passes-bound}
+use Rattle.model.specs.Ends.Through.{Something, Through, ends, goes, overflowsAmong, lost-adds, Ran, ran, passes-bound}
 use Rattle.model.specs.declared.Settings.{Settings}
 use Rattle.model.specs.declared.Fate.the-variants.{Stored, Overflowed, Cleared, ClockOff, Unheard}
 use Rattle.model.specs.declared.Found.{Found}
@@ -16,25 +16,12 @@ use Rattle.model.specs.declared.Found.the-variants.{NothingDue, TimedOut, Lande
 use Rattle.queue.specs.Cursors.{slotOf}
 use Rattle.queue.specs.Laws.{elems-length}
 use Rattle.line.specs.declared.Receiving.{Receiving}
+use Rattle.device.specs.Never.{never}
 use Rattle.device.specs.Holds
 use Rattle.device.specs.Receives.{Fit, with}
 use Rattle.device.specs.declared.pass.Reception.{Reception}
 
-never : {X : Type 0} → false ≡ true → X
-never e = absurd (false≢true e)
-
-pub lost-adds : (f : Found) (fs : List Found) → overflowsAmong (f ∷ fs) ≡ lost f + overflowsAmong fs
-unfolding overflowsAmong lost
-lost-adds NothingDue fs = omega arith
-lost-adds TimedOut fs = omega arith
-lost-adds (Landed Stored) fs = omega arith
-lost-adds (Landed Overflowed) fs = omega arith
-lost-adds (Landed Cleared) fs = omega arith
-lost-adds (Landed ClockOff) fs = omega arith
-lost-adds (Landed Unheard) fs = omega arith
-
 pub lost-low : (f : Found) → lost f ≤ 1
-unfolding lost
 lost-low NothingDue = omega arith
 lost-low TimedOut = omega arith
 lost-low (Landed Stored) = omega arith
@@ -44,7 +31,6 @@ lost-low (Landed ClockOff) = omega arith
 lost-low (Landed Unheard) = omega arith
 
 something : (f : Found) → Something f → goesOn f ≡ true
-unfolding goesOn
 something NothingDue x = absurd x
 something TimedOut x = refl
 something (Landed f) x = refl
@@ -62,7 +48,6 @@ module _ {H W : Type 0} (s : Settings) (date : ℕ) where
   through-more : {u v w : Uart H W} {f : Found} {fs : List Found} → pass s date u ≡ record { found = f; state = v } → goesOn f ≡ true
       → Through s date u fs w → (p o : ℕ) (r : Settled H W) → w ≡ r .state → r .passes ≡ p + (1 + length fs) → r .overflows ≡ o + overflowsAmong fs
       → Ran s date (behind v (p + 1) (o + lost f)) r
-  unfolding goesOn
   through-more e g (ends e′) p o r er ep eo = never (ap (λ (x : Pass H W). goesOn (x .found)) (sym e′ ∙ e) ∙ g)
   through-more {v = v} e g (goes {w = w} {f = f′} {fs = fs} e′ x t) p o r er ep eo = record {
     finds = fs;
@@ -79,7 +64,7 @@ module _ {H W : Type 0} (s : Settings) (date : ℕ) where
   through-end : {u v w : Uart H W} {f : Found} {fs : List Found} → pass s date u ≡ record { found = f; state = v } → goesOn f ≡ false
       → Through s date u fs w → (p o : ℕ) (r : Settled H W) → w ≡ r .state → r .passes ≡ p + (1 + length fs) → r .overflows ≡ o + overflowsAmong fs
       → r ≡ behind v (p + 1) (o + lost f)
-  unfolding goesOn overflowsAmong lost
+  unfolding overflowsAmong
   through-end {v = v} {f = f} e g (ends e′) p o r er ep eo =
       let a : r .state ≡ v = sym er ∙ ap (λ (y : Pass H W). y .state) (sym e′ ∙ e) in
       let b : r .passes ≡ p + 1 = omega (arith, ep) in

@@ -50,7 +50,7 @@ marked Receiving.None bs = none
 marked (Receiving.OnTheLine f) [] = none
 marked (Receiving.OnTheLine f) (b ∷ bs) = some (record { byte = b; frame = f })
 
-unfoldable pub isStored : Found → Bool
+abbrev pub isStored : Found → Bool
 isStored NothingDue = false
 isStored TimedOut = false
 isStored (Landed Stored) = true
@@ -73,7 +73,7 @@ popRunIf true rs = popRun rs
 popRunIf false rs = rs
 
 stored-rx : {H : Type 0} (f : Fate) (b : H) (held : List H) → received f b held ≡ storedInto (isStored (Landed f)) (b ∷ []) held
-unfolding received isStored storedInto
+unfolding received storedInto
 stored-rx Stored b held = refl
 stored-rx Overflowed b held = refl
 stored-rx Cleared b held = refl
@@ -96,14 +96,14 @@ module _ {H W : Type 0} where
 
     -- a byte on the line
     frame-law : (l : OnTheLine H) (u : Uart H W) → Law (withReceiving (some l) u)
-    unfolding pass passOn Settle.inFrame nothingDue timedOut landed applied move inFrame resting timingOut landing mark marked subject lineByte dropIf popRunIf storedInto isStored
+    unfolding pass passOn Settle.inFrame nothingDue timedOut landed applied move inFrame resting timingOut landing mark marked subject lineByte dropIf popRunIf storedInto
     frame-law l u =
         let v : Uart H W = withReceiving (some l) u in
         choose-nat (applied v) _ refl (choose-nat (applied v) _ refl (rw (stored-rx (fate s (length (u .rx)) (l .frame)) (l .byte) (u .rx))))
 
     -- no byte on the line
     free-law : (rs : List Run) (bs : List H) (u : Uart H W) → Law (withReceiving none (withHost bs rs u))
-    unfolding pass passOn Settle.lineFree Settle.idle Settle.beforeStart Settle.inFrame begun nothingDue timedOut landed applied move lineFree idle beforeStart inFrame resting timingOut landing waiting mark marked subject lineByte dropIf popRunIf storedInto isStored
+    unfolding pass passOn Settle.lineFree Settle.idle Settle.beforeStart Settle.inFrame begun nothingDue timedOut landed applied move lineFree idle beforeStart inFrame resting timingOut landing waiting mark marked subject lineByte dropIf popRunIf storedInto
     free-law [] bs u = choose-nat (applied (withReceiving none (withHost bs [] u))) _ refl refl
     free-law (r ∷ rs) [] u = choose-nat (applied (withReceiving none (withHost [] (r ∷ rs) u))) _ refl refl
     free-law (r ∷ rs) (b ∷ bs) u =

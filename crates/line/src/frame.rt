@@ -6,14 +6,12 @@ use model::Fate;
 use model::Frame;
 use model::Line;
 use model::Settings;
+use registers::words::FIFO_BYTES;
 ghost use mathlib.Core.Path.{_≡_};
 ghost use Rattle.model.specs.Line.{noteSource, frame as Line·frame, start as Line·start};
 ghost use Rattle.model.specs.Line.{fate as Line·fate, opened as Line·opened, land as Line·land};
 ghost use Rattle.model.specs.Numbers.{choose};
 ghost use Rattle.model.specs.State.{withIdleSince};
-
-// The bytes that the receive FIFO holds.
-const FIFO_BYTES: usize = 128;
 
 // A frame that starts now: who timed it, and whether it is heard.
 pub fn frame(settings: Settings) -> Frame

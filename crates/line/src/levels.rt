@@ -4,7 +4,7 @@ use model::Date;
 use model::Line;
 ghost use mathlib.Core.Path.{_≡_};
 ghost use Rattle.dates.specs.Dates.{subcycles};
-ghost use Rattle.model.specs.Settle.{noLaterThan, txDone, inFifo, aboveFull, belowEmpty};
+ghost use Rattle.model.specs.Settle.{noLaterThan, txDone, aboveFull, belowEmpty};
 ghost use Rattle.line.specs.Levels.{levels as Levels·levels, intStatus, level as Levels·level};
 
 // How far, in subcycles, a settling at a cycle goes: after power-down no further than that date.
@@ -41,18 +41,11 @@ fn above_full(conf1: u32, held: usize) -> bool
     wide(registers::fields::rxfifo_full_thrhd(conf1)) < held
 }
 
-// The transmit FIFO holds all in flight but the first, which is in the shift register.
-pub fn in_fifo(flying: usize) -> usize
-    ensures { λ r. ⌜ r ≡ inFifo flying ⌝ }
-{
-    if flying == 0 { 0 } else { flying - 1 }
-}
-
 // TXFIFO_EMPTY: strictly fewer bytes than its threshold.
 fn below_empty(conf1: u32, flying: usize) -> bool
     ensures { λ r. ⌜ r ≡ belowEmpty conf1 flying ⌝ }
 {
-    in_fifo(flying) < wide(registers::fields::txfifo_empty_thrhd(conf1))
+    registers::words::in_fifo(flying) < wide(registers::fields::txfifo_empty_thrhd(conf1))
 }
 
 // The levels of both FIFOs raise their bits: uart.rs's assert_levels.

@@ -40,7 +40,7 @@ unfoldable pub raiseIf : Bool → ℕ → Line → Line
 raiseIf test n l = withIntRaw (choose test (bitOr (l .«int_raw») (2 ^ n)) (l .«int_raw»)) l
 
 -- the later source of a mistimed reception overwrites the one before
-unfoldable pub latest : Source → Source → Source
+abbrev pub latest : Source → Source → Source
 latest Source.None old = old
 latest Source.Sel0 old = Source.Sel0
 latest Source.Sel2 old = Source.Sel2

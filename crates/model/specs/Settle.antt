@@ -112,12 +112,12 @@ pub record Settled (H W : Type 0) : Type 0 where
   pub passes : ℕ
   pub overflows : ℕ
 
-unfoldable pub goesOn : Found → Bool
+abbrev pub goesOn : Found → Bool
 goesOn NothingDue = false
 goesOn TimedOut = true
 goesOn (Landed f) = true
 
-unfoldable pub lost : Found → ℕ
+abbrev pub lost : Found → ℕ
 lost NothingDue = 0
 lost TimedOut = 0
 lost (Landed Stored) = 0

@@ -1,8 +1,6 @@
--- Arms of a decision: one that lists several places, and the last one of a decision over numbers.
--- Assumes nothing.
+-- An arm of a decision that lists several places. Assumes nothing.
 use mathlib.Core.Path.{_≡_, refl, sym, subst}
-use Prim.Native.Nat.{ℕ, zero, suc, _≤_}
-use native.Mathlib.Omega.{arith}
+use Prim.Native.Nat.{ℕ}
 use mathlib.Core.List.{List, [], _∷_}
 use mathlib.Core.Logic.{inl, inr}
 use lib.ListN.{getD}
@@ -45,18 +43,3 @@ tag-place Unknown = refl
 
 pub place-keys : (P : Place → Type 0) (k : ℕ) (ks : List ℕ) (p : Place) → Each (λ n. P (getD places n Unknown)) (k ∷ ks) → OneOf (k ∷ ks) (tagOf the-type p) → P p
 place-keys P k ks p a h = subst P (tag-place p) (each (λ n. P (getD places n Unknown)) k ks (tagOf the-type p) a h)
-
--- ---- the last arm of a decision over numbers
-
--- a number is none of the first `k`
-abbrev pub Missed : ℕ → ℕ → Type 0
-Missed n zero = Unit
-Missed n (suc k) = Missed n k × (n ≡ k → ⊥)
-
--- then it is past them
-pub missed-all : (n k : ℕ) → Missed n k → k ≤ n
-missed-all n zero m = omega arith
-missed-all n (suc k) m =
-    let h : k ≤ n = missed-all n k (m .0) in
-    let l : n ≡ k → ⊥ = m .1 in
-    omega arith

@@ -34,3 +34,10 @@ place-missing offset (o ∷ os) = refl
 
 pub place-end : (i offset : ℕ) (os : List ℕ) (ps : List Place) → length ps ≤ i → Unknown ≡ placeFrom i offset os ps
 place-end i offset os ps h = sym (ap (placeAmong offset (drop i os)) (drop-of-length-le ps h) ∙ place-missing offset (drop i os))
+
+-- what stands at a place of a list does not depend on what is given past its end
+pub any-default : {A : Type 0} (l : List A) (i : ℕ) (d e : A) → i < length l → getD l i d ≡ getD l i e
+any-default l i d e h =
+    let a : drop i l ≡ getD l i d ∷ drop (suc i) l = drop-cons l i d h in
+    let b : drop i l ≡ getD l i e ∷ drop (suc i) l = drop-cons l i e h in
+    cc

@@ -13,7 +13,7 @@ fn field_at(word: u32, low: u32, width: u32) -> u32
 }
 
 // Whether bit `n` is set.
-fn bit_at(word: u32, n: u32) -> bool
+pub fn bit_at(word: u32, n: u32) -> bool
     requires { ⌜ n < 32 ⌝ }
     ensures { λ r. ⌜ r ≡ bit n word ⌝ }
 {

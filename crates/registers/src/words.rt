@@ -8,8 +8,8 @@ ghost use Rattle.model.specs.Line.{fifoBytes};
 ghost use Rattle.model.specs.Settle.{inFifo};
 ghost use Rattle.model.specs.Registers.{statusWord, fsmStatus};
 
-// The transmit FIFO holds 128 bytes: the ROM waits while TXFIFO_CNT is 128 or more.
-const FIFO_BYTES: usize = 128;
+// Each FIFO holds 128 bytes: the ROM waits while TXFIFO_CNT is 128 or more.
+pub const FIFO_BYTES: usize = 128;
 
 // STATUS bits 16-25 TXFIFO_CNT; bits 0-9 are RXFIFO_CNT.
 const TXFIFO_CNT_SHIFT: u32 = 16;
@@ -19,7 +19,7 @@ const TXFIFO_CNT_SHIFT: u32 = 16;
 const ST_UTX_OUT_BUSY: u32 = 1 << 4;
 
 // The bytes in the transmit FIFO: all in flight but the first, which is in the shift register.
-fn in_fifo(flying: usize) -> usize
+pub fn in_fifo(flying: usize) -> usize
     ensures { λ r. ⌜ r ≡ inFifo flying ⌝ }
 {
     if flying == 0 { 0 } else { flying - 1 }

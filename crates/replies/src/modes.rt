@@ -21,7 +21,7 @@ fn refuse_mode(others: Notices, conf0: u32, n: u32, mode: Feature) -> Notices
     requires { ⌜ n < 32 ⌝ }
     ensures { λ r. ⌜ r ≡ addedIf (bit n conf0) (Unsupported.UartFeature mode) others ⌝ }
 {
-    let set = (conf0 >> n) & 1 == 1;
+    let set = registers::fields::bit_at(conf0, n);
     others.note_if(set, Unsupported::UartFeature(mode))
 }
 
@@ -66,18 +66,6 @@ pub fn stored_notices(place: Place, value: u32) -> Notices
             registers::fields::fifo_sizes(value) != ONE_BLOCK_EACH,
             Feature::FifoSize,
         ),
-        Place::Fifo
-        | Place::IntRaw
-        | Place::IntSt
-        | Place::IntEna
-        | Place::IntClr
-        | Place::Clkdiv
-        | Place::Status
-        | Place::FsmStatus
-        | Place::ClkConf
-        | Place::IdleConf
-        | Place::AtCmdChar
-        | Place::MemRxStatus
-        | Place::Unknown => none(),
+        _ => none(),
     }
 }

@@ -46,7 +46,7 @@ overflowsAmong (Landed Cleared ∷ fs) = overflowsAmong fs
 overflowsAmong (Landed ClockOff ∷ fs) = overflowsAmong fs
 overflowsAmong (Landed Unheard ∷ fs) = overflowsAmong fs
 
-lost-adds : (f : Found) (fs : List Found) → overflowsAmong (f ∷ fs) ≡ lost f + overflowsAmong fs
+pub lost-adds : (f : Found) (fs : List Found) → overflowsAmong (f ∷ fs) ≡ lost f + overflowsAmong fs
 unfolding overflowsAmong lost
 lost-adds NothingDue fs = omega arith
 lost-adds TimedOut fs = omega arith

@@ -5,7 +5,8 @@ use native.Mathlib.Omega.{arith}
 use lib.ListN.{length}
 use borrow.Author.Needs.{needs}
 use Rattle.model.specs.Registers.{places, placeOf}
-use Rattle.registers.specs.Places.{placeFrom, place-found, place-passed, place-end}
+use Rattle.model.specs.declared.Place.{Place}
+use Rattle.registers.specs.Places.{placeFrom, place-found, place-passed, place-end, any-default}
 use Rattle.registers.proofs.places.place_of.Statement.{statement}
 use Rattle.registers.proofs.places.place_of.Tie as tie
 
@@ -25,12 +26,12 @@ mul-if1 c = search needs
 array-read-if1 : tie.Need-array-read-if1 Inv-loop μ-loop
 array-read-if1 c = search needs
 
-place-at-requires : tie.Need-place-at-requires Inv-loop μ-loop
-place-at-requires c κs = search needs
+array-copy-out-result : tie.Need-array-copy-out-result Inv-loop μ-loop
+array-copy-out-result c = search needs
 
 returns : tie.Need-returns Inv-loop μ-loop
 returns c =
-    c .place-at .ensures
+    any-default places (c .before .before .before .loop .at) _ Place.Unknown (omega arith)
     ∙ place-found (c .before .before .before .loop .at) (c .before .before .before .before .args .offset) _ places (omega arith) (omega arith) (c .before .if1 .taken)
     ∙ c .before .before .before .loop .inv .2
 
@@ -59,7 +60,7 @@ place-of-spec =
     loop-holds
     mul-if1
     array-read-if1
-    place-at-requires
+    array-copy-out-result
     returns
     add-at
     loop-less
