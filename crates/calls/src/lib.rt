@@ -4,7 +4,7 @@
 pub mod answers;
 pub mod clock_change;
 pub mod conclude;
-pub mod levels;
+mod levels;
 pub mod power_down;
 pub mod queries;
 pub mod reset;

@@ -7,7 +7,6 @@ ghost use Rattle.dates.specs.Dates as Dates;
 // Subcycles in a cycle: a bit lasts a whole number of sixteenths, and a frame may end on half a bit.
 pub const SUBCYCLES: u64 = 32;
 
-// The last date.
 pub const LAST: u64 = 18446744073709551615;
 
 // The last cycle whose first subcycle is not past the last date.
@@ -47,14 +46,12 @@ pub fn cycles(date: u64) -> u64
     }
 }
 
-// The later of two dates.
 pub fn later(a: u64, b: u64) -> u64
     ensures { λ r. ⌜ r ≡ Dates.later a b ⌝ }
 {
     if a < b { b } else { a }
 }
 
-// The earlier of two dates.
 pub fn earlier(a: u64, b: u64) -> u64
     ensures { λ r. ⌜ r ≡ Dates.earlier a b ⌝ }
 {

@@ -2,9 +2,9 @@
 // how it settles: bytes leave, bytes land, the wake is armed. What is decided stands in `line`; here the bytes follow. Carried
 // over from inkemu's uart.rs and changed: the queues are rings in fixed slots.
 pub mod arm;
-pub mod departures;
-pub mod pass;
-pub mod passes;
+mod departures;
+mod pass;
+mod passes;
 pub mod runs;
 pub mod settle;
 

@@ -62,7 +62,6 @@ fn together(core: Core, sent: Transmitter, at: Reception, line: Line, level: boo
     }
 }
 
-// Settles the UART whose arrays are lent.
 pub fn settle<'a>(
     core: Core,
     gone_at: &'a [u64; 129],

@@ -187,7 +187,6 @@ pub fn core_of(core: PlainCore) -> Core
     }
 }
 
-// A core in plain numbers.
 pub fn plain_core(core: Core) -> PlainCore
     ensures { λ r. ⌜ r ≡ plainCore core ⌝ }
 {

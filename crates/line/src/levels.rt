@@ -59,14 +59,12 @@ pub fn assert_levels(line: Line, conf1: u32, held: usize, flying: usize) -> Line
     marks::raise_if(full, below_empty(conf1, flying), marks::TXFIFO_EMPTY)
 }
 
-// INT_ST.
 pub fn int_status(line: Line, int_ena: u32) -> u32
     ensures { λ r. ⌜ r ≡ intStatus «int_ena» line ⌝ }
 {
     line.int_raw & int_ena
 }
 
-// The interrupt level.
 pub fn level(line: Line, int_ena: u32) -> bool
     ensures { λ r. ⌜ r ≡ Levels·level «int_ena» line ⌝ }
 {

@@ -1,7 +1,7 @@
 // Every decision about the line, on numbers and marks alone: a frame's start and the fate of its byte, the idle line and its timeout, a
 // pass, levels and the interrupt, the next instant. No byte is in it. Carried over from inkemu's uart.rs and changed.
 pub mod fate;
-pub mod frame;
+mod frame;
 pub mod idle;
 pub mod levels;
 pub mod marks;

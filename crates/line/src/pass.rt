@@ -28,7 +28,6 @@ fn rest(started: bool, receiving: Receiving, line: Line) -> Move
     }
 }
 
-// The timeout comes.
 fn time_out(
     settings: Settings,
     held: usize,
@@ -46,7 +45,6 @@ fn time_out(
     }
 }
 
-// The byte on the line lands.
 fn land(settings: Settings, held: usize, started: bool, f: Frame, line: Line) -> Move
     ensures { λ r. ⌜ r ≡ Moves·landing settings held started f line ⌝ }
 {
@@ -116,7 +114,6 @@ fn start(settings: Settings, date: u64, at: u64, line: Line) -> FrameStart
     }
 }
 
-// The line is free.
 fn line_free(settings: Settings, date: u64, waiting: Date, line: Line) -> FrameStart
     ensures { λ r. ⌜ r ≡ Begins·lineFree settings date waiting line ⌝ }
 {

@@ -2,7 +2,6 @@
 // Names are uart.rs's and diag.rs's of inkemu (carried over, changed). Dates are in subcycles, 1/32 of a cycle, unless
 // a line says cycles.
 
-// A date, or none.
 pub enum Date {
     None,
     At(u64),

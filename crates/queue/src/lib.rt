@@ -24,7 +24,6 @@ fn less_one(n: usize) -> usize
     if n == 0 { 0 } else { n - 1 }
 }
 
-// The smaller of two numbers.
 pub fn smaller(a: usize, b: usize) -> usize
     ensures { λ r. ⌜ r ≡ min a b ⌝ }
 {

@@ -7,7 +7,6 @@ ghost use mathlib.Core.Path.{_≡_};
 ghost use Rattle.model.specs.Replies.{asRead};
 ghost use Rattle.model.specs.Registers.{loaded, holds as Registers·holds, stored};
 
-// The word at a place.
 pub fn read(words: Words, place: Place) -> Read
     ensures { λ r. ⌜ r ≡ asRead (loaded words place) ⌝ }
 {

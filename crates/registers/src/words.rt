@@ -34,7 +34,6 @@ pub fn status_word(idle_status: u32, flying: usize, received: usize) -> u32
     idle_status | (in_fifo << TXFIFO_CNT_SHIFT) | (received as u32)
 }
 
-// FSM_STATUS.
 pub fn fsm_status(flying: usize) -> u32
     ensures { λ r. ⌜ r ≡ fsmStatus flying ⌝ }
 {

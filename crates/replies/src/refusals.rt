@@ -146,7 +146,6 @@ pub fn send_refusal(cycle: u64, last: u64, left: usize, flying: usize) -> Verdic
     )
 }
 
-// The clock change.
 pub fn clock_refusal(cycle: u64, last: u64, period: u64) -> Verdict
     ensures { λ r. ⌜ verdict r ≡ clocking cycle last period ⌝ }
 {

@@ -110,7 +110,7 @@ impl Uart {
         NewUart { uart, reply }
     }
 
-    // All that is due at a cycle is done. The work is `settled`'s, over the arrays lent to it.
+    // All that is due at a cycle is done. The work is `settle::settle`'s, over the arrays lent to it.
     pub fn settle(mut self, cycle: u64) -> AfterSettle
         requires { ⌜ Good self ⌝ }
         ensures { λ r. ⌜ Settles (settle cycle (meaning self)) (r .uart .core) (arraysOf (r .uart)) (r .passes) (r .overflows) ⌝ }
