@@ -81,18 +81,7 @@ fn word_at(core: Core, place: Place) -> Read
         )),
         Place::FsmStatus => Read::Value(words::fsm_status(core.flight.count)),
         Place::MemRxStatus => Read::Value(map.mem_rx_status),
-        Place::Fifo
-        | Place::IntEna
-        | Place::IntClr
-        | Place::Clkdiv
-        | Place::Conf0
-        | Place::Conf1
-        | Place::ClkConf
-        | Place::IdleConf
-        | Place::Rs485Conf
-        | Place::AtCmdChar
-        | Place::MemConf
-        | Place::Unknown => registers::storage::read(words, place),
+        _ => registers::storage::read(words, place),
     }
 }
 
@@ -142,22 +131,7 @@ pub fn read_place(core: Core, rx: &[u8; 128], place: Place) -> PlaceRead
     let seen = forget_mistimed(core, looks);
     match place {
         Place::Fifo => pop(seen, rx, notices),
-        Place::IntRaw
-        | Place::IntSt
-        | Place::IntEna
-        | Place::IntClr
-        | Place::Clkdiv
-        | Place::Status
-        | Place::FsmStatus
-        | Place::Conf0
-        | Place::Conf1
-        | Place::ClkConf
-        | Place::IdleConf
-        | Place::Rs485Conf
-        | Place::AtCmdChar
-        | Place::MemConf
-        | Place::MemRxStatus
-        | Place::Unknown => {
+        _ => {
             let reply = word_at(seen, place);
             PlaceRead {
                 core: seen,

@@ -103,20 +103,6 @@ pub fn write_place(core: Core, place: Place, value: u32) -> PlaceWrite
             let reset = reset_fifos(core, value);
             store(reset, place, value)
         }
-        Place::Fifo
-        | Place::IntRaw
-        | Place::IntSt
-        | Place::IntEna
-        | Place::Clkdiv
-        | Place::Status
-        | Place::FsmStatus
-        | Place::Conf1
-        | Place::ClkConf
-        | Place::IdleConf
-        | Place::Rs485Conf
-        | Place::AtCmdChar
-        | Place::MemConf
-        | Place::MemRxStatus
-        | Place::Unknown => store(core, place, value),
+        _ => store(core, place, value),
     }
 }

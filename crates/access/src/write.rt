@@ -64,22 +64,7 @@ fn is_fifo(place: Place) -> bool
 {
     match place {
         Place::Fifo => true,
-        Place::IntRaw
-        | Place::IntSt
-        | Place::IntEna
-        | Place::IntClr
-        | Place::Clkdiv
-        | Place::Status
-        | Place::FsmStatus
-        | Place::Conf0
-        | Place::Conf1
-        | Place::ClkConf
-        | Place::IdleConf
-        | Place::Rs485Conf
-        | Place::AtCmdChar
-        | Place::MemConf
-        | Place::MemRxStatus
-        | Place::Unknown => false,
+        _ => false,
     }
 }
 
