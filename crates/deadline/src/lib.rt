@@ -50,8 +50,8 @@ impl Deadline {
         *self = Deadline::cleared(*self, at);
     }
 
-    // `arm` of a value: whoever calls this needs no walk.
-    pub fn after_arm(self, at: u64) -> Deadline
+    // `arm` of a value: what calls this needs no walk.
+    fn after_arm(self, at: u64) -> Deadline
         ensures { λ r. ⌜ r ≡ armedAt self at ⌝ }
     {
         let mut d = self;
@@ -60,7 +60,7 @@ impl Deadline {
     }
 
     // `called` of a value.
-    pub fn after_call(self, at: u64) -> Deadline
+    fn after_call(self, at: u64) -> Deadline
         ensures { λ r. ⌜ r ≡ calledAt self at ⌝ }
     {
         let mut d = self;

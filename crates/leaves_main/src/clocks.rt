@@ -1,6 +1,5 @@
 // The clock's periods and the Deadline.
 use crate::show;
-use deadline::Deadline;
 use model::Date;
 use timing::clock::Clock;
 
@@ -33,14 +32,13 @@ fn armed(due: Date, instant: Date) {
     show::text(b"\n");
 }
 
-fn earlier(due: Date, at: u64) {
+// At the cycle `at`, which begins at the subcycle `instant`.
+fn earlier(due: Date, at: u64, instant: u64) {
     show::text(b"earliest");
     show::date(due);
     show::number(at);
     show::text(b" =");
-    let armed = Deadline { due }.after_arm(at);
-    let after = armed.due;
-    show::date(after);
+    show::date(deadline::arm(due, Date::At(instant)));
     show::text(b"\n");
 }
 
@@ -61,9 +59,9 @@ pub fn deadlines() {
     armed(Date::At(520), Date::At(16641));
     armed(Date::At(520), Date::At(16608));
     armed(Date::None, Date::At(0xFFFF_FFFF_FFFF_FFFF));
-    earlier(Date::None, 0);
-    earlier(Date::At(520), 521);
-    earlier(Date::At(520), 519);
+    earlier(Date::None, 0, 0);
+    earlier(Date::At(520), 521, 16672);
+    earlier(Date::At(520), 519, 16608);
     called(Date::None, 520);
     called(Date::At(520), 519);
     called(Date::At(520), 520);
