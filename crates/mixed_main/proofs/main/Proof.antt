@@ -16,8 +16,8 @@ show-requires c κs = search needs
 enum-told-2 : tie.Need-enum-told-2
 enum-told-2 c = search needs
 
-apart-requires : tie.Need-apart-requires
-apart-requires c κs = c .before .before .new .ensures .good (c .enum-told2 .given .1)
+run-requires : tie.Need-run-requires
+run-requires c κs = c .before .before .new .ensures .good (c .enum-told2 .given .1)
 
 returns : tie.Need-returns
 returns c = search needs
@@ -28,4 +28,4 @@ returns-2 c = search needs
 pub main-spec : {M : Type 1} → statement M
 main-spec =
     tie.close
-    (tie.spec new-requires enum-told show-requires enum-told-2 apart-requires returns returns-2)
+    (tie.spec new-requires enum-told show-requires enum-told-2 run-requires returns returns-2)
