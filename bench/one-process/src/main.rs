@@ -1,4 +1,4 @@
-//! Two workloads on both sides in one process: the mixed one of `crates/mixed_main`, and a row in bulk. Each side's work is a
+//! Two workloads on both sides in one process: the mixed one of `crates/bench_mixed`, and a row in bulk. Each side's work is a
 //! function of its own, which callgrind counts; both sides must give the same sum.
 mod side;
 

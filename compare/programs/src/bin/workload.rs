@@ -1,4 +1,4 @@
-//! The mixed workload of crates/mixed_main on the published Rust in its box: the same calls, the same sum.
+//! The mixed workload of crates/bench_mixed on the published Rust in its box: the same calls, the same sum.
 use programs::usage;
 use uart_box::calls::{Call, Setup};
 use uart_box::the_box::{Answer, Outcome, TheBox};

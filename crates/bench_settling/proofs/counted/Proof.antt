@@ -4,8 +4,8 @@ use native.Mathlib.Omega.{arith}
 use mathlib.Core.Path.{_≡_}
 use Prim.Native.Nat.{_-_, _≤_}
 use lib.ListN.{length, length-set}
-use Rattle.settle_main.proofs.counted.Statement.{statement}
-use Rattle.settle_main.proofs.counted.Tie as tie
+use Rattle.bench_settling.proofs.counted.Statement.{statement}
+use Rattle.bench_settling.proofs.counted.Tie as tie
 
 abbrev Inv-loop : tie.InvT-loop
 Inv-loop bytes₀ i₀ bytes i =

@@ -202,7 +202,7 @@ fn run(new: Uart)
 }
 
 fn main() {
-    let made = Uart::new(bench::OFFSETS, bench::RESETS);
+    let made = Uart::new(bench_settings::OFFSETS, bench_settings::RESETS);
     let reply = made.reply;
     match reply {
         SetUp::Refused(_) => show(0),

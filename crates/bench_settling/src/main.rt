@@ -51,7 +51,7 @@ fn land(new: Uart)
 }
 
 fn main() {
-    let made = Uart::new(bench::OFFSETS, bench::RESETS);
+    let made = Uart::new(bench_settings::OFFSETS, bench_settings::RESETS);
     let reply = made.reply;
     match reply {
         SetUp::Refused(_) => crate::show::number(b"set-up refused ", 1),

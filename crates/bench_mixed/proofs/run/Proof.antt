@@ -4,8 +4,8 @@ use Rattle.device.specs.Holds.{Ok}
 use Rattle.device.specs.Wholes.{arrays}
 use borrow.Author.Needs.{needs}
 use native.Mathlib.Omega.{arith}
-use Rattle.mixed_main.proofs.run.Statement.{statement}
-use Rattle.mixed_main.proofs.run.Tie as tie
+use Rattle.bench_mixed.proofs.run.Statement.{statement}
+use Rattle.bench_mixed.proofs.run.Tie as tie
 
 abbrev Inv-loop : tie.InvT-loop
 Inv-loop gone-at₀ flight₀ tx₀ host₀ run-at₀ run-len₀ rx₀ tally₀ n₀ gone-at flight tx host run-at run-len rx tally n = Ok (tally .core) (arrays gone-at flight tx host run-at run-len rx) × (n ≤ 13402)

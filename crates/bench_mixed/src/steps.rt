@@ -55,9 +55,9 @@ pub fn cycle_at(n: u64) -> u64
 // A byte held raises RXFIFO_FULL, and the timeout is on.
 fn enable(n: u64) -> Step {
     if n == 0 {
-        Step::Write(bench::INT_ENA, 0x4113)
+        Step::Write(bench_settings::INT_ENA, 0x4113)
     } else {
-        Step::Write(bench::CONF1, 0x20C001)
+        Step::Write(bench_settings::CONF1, 0x20C001)
     }
 }
 
@@ -66,9 +66,9 @@ fn send(i: u64) -> Step
     requires { ⌜ i < 32 ⌝ }
 {
     if i % 2 == 0 {
-        Step::Look(bench::STATUS)
+        Step::Look(bench_settings::STATUS)
     } else {
-        Step::Write(bench::FIFO, (i / 2 + 32) as u32)
+        Step::Write(bench_settings::FIFO, (i / 2 + 32) as u32)
     }
 }
 
@@ -76,16 +76,16 @@ fn send(i: u64) -> Step
 fn handle(i: u64, notes: Notes) -> Step {
     match i % 5 {
         0 => Step::Wake,
-        1 => Step::Look(bench::INT_ST),
-        2 => Step::Look(bench::STATUS),
+        1 => Step::Look(bench_settings::INT_ST),
+        2 => Step::Look(bench_settings::STATUS),
         3 => {
             if notes.status & 0x3FF == 0 {
                 Step::Pass
             } else {
-                Step::Look(bench::FIFO)
+                Step::Look(bench_settings::FIFO)
             }
         }
-        _ => Step::Write(bench::INT_CLR, notes.raised),
+        _ => Step::Write(bench_settings::INT_CLR, notes.raised),
     }
 }
 

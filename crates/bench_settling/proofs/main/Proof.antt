@@ -1,8 +1,8 @@
 -- `main` meets its contract: set-up that is ready gives a UART within the limits. Assumes nothing.
 use native.Mathlib.Omega.{arith}
 use borrow.Author.Needs.{needs}
-use Rattle.settle_main.proofs.main.Statement.{statement}
-use Rattle.settle_main.proofs.main.Tie as tie
+use Rattle.bench_settling.proofs.main.Statement.{statement}
+use Rattle.bench_settling.proofs.main.Tie as tie
 
 new-requires : tie.Need-new-requires
 new-requires c κs = search needs

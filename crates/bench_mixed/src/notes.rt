@@ -14,10 +14,10 @@ impl Notes {
 
     // What was read at an offset.
     pub fn look(mut self, offset: u32, value: u32) -> Notes {
-        if offset == bench::INT_ST {
+        if offset == bench_settings::INT_ST {
             self.raised = value;
         }
-        if offset == bench::STATUS {
+        if offset == bench_settings::STATUS {
             self.status = value;
         }
         self.add(value as u64)
