@@ -17,7 +17,6 @@ ghost use lib.ListN.{length};
 ghost use Rattle.model.specs.Tests.{dateEnd};
 ghost use Rattle.model.specs.Replies.{writeNumber};
 ghost use Rattle.model.specs.Calls.{write as Calls·write};
-ghost use Rattle.model.specs.Refuses.Conditions.{isFifo};
 ghost use Rattle.queue.specs.Cursors.{Held};
 ghost use Rattle.replies.specs.Refusals.{verdict};
 ghost use Rattle.device.specs.Holds.{abs, Ok};
@@ -56,15 +55,6 @@ fn refuse(core: Core, refusal: Refusal) -> WriteCore
         core,
         reply: Write::Refused(refusal),
         report,
-    }
-}
-
-fn is_fifo(place: Place) -> bool
-    ensures { λ r. ⌜ r ≡ isFifo place ⌝ }
-{
-    match place {
-        Place::Fifo => true,
-        _ => false,
     }
 }
 
@@ -159,7 +149,7 @@ pub fn write<'a>(
     let map = core.map;
     let offsets = map.offsets;
     let place = places::place_of(offsets, offset);
-    let fifo = is_fifo(place);
+    let fifo = places::is_fifo(place);
     let control = core.control;
     let tests = tests_at(fifo, cycle, control.last, core.tx.count, core.flight.count);
     match tests {

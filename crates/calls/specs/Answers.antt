@@ -141,7 +141,7 @@ refuses e p = sym e ∙ ap verdict p
 
 -- tests 2 and 3 leave a date below 2^59, and what the later tests say
 pub in-time : (cycle last : ℕ) (rest : Option Refusal) → dates cycle last rest ≡ none → (cycle < dateEnd) × (rest ≡ none)
-unfolding dates pastEnd
+unfolding dates
 in-time cycle last rest e =
     let past = not-refused (pastEnd cycle) _ _ e in
     (leb-false _ _ (past .0), not-refused (wentBack last cycle) _ _ (past .1) .1)

@@ -22,11 +22,11 @@ repeated (o ∷ os) = among o os || repeated os
 abbrev pub dateEnd : ℕ
 dateEnd = 2 ^ 59
 
-unfoldable pub pastEnd : ℕ → Bool
+abbrev pub pastEnd : ℕ → Bool
 pastEnd now = leb dateEnd now
 
 -- 3: now is below the last carried-out date
-unfoldable pub wentBack : ℕ → ℕ → Bool
+abbrev pub wentBack : ℕ → ℕ → Bool
 wentBack last now = ltb now last
 
 -- 4: bytes left and in flight total 1,152
@@ -54,11 +54,11 @@ runsFull new runs lastDate date = ltb 0 new && (leb runsLimit runs && ltb lastDa
 abbrev pub periodLimit : ℕ
 periodLimit = 1000000
 
-unfoldable pub periodTooLong : ℕ → Bool
+abbrev pub periodTooLong : ℕ → Bool
 periodTooLong period = ltb periodLimit period
 
 -- 8: the lent buffer is below 1,152 bytes
-unfoldable pub bufferTooShort : ℕ → Bool
+abbrev pub bufferTooShort : ℕ → Bool
 bufferTooShort room = ltb room sentLimit
 
 -- the first test that passes refuses

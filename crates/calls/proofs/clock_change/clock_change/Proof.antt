@@ -7,7 +7,6 @@ use Rattle.replies.specs.Refusals.{clocking}
 use Rattle.calls.specs.Answers.{passes, refuses, in-time}
 use Rattle.calls.specs.Done.{done-carried, done-refused, clock-zero}
 use borrow.Author.Tests.{ltb-false}
-use Rattle.model.specs.Tests.{periodTooLong}
 use Rattle.model.specs.Keeps.Dated.{not-refused}
 use Rattle.calls.proofs.clock_change.clock_change.Statement.{statement}
 use Rattle.calls.proofs.clock_change.clock_change.Tie as tie
@@ -25,7 +24,7 @@ enum-told : tie.Need-enum-told
 enum-told c = c .match .keys2
 
 carry-out-requires : tie.Need-carry-out-requires
-unfolding clocking periodTooLong
+unfolding clocking
 carry-out-requires c κs =
     let tests = in-time _ _ _ (passes (c .before .before .before .before .before .clock-refusal .ensures) (c .before .before .before .enum-told .given .1)) in
     (c .before .before .before .before .before .before .before .pre, tests .0, ltb-false _ _ (not-refused _ _ none (tests .1) .0))

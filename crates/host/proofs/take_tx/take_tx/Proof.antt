@@ -1,7 +1,6 @@
 -- `take_tx::take_tx` meets its contract: refused as the tests say, or carried out. Assumes nothing.
 use mathlib.Core.Option.{none}
 use borrow.Author.Tests.{ltb-false}
-use Rattle.model.specs.Tests.{bufferTooShort}
 use Rattle.model.specs.Keeps.Dated.{not-refused}
 use Rattle.model.specs.Calls.{takeTxWork}
 use Rattle.model.specs.Keeps.EachCall.{takeTx-within}
@@ -27,7 +26,7 @@ enum-told : tie.Need-enum-told
 enum-told c = c .match .keys2
 
 carry-out-requires : tie.Need-carry-out-requires
-unfolding takingTx takingWritten bufferTooShort
+unfolding takingTx takingWritten
 carry-out-requires c κs =
     let tests = in-time _ _ _ (passes (c .before .before .before .before .before .before .take-refusal .ensures) (c .before .before .before .before .enum-told .given .1)) in
     (c .before .before .before .before .before .before .before .before .before .pre, tests .0, ltb-false _ _ (not-refused _ _ none (tests .1) .0))

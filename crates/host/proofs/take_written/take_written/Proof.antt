@@ -2,7 +2,6 @@
 use mathlib.Core.Path.{refl}
 use mathlib.Core.Option.{none}
 use borrow.Author.Tests.{ltb-false}
-use Rattle.model.specs.Tests.{bufferTooShort}
 use Rattle.model.specs.Keeps.Dated.{not-refused}
 use Rattle.model.specs.Replies.{takenNumber}
 use Rattle.model.specs.Calls.{takeWrittenWork, undated, filled}
@@ -29,7 +28,7 @@ enum-told : tie.Need-enum-told
 enum-told c = c .match .keys2
 
 fill-requires : tie.Need-fill-requires
-unfolding takingWritten bufferTooShort
+unfolding takingWritten
 fill-requires c κs =
     let p = c .before .before .before .before .before .pre in
     (p .0, p .1, p .2, p .3, p .4, ltb-false _ _ (not-refused _ _ none (passes (c .before .before .before .written-refusal .ensures) (c .before .enum-told .given .1)) .0))
