@@ -3,12 +3,8 @@ use text::output::put;
 use text::output::put_bytes;
 use text::parts::within;
 use text::spelling::put_decimal;
+use trace::low::low;
 use trace::names::Name;
-
-// A number that was read as one of 32 bits.
-pub fn low(number: u64) -> u32 {
-    (number % 4294967296) as u32
-}
 
 // A space, and a number.
 fn put_number(out: &mut [u8], at: usize, number: u64) -> usize {

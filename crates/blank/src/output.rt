@@ -1,17 +1,5 @@
-// What is written, and a write that fails.
+// What is told on standard error.
 use libc::STDERR_FILENO;
-use libc::STDOUT_FILENO;
-use text::parts::within;
-
-// Writes the first `count` bytes of `out`. Where that fails it says so on standard error, and answers false.
-pub fn flush(out: &[u8], count: usize) -> bool {
-    let n = within(count, out);
-    if io::write_all(STDOUT_FILENO, &out[..n]) {
-        return true;
-    }
-    os::fail(b"blank: standard output");
-    false
-}
 
 // Says how many lines were no calls, where there were any.
 pub fn tell_left_out(count: u64) {

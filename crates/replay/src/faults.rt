@@ -21,7 +21,7 @@ fn put_reason(out: &mut [u8], at: usize, reason: Reason) -> usize {
 }
 
 // A byte as it is shown: one that does not print is a `?`.
-fn shown(byte: u8) -> u8 {
+fn printable(byte: u8) -> u8 {
     if byte < 33 {
         b'?'
     } else if byte > 126 {
@@ -32,7 +32,7 @@ fn shown(byte: u8) -> u8 {
 }
 
 // Puts the start of a word of `s`.
-fn put_shown(out: &mut [u8], at: usize, s: &[u8], start: usize, end: usize) -> usize {
+fn put_start(out: &mut [u8], at: usize, s: &[u8], start: usize, end: usize) -> usize {
     let mut place = at;
     let mut i = start;
     while i < end {
@@ -42,7 +42,7 @@ fn put_shown(out: &mut [u8], at: usize, s: &[u8], start: usize, end: usize) -> u
         if i - start >= SHOWN {
             return put(out, place, b"..");
         }
-        let letter = [shown(s[i])];
+        let letter = [printable(s[i])];
         place = put(out, place, &letter);
         i += 1;
     }
@@ -55,7 +55,7 @@ pub fn put_fault(out: &mut [u8], at: usize, s: &[u8], fault: Fault) -> usize {
     let reason = fault.reason;
     let said = put_reason(out, named, reason);
     let quoted = put(out, said, b": `");
-    let word = put_shown(out, quoted, s, fault.start, fault.end);
+    let word = put_start(out, quoted, s, fault.start, fault.end);
     put(out, word, b"`\n")
 }
 

@@ -1,19 +1,22 @@
 // Answers the calls of the replay format (docs/REPLAY.md) on standard input, a line for each, on standard output.
-mod answering;
 mod answers;
-mod carried;
+mod calls;
 mod faults;
 mod input;
-mod lent;
+mod lines;
 mod notices;
-mod output;
 mod session;
-mod setups;
-mod usage;
+mod set_up;
+mod take;
 
 fn main() {
     if os::arg_count() > 1 {
-        crate::usage::show();
+        streams::usage::show(
+            b"usage: replay < TRACE > ANSWERS
+Answers each call of a trace (docs/REPLAY.md) in a line of its own, in order.
+All whole lines of a read are answered and written before the next read.
+",
+        );
     } else {
         crate::input::run();
     }

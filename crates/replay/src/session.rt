@@ -1,5 +1,5 @@
 // The UART that the calls are on, and how far the output is filled.
-use crate::output::flush;
+use streams::output::write;
 use uart::Uart;
 use uart::placeholder::stand_in;
 ghost use Rattle.uart.specs.Whole.{Good};
@@ -23,7 +23,7 @@ impl Session {
         self
     }
 
-    pub fn failing(mut self) -> Session
+    pub fn fail(mut self) -> Session
         requires { ⌜ Good (self .uart) ⌝ }
         ensures { λ r. ⌜ Good (r .uart) ⌝ }
     {
@@ -31,18 +31,18 @@ impl Session {
         self
     }
 
-    // All that was put to the output is written.
-    pub fn written(self, out: &[u8]) -> Session
+    // Writes all that was put to the output.
+    pub fn flush(self, out: &[u8]) -> Session
         requires { ⌜ Good (self .uart) ⌝ }
         ensures { λ r. ⌜ Good (r .uart) ⌝ }
     {
         if self.failed {
             return self;
         }
-        if flush(out, self.at) {
+        if write(out, self.at, b"replay: standard output") {
             self.with_output(0)
         } else {
-            self.failing()
+            self.fail()
         }
     }
 }

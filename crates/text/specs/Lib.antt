@@ -8,6 +8,7 @@ pub mod Digits
 pub mod Numbers
 pub mod NumberForm
 pub mod Hexes
+pub mod Input
 pub mod Output
 pub mod HexText
 pub mod Decimal

@@ -1,5 +1,5 @@
 -- What stands of a line, up to its end. Assumes nothing.
-use mathlib.Core.Path.{_≡_, refl, sym, subst}
+use mathlib.Core.Path.{_≡_, refl, ap, sym, subst, _∙_}
 use mathlib.Core.Bool.{Bool, true, false}
 use mathlib.Core.List.{List}
 use Prim.Native.Nat.{ℕ, _+_, _<_, _≤_}
@@ -60,6 +60,21 @@ piece-of s at h = by-test (ltb (lineEnd s at) (length s)) refl
 
 pub is-piece-of : (s : List ℕ) (at : ℕ) (p : Piece) → p ≡ pieceAt s at → at < length s → PieceOf (length s) at p
 is-piece-of s at p e h = subst (PieceOf (length s) at) (sym e) (piece-of s at h)
+
+-- a piece ends at the line's end, or at that of the text
+piece-end : (t : Bool) (end : ℕ) → piece t end .end ≡ end
+piece-end true end = refl
+piece-end false end = refl
+
+module _ (s : List ℕ) (at : ℕ) (p : Piece) (e : p ≡ pieceAt s at) where
+  ends-there : p .end ≡ lineEnd s at
+  ends-there = ap (λ (q : Piece). q .end) e ∙ piece-end (ltb (lineEnd s at) (length s)) (lineEnd s at)
+
+  pub piece-after : at ≤ p .end
+  piece-after = omega (arith, ends-there, seek-after (isByte lineFeed) s at)
+
+  pub piece-within : at ≤ length s → p .end ≤ length s
+  piece-within h = omega (arith, ends-there, seek-within (isByte lineFeed) s at h)
 
 -- a whole piece ends at the first line feed from `at` on
 pub record Ends (s : List ℕ) (at i : ℕ) : Type 0 where

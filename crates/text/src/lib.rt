@@ -2,6 +2,7 @@
 // reads or writes a file.
 pub mod digits;
 pub mod hex;
+pub mod input;
 pub mod letters;
 pub mod lines;
 pub mod names;

@@ -8,7 +8,7 @@ ghost use Rattle.text.specs.Output.{stored, Put};
 ghost use Rattle.text.specs.HexText.{hexPairs, hexText};
 
 // How much room there is from `at` on.
-fn room(len: usize, at: usize) -> usize
+pub fn room(len: usize, at: usize) -> usize
     ensures { λ r. ⌜ r ≡ len - at ⌝ }
 {
     if at < len { len - at } else { 0 }

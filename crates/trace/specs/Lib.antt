@@ -5,5 +5,6 @@ pub mod One
 pub mod Last
 pub mod Numbers
 pub mod Stored
+pub mod Low
 pub mod Lines
 pub mod Examples

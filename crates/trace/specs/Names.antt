@@ -1,8 +1,11 @@
 -- The names of the calls, and which of them a word is. Assumes nothing.
-use mathlib.Core.Path.{_≡_, refl}
+use mathlib.Core.Path.{_≡_, refl, ap, sym, _∙_}
 use mathlib.Core.Bool.{Bool, true, false}
 use mathlib.Core.List.{List, [], _∷_}
-use Prim.Native.Nat.{ℕ}
+use Prim.Native.Nat.{ℕ, _+_, _<_}
+use native.Mathlib.Numerals.{add-one}
+use lib.ListN.{drop, getD}
+use lib.Seq.{drop-cons}
 use Rattle.text.specs.Pick.{pick}
 use Rattle.text.specs.Same.{sameBytes, same-equal}
 use Rattle.trace.specs.declared.names.Name.{Name}
@@ -10,7 +13,7 @@ use Rattle.trace.specs.declared.names.Name.the-variants.{Setup, Read, Wr
 use Rattle.trace.specs.declared.names.Named.{Named}
 
 -- the letters of a name, in ASCII; `_` is 95
-unfoldable pub letters : Name → List ℕ
+abbrev pub letters : Name → List ℕ
 letters Setup = 115 ∷ 101 ∷ 116 ∷ 117 ∷ 112 ∷ []
 letters Read = 114 ∷ 101 ∷ 97 ∷ 100 ∷ []
 letters Write = 119 ∷ 114 ∷ 105 ∷ 116 ∷ 101 ∷ []
@@ -31,17 +34,11 @@ named [] word = Named.Unknown
 named (n ∷ ns) word = pick (sameBytes word (letters n)) (Named.Call n) (named ns word)
 
 -- the call of all that a word names; the order says nothing, as no two have the same name
-abbrev pub lastNames : List Name
-lastNames = HostPending ∷ TakeWritten ∷ Setup ∷ []
-
-abbrev pub rareNames : List Name
-rareNames = Reset ∷ PowerDown ∷ HasLeft ∷ lastNames
-
-abbrev pub laterNames : List Name
-laterNames = TakeTx ∷ Clock ∷ Watch ∷ rareNames
+abbrev pub names : List Name
+names = Read ∷ Write ∷ Receive ∷ Wake ∷ TakeTx ∷ Clock ∷ Watch ∷ Reset ∷ PowerDown ∷ HasLeft ∷ HostPending ∷ TakeWritten ∷ Setup ∷ []
 
 abbrev pub nameOf : List ℕ → Named
-nameOf word = named (Read ∷ Write ∷ Receive ∷ Wake ∷ laterNames) word
+nameOf word = named names word
 
 -- ---- laws
 
@@ -59,9 +56,27 @@ module _ (n : Name) (ns : List Name) (word : List ℕ) where
   unfolding named
   is-other e r q = rw e q
 
+-- of the calls from the i-th on: the i-th, and another; and none is left after the last
+module _ (word : List ℕ) (i : ℕ) (d : Name) (h : i < 13) where
+  from-on : drop i names ≡ getD names i d ∷ drop (i + 1) names
+  from-on = rw add-one (drop-cons names i d h)
+
+  pub is-ith : sameBytes word (letters (getD names i d)) ≡ true → Named.Call (getD names i d) ≡ named (drop i names) word
+  is-ith e = is-first (getD names i d) (drop (i + 1) names) word e ∙ ap (λ (ns : List Name). named ns word) (sym from-on)
+
+  pub is-later : sameBytes word (letters (getD names i d)) ≡ false → named (drop i names) word ≡ named (drop (i + 1) names) word
+  is-later e = ap (λ (ns : List Name). named ns word) from-on ∙ sym (is-other (getD names i d) (drop (i + 1) names) word e _ refl)
+
+pub is-past : (word : List ℕ) (i : ℕ) → i ≡ 13 → Named.Unknown ≡ named (drop i names) word
+is-past word i e = is-none word ∙ ap (λ (k : ℕ). named (drop k names) word) (sym e)
+
+-- a word is compared with a name's letters
+pub is-spelled : (word : List ℕ) (n m : Name) → n ≡ m → (same : Bool) → same ≡ sameBytes word (letters m) → same ≡ sameBytes word (letters n)
+is-spelled word n m e same q = q ∙ ap (λ (k : Name). sameBytes word (letters k)) (sym e)
+
 -- a word names a call where it is the call's name, and nowhere else
 pub letters-name : (n : Name) → nameOf (letters n) ≡ Named.Call n
-unfolding named letters sameBytes
+unfolding named sameBytes
 letters-name Setup = refl
 letters-name Read = refl
 letters-name Write = refl

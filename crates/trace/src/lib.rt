@@ -3,6 +3,7 @@ pub mod arguments;
 pub mod faults;
 pub mod last_argument;
 pub mod line;
+pub mod low;
 pub mod names;
 pub mod number;
 pub mod numbers;

@@ -1,7 +1,8 @@
 // The names of the calls.
 use text::names::same;
 ghost use mathlib.Core.Path.{_≡_};
-ghost use Rattle.trace.specs.Names.{named, lastNames, rareNames, laterNames, nameOf};
+ghost use Rattle.text.specs.Same.{sameBytes};
+ghost use Rattle.trace.specs.Names.{letters, nameOf};
 
 pub enum Name {
     Setup,
@@ -26,65 +27,54 @@ pub enum Named {
 }
 
 // The calls of which a trace has most come first.
+const NAMES: [Name; 13] = [
+    Name::Read,
+    Name::Write,
+    Name::Receive,
+    Name::Wake,
+    Name::TakeTx,
+    Name::Clock,
+    Name::Watch,
+    Name::Reset,
+    Name::PowerDown,
+    Name::HasLeft,
+    Name::HostPending,
+    Name::TakeWritten,
+    Name::Setup,
+];
+
+// Whether a word is a call's name.
+fn is_name(word: &[u8], name: Name) -> bool
+    ensures { λ r. ⌜ r ≡ sameBytes (now (word .entry)) (letters name) ⌝ }
+{
+    match name {
+        Name::Setup => same(word, b"setup"),
+        Name::Read => same(word, b"read"),
+        Name::Write => same(word, b"write"),
+        Name::Receive => same(word, b"receive"),
+        Name::Wake => same(word, b"wake"),
+        Name::Watch => same(word, b"watch"),
+        Name::Reset => same(word, b"reset"),
+        Name::PowerDown => same(word, b"power_down"),
+        Name::Clock => same(word, b"clock"),
+        Name::TakeTx => same(word, b"take_tx"),
+        Name::TakeWritten => same(word, b"take_written"),
+        Name::HasLeft => same(word, b"has_left"),
+        Name::HostPending => same(word, b"host_pending"),
+    }
+}
+
+// The call that a word names.
 pub fn name_of(word: &[u8]) -> Named
     ensures { λ r. ⌜ r ≡ nameOf (now (word .entry)) ⌝ }
 {
-    if same(word, b"read") {
-        return Named::Call(Name::Read);
-    }
-    if same(word, b"write") {
-        return Named::Call(Name::Write);
-    }
-    if same(word, b"receive") {
-        return Named::Call(Name::Receive);
-    }
-    if same(word, b"wake") {
-        return Named::Call(Name::Wake);
-    }
-    later_name_of(word)
-}
-
-fn later_name_of(word: &[u8]) -> Named
-    ensures { λ r. ⌜ r ≡ named laterNames (now (word .entry)) ⌝ }
-{
-    if same(word, b"take_tx") {
-        return Named::Call(Name::TakeTx);
-    }
-    if same(word, b"clock") {
-        return Named::Call(Name::Clock);
-    }
-    if same(word, b"watch") {
-        return Named::Call(Name::Watch);
-    }
-    rare_name_of(word)
-}
-
-fn rare_name_of(word: &[u8]) -> Named
-    ensures { λ r. ⌜ r ≡ named rareNames (now (word .entry)) ⌝ }
-{
-    if same(word, b"reset") {
-        return Named::Call(Name::Reset);
-    }
-    if same(word, b"power_down") {
-        return Named::Call(Name::PowerDown);
-    }
-    if same(word, b"has_left") {
-        return Named::Call(Name::HasLeft);
-    }
-    last_name_of(word)
-}
-
-fn last_name_of(word: &[u8]) -> Named
-    ensures { λ r. ⌜ r ≡ named lastNames (now (word .entry)) ⌝ }
-{
-    if same(word, b"host_pending") {
-        return Named::Call(Name::HostPending);
-    }
-    if same(word, b"take_written") {
-        return Named::Call(Name::TakeWritten);
-    }
-    if same(word, b"setup") {
-        return Named::Call(Name::Setup);
+    let mut i = 0;
+    while i < 13 {
+        let name = NAMES[i];
+        if is_name(word, name) {
+            return Named::Call(name);
+        }
+        i += 1;
     }
     Named::Unknown
 }

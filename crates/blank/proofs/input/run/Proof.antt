@@ -1,35 +1,37 @@
--- `input::run` is safe and ends. The loop's invariant: the buffers have their lengths. The measure is the count of turns.
--- Assumes nothing.
-use mathlib.Core.Path.{_≡_}
-use lib.ListN.{length}
+-- `input::run` is safe and ends. The loop's invariant says nothing. The measure is the count of turns. Assumes nothing.
 use borrow.Author.Needs.{needs}
-use native.Mathlib.Omega.{arith}
 use Rattle.blank.proofs.input.run.Statement.{statement}
 use Rattle.blank.proofs.input.run.Tie as tie
 
 abbrev Inv-loop : tie.InvT-loop
-Inv-loop line₀ bytes₀ out₀ state₀ turns₀ line bytes out state turns = (16384 ≡ length line) × (8192 ≡ length bytes) × (65536 ≡ length out)
+Inv-loop chunk₀ line₀ bytes₀ out₀ input₀ trace₀ turns₀ t9 chunk line bytes out input trace turns = Unit {0}
 
 abbrev μ-loop : tie.MeasureT-loop
-μ-loop line₀ bytes₀ out₀ state₀ turns₀ line bytes out state turns = turns
+μ-loop chunk₀ line₀ bytes₀ out₀ input₀ trace₀ turns₀ t9 chunk line bytes out input trace turns = turns
+
+large-buffer-requires : tie.Need-large-buffer-requires Inv-loop μ-loop
+large-buffer-requires c κs = search needs
 
 begin-requires : tie.Need-begin-requires Inv-loop μ-loop
 begin-requires c κs = search needs
 
+begin-requires-2 : tie.Need-begin-requires-2 Inv-loop μ-loop
+begin-requires-2 c κs = search needs
+
 loop-holds : tie.Need-loop-holds Inv-loop μ-loop
 loop-holds c = search needs
 
-slice-aggregate-turn : tie.Need-slice-aggregate-turn Inv-loop μ-loop
-slice-aggregate-turn c = search needs
+slice-aggregate-read-more : tie.Need-slice-aggregate-read-more Inv-loop μ-loop
+slice-aggregate-read-more c = search needs
 
-slice-aggregate-turn-2 : tie.Need-slice-aggregate-turn-2 Inv-loop μ-loop
-slice-aggregate-turn-2 c = search needs
+read-more-requires : tie.Need-read-more-requires Inv-loop μ-loop
+read-more-requires c κs = search needs
 
-slice-aggregate-turn-3 : tie.Need-slice-aggregate-turn-3 Inv-loop μ-loop
-slice-aggregate-turn-3 c = search needs
+next-line-requires : tie.Need-next-line-requires Inv-loop μ-loop
+next-line-requires c κs = search needs
 
-turn-requires : tie.Need-turn-requires Inv-loop μ-loop
-turn-requires c κs = search needs
+blank-next-requires : tie.Need-blank-next-requires Inv-loop μ-loop
+blank-next-requires c κs = search needs
 
 sub-turns : tie.Need-sub-turns Inv-loop μ-loop
 sub-turns c = search needs
@@ -39,15 +41,6 @@ loop-less c = search needs
 
 loop-again : tie.Need-loop-again Inv-loop μ-loop
 loop-again c = search needs
-
-slice-aggregate-finish : tie.Need-slice-aggregate-finish Inv-loop μ-loop
-slice-aggregate-finish c = search needs
-
-slice-aggregate-finish-2 : tie.Need-slice-aggregate-finish-2 Inv-loop μ-loop
-slice-aggregate-finish-2 c = search needs
-
-slice-aggregate-finish-3 : tie.Need-slice-aggregate-finish-3 Inv-loop μ-loop
-slice-aggregate-finish-3 c = search needs
 
 finish-requires : tie.Need-finish-requires Inv-loop μ-loop
 finish-requires c κs = search needs
@@ -61,17 +54,16 @@ run-spec =
     (tie.spec
     Inv-loop
     μ-loop
+    large-buffer-requires
     begin-requires
+    begin-requires-2
     loop-holds
-    slice-aggregate-turn
-    slice-aggregate-turn-2
-    slice-aggregate-turn-3
-    turn-requires
+    slice-aggregate-read-more
+    read-more-requires
+    next-line-requires
+    blank-next-requires
     sub-turns
     loop-less
     loop-again
-    slice-aggregate-finish
-    slice-aggregate-finish-2
-    slice-aggregate-finish-3
     finish-requires
     returns)

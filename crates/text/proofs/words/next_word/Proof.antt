@@ -9,8 +9,8 @@ use Rattle.text.specs.declared.words.Word.{Word}
 use Rattle.text.proofs.words.next_word.Statement.{statement}
 use Rattle.text.proofs.words.next_word.Tie as tie
 
-lesser-requires : tie.Need-lesser-requires
-lesser-requires c κs = tt
+within-requires : tie.Need-within-requires
+within-requires c κs = tt
 
 skip-requires : tie.Need-skip-requires
 skip-requires c κs = tt
@@ -22,7 +22,7 @@ returns : tie.Need-returns
 returns c =
     let a = c .before .before .before .before .args in
     let s = a .s .now in
-    let start : c .before .skip .result ≡ wordStart s (a .at) = c .before .skip .ensures ∙ ap (seek (isOther space) s) (c .before .before .lesser .ensures) in
+    let start : c .before .skip .result ≡ wordStart s (a .at) = c .before .skip .ensures ∙ ap (seek (isOther space) s) (c .before .before .within .ensures .1) in
     let end : c .seek .result ≡ wordEnd s (a .at) = c .seek .ensures ∙ ap (seek (isByte space) s) start in
     let from : wordStart s (a .at) ≤ length s = seek-within (isOther space) s (min (a .at) (length s)) (omega arith) in
     record {
@@ -32,4 +32,4 @@ returns c =
     }
 
 pub next-word-spec : {M : Type 1} → statement M
-next-word-spec = tie.close (tie.spec lesser-requires skip-requires seek-requires returns)
+next-word-spec = tie.close (tie.spec within-requires skip-requires seek-requires returns)

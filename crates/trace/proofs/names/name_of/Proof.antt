@@ -1,86 +1,60 @@
--- `names::name_of` meets its contract. Assumes nothing.
-use mathlib.Core.Path.{refl, sym, _∙_}
-use Rattle.trace.specs.Names.{letters, is-first, is-other}
-use Rattle.trace.specs.declared.names.Name.the-variants.{Read, Write, Receive, Wake}
+-- `names::name_of` meets its contract. The loop's invariant: the call is one of those from the i-th on. Assumes nothing.
+use mathlib.Core.Path.{_≡_, refl, sym, _∙_}
+use Prim.Native.Nat.{_≤_, _-_}
+use lib.ListN.{drop}
+use Rattle.trace.specs.Names.{names, named, nameOf, is-ith, is-later, is-past}
+use borrow.Author.Needs.{needs}
+use native.Mathlib.Omega.{arith}
 use Rattle.trace.proofs.names.name_of.Statement.{statement}
 use Rattle.trace.proofs.names.name_of.Tie as tie
 
-slice-aggregate-same : tie.Need-slice-aggregate-same
-slice-aggregate-same c = refl
+abbrev Inv-loop : tie.InvT-loop
+Inv-loop word i₀ i = (i ≤ 13) × (nameOf word ≡ named (drop i names) word)
 
-same-requires : tie.Need-same-requires
-same-requires c κs = tt
+abbrev μ-loop : tie.MeasureT-loop
+μ-loop word i₀ i = 13 - i
 
-returns : tie.Need-returns
-unfolding letters
-returns c = is-first Read _ _ (sym (c .before .same .ensures) ∙ c .if1 .taken)
+loop-holds : tie.Need-loop-holds Inv-loop μ-loop
+loop-holds c = (omega arith, refl)
 
-slice-aggregate-same-2 : tie.Need-slice-aggregate-same-2
-slice-aggregate-same-2 c = refl
+array-copy-out-name : tie.Need-array-copy-out-name Inv-loop μ-loop
+array-copy-out-name c = search needs
 
-same-requires-2 : tie.Need-same-requires-2
-same-requires-2 c κs = tt
+is-name-requires : tie.Need-is-name-requires Inv-loop μ-loop
+is-name-requires c κs = search needs
 
-returns-2 : tie.Need-returns-2
-unfolding letters
+returns : tie.Need-returns Inv-loop μ-loop
+returns c =
+    is-ith _ _ _ (c .before .before .before .loop-test .taken) (sym (c .before .is-name .ensures) ∙ c .if1 .taken)
+    ∙ sym (c .before .before .before .before .loop .inv .1)
+
+add-i : tie.Need-add-i Inv-loop μ-loop
+add-i c = search needs
+
+loop-less : tie.Need-loop-less Inv-loop μ-loop
+loop-less c = search needs
+
+loop-again : tie.Need-loop-again Inv-loop μ-loop
+loop-again c =
+    let inv = c .before .before .before .before .loop .inv in
+    (omega arith, inv .1 ∙ is-later _ _ _ (c .before .before .before .loop-test .taken) (sym (c .before .is-name .ensures) ∙ c .if1 .left))
+
+returns-2 : tie.Need-returns-2 Inv-loop μ-loop
 returns-2 c =
-    is-other Read _ _ (sym (c .before .before .before .before .same .ensures) ∙ c .before .before .before .if1 .left) _
-    (is-first Write _ _ (sym (c .before .same2 .ensures) ∙ c .if2 .taken))
-
-slice-aggregate-same-3 : tie.Need-slice-aggregate-same-3
-slice-aggregate-same-3 c = refl
-
-same-requires-3 : tie.Need-same-requires-3
-same-requires-3 c κs = tt
-
-returns-3 : tie.Need-returns-3
-unfolding letters
-returns-3 c =
-    is-other Read _ _ (sym (c .before .before .before .before .before .before .before .same .ensures) ∙ c .before .before .before .before .before .before .if1 .left) _
-    (is-other Write _ _ (sym (c .before .before .before .before .same2 .ensures) ∙ c .before .before .before .if2 .left) _
-    (is-first Receive _ _ (sym (c .before .same3 .ensures) ∙ c .if3 .taken)))
-
-slice-aggregate-same-4 : tie.Need-slice-aggregate-same-4
-slice-aggregate-same-4 c = refl
-
-same-requires-4 : tie.Need-same-requires-4
-same-requires-4 c κs = tt
-
-returns-4 : tie.Need-returns-4
-unfolding letters
-returns-4 c =
-    is-other Read _ _ (sym (c .before .before .before .before .before .before .before .before .before .before .same .ensures) ∙ c .before .before .before .before .before .before .before .before .before .if1 .left) _
-    (is-other Write _ _ (sym (c .before .before .before .before .before .before .before .same2 .ensures) ∙ c .before .before .before .before .before .before .if2 .left) _
-    (is-other Receive _ _ (sym (c .before .before .before .before .same3 .ensures) ∙ c .before .before .before .if3 .left) _
-    (is-first Wake _ _ (sym (c .before .same4 .ensures) ∙ c .if4 .taken))))
-
-later-name-of-requires : tie.Need-later-name-of-requires
-later-name-of-requires c κs = tt
-
-returns-5 : tie.Need-returns-5
-unfolding letters
-returns-5 c =
-    is-other Read _ _ (sym (c .before .before .before .before .before .before .before .before .before .before .before .same .ensures) ∙ c .before .before .before .before .before .before .before .before .before .before .if1 .left) _
-    (is-other Write _ _ (sym (c .before .before .before .before .before .before .before .before .same2 .ensures) ∙ c .before .before .before .before .before .before .before .if2 .left) _
-    (is-other Receive _ _ (sym (c .before .before .before .before .before .same3 .ensures) ∙ c .before .before .before .before .if3 .left) _
-    (is-other Wake _ _ (sym (c .before .before .same4 .ensures) ∙ c .before .if4 .left) _
-    (c .later-name-of .ensures))))
+    let e : c .before .loop .i ≡ 13 = omega arith in
+    is-past _ _ e ∙ sym (c .before .loop .inv .1)
 
 pub name-of-spec : {M : Type 1} → statement M
 name-of-spec =
     tie.close
     (tie.spec
-    slice-aggregate-same
-    same-requires
+    Inv-loop
+    μ-loop
+    loop-holds
+    array-copy-out-name
+    is-name-requires
     returns
-    slice-aggregate-same-2
-    same-requires-2
-    returns-2
-    slice-aggregate-same-3
-    same-requires-3
-    returns-3
-    slice-aggregate-same-4
-    same-requires-4
-    returns-4
-    later-name-of-requires
-    returns-5)
+    add-i
+    loop-less
+    loop-again
+    returns-2)
