@@ -1,7 +1,7 @@
 // A line of a trace: a call that is put out blanked, or one that is left out.
 use crate::calls::put_call;
+use crate::output::write;
 use model::SetUp;
-use streams::output::write;
 use text::input::Input;
 use text::output::put;
 use text::parts::within;

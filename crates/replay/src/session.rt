@@ -1,5 +1,5 @@
 // The UART that the calls are on, and how far the output is filled.
-use streams::output::write;
+use crate::output::write;
 use uart::Uart;
 use uart::placeholder::stand_in;
 ghost use Rattle.uart.specs.Whole.{Good};

@@ -1,4 +1,2 @@
-// Standard input and output of the programs that read a trace, and how they say what they are.
+// Standard input, a chunk at a time, for the programs that read a trace.
 pub mod input;
-pub mod output;
-pub mod usage;
