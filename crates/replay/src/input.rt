@@ -32,7 +32,8 @@ pub fn run() {
     finish(session, &out);
 }
 
-// The answer to a line that stands there; where none does, what was answered is written before the next read.
+// The answer to a line that stands there; where none does, what was answered is written before the next read. Nothing is answered
+// after a write that failed.
 fn answer_next(
     session: Session,
     input: Input,
@@ -46,20 +47,23 @@ fn answer_next(
     if !has_line(input) {
         return session.flush(out);
     }
+    if session.failed {
+        return session;
+    }
     if session.at > FULL {
-        return answer(session.flush(out), input, line, bytes, out);
+        let after = session.flush(out);
+        if after.failed {
+            return after;
+        }
+        return answer(after, input, line, bytes, out);
     }
     answer(session, input, line, bytes, out)
 }
 
-// Nothing is answered after a write that failed.
 fn answer(session: Session, input: Input, line: &[u8], bytes: &mut [u8], out: &mut [u8]) -> Session
     requires { ⌜ Good (session .uart) ⌝ }
     ensures { λ r. ⌜ Good (r .uart) ⌝ }
 {
-    if session.failed {
-        return session;
-    }
     if input.long {
         let at = put_long(out, session.at);
         return session.with_output(at);
