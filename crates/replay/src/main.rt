@@ -5,6 +5,7 @@ mod faults;
 mod input;
 mod lines;
 mod notices;
+mod output;
 mod session;
 mod set_up;
 mod take;

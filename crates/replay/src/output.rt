@@ -1,0 +1,44 @@
+// What is put out, and when it is written.
+use streams::output::write;
+use text::input::Input;
+use text::input::has_line;
+
+// It is written once it is filled so far; an answer that then follows fits behind it.
+const FULL: usize = 57344;
+
+// It is filled up to `at`; nothing is put to it or written after a write that failed.
+pub struct Output {
+    pub at: usize,
+    pub failed: bool,
+}
+
+impl Output {
+    // Writes all that was put to it.
+    pub fn flush(self, out: &[u8; 65536]) -> Output {
+        if self.failed {
+            return self;
+        }
+        if write(out, self.at, b"replay: standard output") {
+            Output {
+                at: 0,
+                failed: false,
+            }
+        } else {
+            Output {
+                at: self.at,
+                failed: true,
+            }
+        }
+    }
+
+    // The same before the next read, and where it is nearly full.
+    pub fn keep_up(self, input: Input, out: &[u8; 65536]) -> Output {
+        if !has_line(input) {
+            return self.flush(out);
+        }
+        if self.at > FULL {
+            return self.flush(out);
+        }
+        self
+    }
+}
