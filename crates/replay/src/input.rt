@@ -1,5 +1,4 @@
 // Standard input, line by line, in constant memory.
-use crate::faults::put_long;
 use crate::lines::answer_line;
 use crate::output::Output;
 use crate::session;
@@ -9,7 +8,6 @@ use text::input::Input;
 use text::input::begin;
 use text::input::has_line;
 use text::input::next_line;
-use text::parts::within;
 ghost use Rattle.uart.specs.Whole.{Good};
 
 // A proved loop has to end, so it counts its turns down from a number that no run uses up.
@@ -31,7 +29,9 @@ pub fn run() {
         let kept = output.keep_up(input, &out);
         session.at = kept.at;
         session.failed = kept.failed;
-        session = answer_next(session, input, &line, &mut bytes, &mut out);
+        if is_answered(input, kept.failed) {
+            session = answer(session, input, &line, &mut bytes, &mut out);
+        }
         turns -= 1;
     }
     let output = Output {
@@ -41,8 +41,16 @@ pub fn run() {
     output.flush(&out);
 }
 
-// The answer to a line that stands there. Nothing is answered after a write that failed.
-fn answer_next(
+// A line that stands there is answered, but for one after a write that failed.
+fn is_answered(input: Input, failed: bool) -> bool {
+    if failed {
+        return false;
+    }
+    has_line(input)
+}
+
+// In the loop a session is handed over only where there is a line, for it is the largest part of the state.
+fn answer(
     session: Session,
     input: Input,
     line: &[u8; 16384],
@@ -52,23 +60,5 @@ fn answer_next(
     requires { ⌜ Good (session .uart) ⌝ }
     ensures { λ r. ⌜ Good (r .uart) ⌝ }
 {
-    if !has_line(input) {
-        return session;
-    }
-    if session.failed {
-        return session;
-    }
-    answer(session, input, line, bytes, out)
-}
-
-fn answer(session: Session, input: Input, line: &[u8], bytes: &mut [u8], out: &mut [u8]) -> Session
-    requires { ⌜ Good (session .uart) ⌝ }
-    ensures { λ r. ⌜ Good (r .uart) ⌝ }
-{
-    if input.long {
-        let at = put_long(out, session.at);
-        return session.with_output(at);
-    }
-    let n = within(input.len, line);
-    answer_line(session, &line[..n], bytes, out)
+    answer_line(session, input, line, bytes, out)
 }

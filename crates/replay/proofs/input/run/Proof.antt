@@ -1,8 +1,10 @@
 -- `input::run` is safe and ends. The loop's invariant: the UART is within its limits. The measure is the count of turns. Assumes
 -- nothing.
+use mathlib.Core.Path.{subst, sym}
+use mathlib.Core.Logic.{⊎-elim}
 use Rattle.uart.specs.Whole.{Good}
+use Rattle.replay.specs.declared.session.Session.{Session}
 use borrow.Author.Needs.{needs}
-use native.Mathlib.Omega.{arith}
 use Rattle.replay.proofs.input.run.Statement.{statement}
 use Rattle.replay.proofs.input.run.Tie as tie
 
@@ -36,17 +38,23 @@ next-line-requires c κs = search needs
 keep-up-requires : tie.Need-keep-up-requires Inv-loop μ-loop
 keep-up-requires c κs = search needs
 
-answer-next-requires : tie.Need-answer-next-requires Inv-loop μ-loop
-answer-next-requires c κs = search needs
+is-answered-requires : tie.Need-is-answered-requires Inv-loop μ-loop
+is-answered-requires c κs = search needs
+
+answer-requires : tie.Need-answer-requires Inv-loop μ-loop
+answer-requires c κs = search needs
 
 sub-turns : tie.Need-sub-turns Inv-loop μ-loop
-sub-turns c = omega (arith, c .before .before .before .before .before .before .before .before .before .before .before .before .before .loop-test .taken)
+sub-turns c = search needs
 
 loop-less : tie.Need-loop-less Inv-loop μ-loop
-loop-less c = omega (arith, c .before .before .before .before .before .before .before .before .before .before .before .before .before .loop-test .taken)
+loop-less c = search needs
 
 loop-again : tie.Need-loop-again Inv-loop μ-loop
-loop-again c = search needs
+loop-again c =
+    ⊎-elim (λ w. subst (λ (s : Session). Good (s .uart)) (sym (w .7)) (w .4 .ensures))
+    (λ w. subst (λ (s : Session). Good (s .uart)) (sym (w .3)) (c .before .before .before .before .before .before .before .before .before .before .before .before .loop .inv))
+    (c .if2 .came)
 
 flush-requires : tie.Need-flush-requires Inv-loop μ-loop
 flush-requires c κs = search needs
@@ -68,7 +76,8 @@ run-spec =
     read-more-requires
     next-line-requires
     keep-up-requires
-    answer-next-requires
+    is-answered-requires
+    answer-requires
     sub-turns
     loop-less
     loop-again
