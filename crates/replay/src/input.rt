@@ -1,6 +1,6 @@
 // Standard input, line by line, in constant memory.
-use crate::faults::put_long;
 use crate::lines::answer_line;
+use crate::output::Output;
 use crate::session;
 use crate::session::Session;
 use streams::input::read_more;
@@ -8,11 +8,7 @@ use text::input::Input;
 use text::input::begin;
 use text::input::has_line;
 use text::input::next_line;
-use text::parts::within;
 ghost use Rattle.uart.specs.Whole.{Good};
-
-// The output is written once it is filled so far; an answer that then follows fits behind it.
-const FULL: usize = 57344;
 
 // A proved loop has to end, so it counts its turns down from a number that no run uses up.
 pub fn run() {
@@ -26,15 +22,35 @@ pub fn run() {
     while turns > 0 && input.more {
         input = read_more(input, session.failed, &mut chunk, b"replay: standard input");
         input = next_line(input, &chunk, &mut line);
-        session = answer_next(session, input, &line, &mut bytes, &mut out);
+        let output = Output {
+            at: session.at,
+            failed: session.failed,
+        };
+        let kept = output.keep_up(input, &out);
+        session.at = kept.at;
+        session.failed = kept.failed;
+        if is_answered(input, kept.failed) {
+            session = answer(session, input, &line, &mut bytes, &mut out);
+        }
         turns -= 1;
     }
-    finish(session, &out);
+    let output = Output {
+        at: session.at,
+        failed: session.failed,
+    };
+    output.flush(&out);
 }
 
-// The answer to a line that stands there; where none does, what was answered is written before the next read. Nothing is answered
-// after a write that failed.
-fn answer_next(
+// A line that stands there is answered, but for one after a write that failed.
+fn is_answered(input: Input, failed: bool) -> bool {
+    if failed {
+        return false;
+    }
+    has_line(input)
+}
+
+// In the loop a session is handed over only where there is a line, for it is the largest part of the state.
+fn answer(
     session: Session,
     input: Input,
     line: &[u8; 16384],
@@ -44,36 +60,5 @@ fn answer_next(
     requires { ⌜ Good (session .uart) ⌝ }
     ensures { λ r. ⌜ Good (r .uart) ⌝ }
 {
-    if !has_line(input) {
-        return session.flush(out);
-    }
-    if session.failed {
-        return session;
-    }
-    if session.at > FULL {
-        let after = session.flush(out);
-        if after.failed {
-            return after;
-        }
-        return answer(after, input, line, bytes, out);
-    }
-    answer(session, input, line, bytes, out)
-}
-
-fn answer(session: Session, input: Input, line: &[u8], bytes: &mut [u8], out: &mut [u8]) -> Session
-    requires { ⌜ Good (session .uart) ⌝ }
-    ensures { λ r. ⌜ Good (r .uart) ⌝ }
-{
-    if input.long {
-        let at = put_long(out, session.at);
-        return session.with_output(at);
-    }
-    let n = within(input.len, line);
-    answer_line(session, &line[..n], bytes, out)
-}
-
-fn finish(session: Session, out: &[u8; 65536])
-    requires { ⌜ Good (session .uart) ⌝ }
-{
-    session.flush(out);
+    answer_line(session, input, line, bytes, out)
 }

@@ -1,8 +1,11 @@
 // The answer to a line.
 use crate::calls::carry_out;
 use crate::faults::put_fault;
+use crate::faults::put_long;
 use crate::session::Session;
 use crate::set_up::set_up;
+use text::input::Input;
+use text::parts::within;
 use text::words::next_word;
 use trace::faults::Fault;
 use trace::faults::Reason;
@@ -40,14 +43,26 @@ fn first_call(session: Session, s: &[u8], name: Name, numbers: [u64; 32], out: &
     )
 }
 
-// Puts the answer to a line. A line that is no call changes nothing.
-pub fn answer_line(session: Session, s: &[u8], bytes: &mut [u8], out: &mut [u8]) -> Session
+// Puts the answer to the line at the front of `line`. A line that is no call changes nothing.
+pub fn answer_line(
+    session: Session,
+    input: Input,
+    line: &[u8],
+    bytes: &mut [u8],
+    out: &mut [u8],
+) -> Session
     requires { ⌜ Good (session .uart) ⌝ }
     ensures { λ r. ⌜ Good (r .uart) ⌝ }
 {
+    if input.long {
+        let at = put_long(out, session.at);
+        return session.with_output(at);
+    }
+    let n = within(input.len, line);
+    let s = &line[..n];
     let mut numbers = [0u64; 32];
-    let line = read_line(s, &mut numbers, bytes);
-    match line {
+    let read = read_line(s, &mut numbers, bytes);
+    match read {
         Line::Nothing => session,
         Line::Wrong(fault) => wrong(session, s, fault, out),
         Line::Call(name, last) => {

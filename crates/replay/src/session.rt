@@ -1,5 +1,4 @@
 // The UART that the calls are on, and how far the output is filled.
-use crate::output::write;
 use uart::Uart;
 use uart::placeholder::stand_in;
 ghost use Rattle.uart.specs.Whole.{Good};
@@ -21,29 +20,6 @@ impl Session {
     {
         self.at = at;
         self
-    }
-
-    pub fn fail(mut self) -> Session
-        requires { ⌜ Good (self .uart) ⌝ }
-        ensures { λ r. ⌜ Good (r .uart) ⌝ }
-    {
-        self.failed = true;
-        self
-    }
-
-    // Writes all that was put to the output.
-    pub fn flush(self, out: &[u8]) -> Session
-        requires { ⌜ Good (self .uart) ⌝ }
-        ensures { λ r. ⌜ Good (r .uart) ⌝ }
-    {
-        if self.failed {
-            return self;
-        }
-        if write(out, self.at, b"replay: standard output") {
-            self.with_output(0)
-        } else {
-            self.fail()
-        }
     }
 }
 

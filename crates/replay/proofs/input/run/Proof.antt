@@ -1,16 +1,18 @@
 -- `input::run` is safe and ends. The loop's invariant: the UART is within its limits. The measure is the count of turns. Assumes
 -- nothing.
+use mathlib.Core.Path.{subst, sym}
+use mathlib.Core.Logic.{⊎-elim}
 use Rattle.uart.specs.Whole.{Good}
-use native.Mathlib.Omega.{arith}
+use Rattle.replay.specs.declared.session.Session.{Session}
 use borrow.Author.Needs.{needs}
 use Rattle.replay.proofs.input.run.Statement.{statement}
 use Rattle.replay.proofs.input.run.Tie as tie
 
 abbrev Inv-loop : tie.InvT-loop
-Inv-loop chunk₀ line₀ bytes₀ out₀ input₀ session₀ turns₀ t8 chunk line bytes out input session turns = Good (session .uart)
+Inv-loop chunk₀ line₀ bytes₀ out₀ input₀ session₀ turns₀ t11 chunk line bytes out input session turns = Good (session .uart)
 
 abbrev μ-loop : tie.MeasureT-loop
-μ-loop chunk₀ line₀ bytes₀ out₀ input₀ session₀ turns₀ t8 chunk line bytes out input session turns = turns
+μ-loop chunk₀ line₀ bytes₀ out₀ input₀ session₀ turns₀ t11 chunk line bytes out input session turns = turns
 
 large-buffer-requires : tie.Need-large-buffer-requires Inv-loop μ-loop
 large-buffer-requires c κs = search needs
@@ -33,20 +35,29 @@ read-more-requires c κs = search needs
 next-line-requires : tie.Need-next-line-requires Inv-loop μ-loop
 next-line-requires c κs = search needs
 
-answer-next-requires : tie.Need-answer-next-requires Inv-loop μ-loop
-answer-next-requires c κs = search needs
+keep-up-requires : tie.Need-keep-up-requires Inv-loop μ-loop
+keep-up-requires c κs = search needs
+
+is-answered-requires : tie.Need-is-answered-requires Inv-loop μ-loop
+is-answered-requires c κs = search needs
+
+answer-requires : tie.Need-answer-requires Inv-loop μ-loop
+answer-requires c κs = search needs
 
 sub-turns : tie.Need-sub-turns Inv-loop μ-loop
-sub-turns c = omega (arith, c .before .before .before .before .before .before .before .before .before .before .before .loop-test .taken)
+sub-turns c = search needs
 
 loop-less : tie.Need-loop-less Inv-loop μ-loop
-loop-less c = omega (arith, c .before .before .before .before .before .before .before .before .before .before .before .loop-test .taken)
+loop-less c = search needs
 
 loop-again : tie.Need-loop-again Inv-loop μ-loop
-loop-again c = search needs
+loop-again c =
+    ⊎-elim (λ w. subst (λ (s : Session). Good (s .uart)) (sym (w .7)) (w .4 .ensures))
+    (λ w. subst (λ (s : Session). Good (s .uart)) (sym (w .3)) (c .before .before .before .before .before .before .before .before .before .before .before .before .loop .inv))
+    (c .if2 .came)
 
-finish-requires : tie.Need-finish-requires Inv-loop μ-loop
-finish-requires c κs = search needs
+flush-requires : tie.Need-flush-requires Inv-loop μ-loop
+flush-requires c κs = search needs
 
 returns : tie.Need-returns Inv-loop μ-loop
 returns c = search needs
@@ -64,9 +75,11 @@ run-spec =
     slice-aggregate-read-more
     read-more-requires
     next-line-requires
-    answer-next-requires
+    keep-up-requires
+    is-answered-requires
+    answer-requires
     sub-turns
     loop-less
     loop-again
-    finish-requires
+    flush-requires
     returns)
