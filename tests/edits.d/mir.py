@@ -103,7 +103,7 @@ def copied(value):
 
 class Machine:
     def __init__(self, functions, wraps=False):
-        self.functions, self.steps, self.wraps = functions, 0, wraps
+        self.functions, self.steps, self.wraps, self.foreign = functions, 0, wraps, None
         self.defs = {name: shape for fn in functions.values() for name, shape in fn.defs.items()}
 
     # ---- types
@@ -244,6 +244,8 @@ class Machine:
             return 'return'
         elif head == 'exit':
             return body[1]
+        elif head == 'foreign':  # a function of C's may answer anything, to both bodies the same
+            frame[0] = self.foreign.of(fn.locals[0])
         elif head != 'skip':
             return self.block(fn, frame, head, body[1])
         return None
@@ -361,7 +363,7 @@ def done(machine, fn, seed, known):
     """What a call gives, and what it leaves behind its references."""
     inputs = Inputs(machine, known, random.Random(seed))
     args = [inputs.of(kind) for kind in fn.locals[1:1 + fn.params]]
-    machine.steps = 0
+    machine.steps, machine.foreign = 0, Inputs(machine, known, random.Random(seed + TRIES))
     return machine.run(fn, args), inputs.behind
 
 
