@@ -35,7 +35,8 @@ pub enum Place {
     Unknown,
 }
 
-// The nine stored words: uart.rs's CONFIG.
+// The nine stored words: uart.rs's CONFIG. CLKDIV and CLK_CONF set the baud rate; IDLE_CONF, RS485_CONF and AT_CMD_CHAR have no effect of
+// their own.
 #[repr(C)]
 pub struct Words {
     pub int_ena: u32,
@@ -54,17 +55,20 @@ pub struct Words {
 pub struct RegisterMap {
     pub offsets: [u32; 16],
     pub reset: Words,
-    // STATUS with both FIFO counts at zero.
+    // STATUS with both FIFO counts at zero: the bits of the line's state keep their reset value.
     pub idle_status: u32,
+    // Read at its reset value: no firmware reads it.
     pub mem_rx_status: u32,
 }
 
 // What a pass on the receive line may change.
 pub struct Line {
     pub int_raw: u32,
-    // The source of a mistimed reception that the firmware has not been told of.
+    // The source without a frequency that timed what the receiver showed since the firmware last looked at it: a start bit or a
+    // landing that it heard, or an enabled timeout.
     pub rx_mistimed: Source,
-    // When the last byte heard landed, while the timeout of that idle line has not come.
+    // When the last byte heard landed, while the timeout of that idle line has not come: none once it came, and from a start bit that
+    // is heard to its landing.
     pub idle_since: Date,
     // When the line is free for the next byte. While a byte is on the line it lands then.
     pub line_free_at: u64,
@@ -86,7 +90,9 @@ pub struct Control {
     pub last: u64,
     // The wake that is armed, in cycles.
     pub wake: Date,
+    // The machine watches what is sent: each byte asks for a call when it has gone, not only the last.
     pub watched: bool,
+    // When the chip went into deep sleep, while it sleeps: the UART has no power and goes no further.
     pub powered_down_at: Date,
     // The interrupt level last driven.
     pub level: bool,

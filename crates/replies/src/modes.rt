@@ -32,7 +32,8 @@ fn refuse_if(test: bool, mode: Feature) -> Notices
     none().note_if(test, Unsupported::UartFeature(mode))
 }
 
-// The first four modes of CONF0 that are refused by name, in the order of their bits.
+// The first four modes of CONF0 that are refused by name, in the order of their bits: a break after the data, loopback, CTS flow control,
+// infrared framing. Each would change the bytes on the line or their timing, and no console sets one.
 fn low_modes(value: u32) -> Notices
     ensures { λ r. ⌜ r ≡ lowModes value (noted []) ⌝ }
 {
@@ -42,7 +43,7 @@ fn low_modes(value: u32) -> Notices
     refuse_mode(held, value, 16, Feature::Irda)
 }
 
-// The other three behind them, and then a stop code of 0.
+// The other three behind them, an inverted receive line, an inverted transmit line and autobaud, and then a stop code of 0.
 fn conf0_notices(value: u32) -> Notices
     ensures { λ r. ⌜ r ≡ noted (conf0Notes value) ⌝ }
 {
