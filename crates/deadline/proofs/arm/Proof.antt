@@ -9,12 +9,6 @@ use Rattle.deadline.specs.declared.Deadline.{Deadline}
 use Rattle.deadline.proofs.arm.Statement.{statement}
 use Rattle.deadline.proofs.arm.Tie as tie
 
-enum-told : tie.Need-enum-told
-enum-told c = search needs
-
-enum-known-instant : tie.Need-enum-known-instant
-enum-known-instant c = search needs
-
 cycles-requires : tie.Need-cycles-requires
 cycles-requires c κs = tt
 
@@ -33,6 +27,4 @@ returns-2 c =
     ∙ sym (ap (λ d. armed (inCycles d) (c .before .before .before .before .before .args .due)) (c .before .before .before .instant .given .1))
 
 pub arm-spec : {M : Type 1} → statement M
-arm-spec =
-    tie.close
-    (tie.spec enum-told enum-known-instant cycles-requires after-arm-requires returns returns-2)
+arm-spec = tie.close (tie.spec (λ c. search needs) (λ c. search needs) cycles-requires after-arm-requires returns returns-2)

@@ -9,11 +9,8 @@ line-of-requires c κs = tt
 date-of-requires : tie.Need-date-of-requires
 date-of-requires c κs = tt
 
-date-of-requires-2 : tie.Need-date-of-requires-2
-date-of-requires-2 c κs = search needs
-
 returns : tie.Need-returns
 returns c = rw (c .date-of2 .ensures, c .before .date-of .ensures, c .before .before .line-of .ensures)
 
 pub control-of-spec : {M : Type 1} → statement M
-control-of-spec = tie.close (tie.spec line-of-requires date-of-requires date-of-requires-2 returns)
+control-of-spec = tie.close (tie.spec line-of-requires date-of-requires (λ c κs. search needs) returns)

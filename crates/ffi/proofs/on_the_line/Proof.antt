@@ -4,12 +4,6 @@ use Rattle.ffi.specs.Plain.{onTheLine}
 use Rattle.ffi.proofs.on_the_line.Statement.{statement}
 use Rattle.ffi.proofs.on_the_line.Tie as tie
 
-enum-told : tie.Need-enum-told
-enum-told c = search needs
-
-enum-known-receiving : tie.Need-enum-known-receiving
-enum-known-receiving c = search needs
-
 plain-source-requires : tie.Need-plain-source-requires
 plain-source-requires c κs = tt
 
@@ -22,5 +16,4 @@ unfolding onTheLine
 returns-2 c = cc
 
 pub on-the-line-spec : {M : Type 1} → statement M
-on-the-line-spec =
-    tie.close (tie.spec enum-told enum-known-receiving plain-source-requires returns returns-2)
+on-the-line-spec = tie.close (tie.spec (λ c. search needs) (λ c. search needs) plain-source-requires returns returns-2)

@@ -13,12 +13,6 @@ plain-source-requires c κs = tt
 plain-date-requires : tie.Need-plain-date-requires
 plain-date-requires c κs = tt
 
-plain-date-requires-2 : tie.Need-plain-date-requires-2
-plain-date-requires-2 c κs = search needs
-
-plain-date-requires-3 : tie.Need-plain-date-requires-3
-plain-date-requires-3 c κs = search needs
-
 returns : tie.Need-returns
 unfolding plainCore
 returns c =
@@ -26,11 +20,5 @@ returns c =
 
 pub plain-core-spec : {M : Type 1} → statement M
 plain-core-spec =
-    tie.close
-    (tie.spec
-    on-the-line-requires
-    plain-source-requires
-    plain-date-requires
-    plain-date-requires-2
-    plain-date-requires-3
-    returns)
+    tie.close (tie.spec on-the-line-requires plain-source-requires plain-date-requires (λ c κs. search needs)
+    (λ c κs. search needs) returns)

@@ -4,12 +4,6 @@ use Rattle.ffi.specs.Plain.{plainDate}
 use Rattle.ffi.proofs.plain_date.Statement.{statement}
 use Rattle.ffi.proofs.plain_date.Tie as tie
 
-enum-told : tie.Need-enum-told
-enum-told c = search needs
-
-enum-known-date : tie.Need-enum-known-date
-enum-known-date c = search needs
-
 returns : tie.Need-returns
 unfolding plainDate
 returns c = cc
@@ -19,4 +13,4 @@ unfolding plainDate
 returns-2 c = cc
 
 pub plain-date-spec : {M : Type 1} → statement M
-plain-date-spec = tie.close (tie.spec enum-told enum-known-date returns returns-2)
+plain-date-spec = tie.close (tie.spec (λ c. search needs) (λ c. search needs) returns returns-2)

@@ -7,12 +7,6 @@ use Rattle.queue.specs.Slots.{wrap-in, wrap-over}
 use Rattle.queue.proofs.slot.Statement.{statement}
 use Rattle.queue.proofs.slot.Tie as tie
 
-sub-ahead : tie.Need-sub-ahead
-sub-ahead c = search needs
-
-add-result : tie.Need-add-result
-add-result c = search needs
-
 returns : tie.Need-returns
 returns c =
     let a = c .before .args in
@@ -24,4 +18,4 @@ returns-2 c =
     omega (arith, wrap-over (a .start + a .n) (a .cap) (omega arith))
 
 pub slot-spec : {M : Type 1} → statement M
-slot-spec = tie.close (tie.spec sub-ahead add-result returns returns-2)
+slot-spec = tie.close (tie.spec (λ c. search needs) (λ c. search needs) returns returns-2)

@@ -6,9 +6,6 @@ use Rattle.timing.specs.Bounds.{half-bit-most}
 use Rattle.timing.proofs.bit_time.Statement.{statement}
 use Rattle.timing.proofs.bit_time.Tie as tie
 
-half-bit-time-requires : tie.Need-half-bit-time-requires
-half-bit-time-requires c κs = search needs
-
 mul-result : tie.Need-mul-result
 mul-result c = omega (arith, c .half-bit-time .ensures, half-bit-most (c .before .args .w) (c .before .args .period) (c .before .pre))
 
@@ -17,4 +14,4 @@ unfolding bitTime
 returns c = rw (c .half-bit-time .ensures)
 
 pub bit-time-spec : {M : Type 1} → statement M
-bit-time-spec = tie.close (tie.spec half-bit-time-requires mul-result returns)
+bit-time-spec = tie.close (tie.spec (λ c κs. search needs) mul-result returns)

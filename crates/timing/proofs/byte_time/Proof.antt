@@ -9,9 +9,6 @@ use Rattle.timing.proofs.byte_time.Tie as tie
 frame-half-bits-requires : tie.Need-frame-half-bits-requires
 frame-half-bits-requires c κs = tt
 
-half-bit-time-requires : tie.Need-half-bit-time-requires
-half-bit-time-requires c κs = search needs
-
 mul-result : tie.Need-mul-result
 unfolding byteTime
 mul-result c =
@@ -23,4 +20,4 @@ unfolding byteTime
 returns c = rw (c .before .frame-half-bits .ensures, c .half-bit-time .ensures)
 
 pub byte-time-spec : {M : Type 1} → statement M
-byte-time-spec = tie.close (tie.spec frame-half-bits-requires half-bit-time-requires mul-result returns)
+byte-time-spec = tie.close (tie.spec frame-half-bits-requires (λ c κs. search needs) mul-result returns)

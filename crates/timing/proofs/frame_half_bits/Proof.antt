@@ -24,18 +24,6 @@ stop-bit-num-requires c κs = tt
 stop-half-bits-requires : tie.Need-stop-half-bits-requires
 stop-half-bits-requires c κs = tt
 
-add-result : tie.Need-add-result
-add-result c = search needs
-
-add-result-2 : tie.Need-add-result-2
-add-result-2 c = search needs
-
-add-result-3 : tie.Need-add-result-3
-add-result-3 c = search needs
-
-mul-result : tie.Need-mul-result
-mul-result c = search needs
-
 add-result-4 : tie.Need-add-result-4
 add-result-4 c = omega (arith, c .stop-half-bits .ensures, stop-most (c .before .stop-bit-num .result))
 
@@ -53,17 +41,6 @@ returns c =
 
 pub frame-half-bits-spec : {M : Type 1} → statement M
 frame-half-bits-spec =
-    tie.close
-    (tie.spec
-    bit-num-requires
-    wide-requires
-    parity-en-requires
-    wide-requires-2
-    stop-bit-num-requires
-    stop-half-bits-requires
-    add-result
-    add-result-2
-    add-result-3
-    mul-result
-    add-result-4
+    tie.close (tie.spec bit-num-requires wide-requires parity-en-requires wide-requires-2 stop-bit-num-requires
+    stop-half-bits-requires (λ c. search needs) (λ c. search needs) (λ c. search needs) (λ c. search needs) add-result-4
     returns)

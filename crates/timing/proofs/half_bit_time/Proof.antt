@@ -30,5 +30,4 @@ unfolding halfBitTime
 returns c = rw (c .before .before .divider .ensures, c .before .source-divider .ensures, c .source-period .ensures)
 
 pub half-bit-time-spec : {M : Type 1} → statement M
-half-bit-time-spec =
-    tie.close (tie.spec divider-requires source-divider-requires source-period-requires mul-result mul-result-2 returns)
+half-bit-time-spec = tie.close (tie.spec divider-requires source-divider-requires source-period-requires mul-result mul-result-2 returns)

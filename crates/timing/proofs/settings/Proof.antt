@@ -4,12 +4,6 @@ use Rattle.model.specs.Timing.{settings}
 use Rattle.timing.proofs.settings.Statement.{statement}
 use Rattle.timing.proofs.settings.Tie as tie
 
-byte-time-requires : tie.Need-byte-time-requires
-byte-time-requires c κs = search needs
-
-timeout-time-requires : tie.Need-timeout-time-requires
-timeout-time-requires c κs = search needs
-
 unmodelled-source-requires : tie.Need-unmodelled-source-requires
 unmodelled-source-requires c κs = tt
 
@@ -40,13 +34,5 @@ returns c =
 
 pub settings-spec : {M : Type 1} → statement M
 settings-spec =
-    tie.close
-    (tie.spec
-    byte-time-requires
-    timeout-time-requires
-    unmodelled-source-requires
-    rx-sclk-en-requires
-    rx-tout-en-requires
-    rxfifo-rst-requires
-    dis-rx-dat-ovf-requires
-    returns)
+    tie.close (tie.spec (λ c κs. search needs) (λ c κs. search needs) unmodelled-source-requires rx-sclk-en-requires
+    rx-tout-en-requires rxfifo-rst-requires dis-rx-dat-ovf-requires returns)

@@ -12,9 +12,6 @@ rx-tout-thrhd-requires c κs = tt
 wide-requires : tie.Need-wide-requires
 wide-requires c κs = tt
 
-bit-time-requires : tie.Need-bit-time-requires
-bit-time-requires c κs = search needs
-
 mul-result : tie.Need-mul-result
 unfolding timeoutTime
 mul-result c =
@@ -26,4 +23,4 @@ unfolding timeoutTime
 returns c = rw (c .before .wide .ensures, c .before .before .rx-tout-thrhd .ensures, c .bit-time .ensures)
 
 pub timeout-time-spec : {M : Type 1} → statement M
-timeout-time-spec = tie.close (tie.spec rx-tout-thrhd-requires wide-requires bit-time-requires mul-result returns)
+timeout-time-spec = tie.close (tie.spec rx-tout-thrhd-requires wide-requires (λ c κs. search needs) mul-result returns)

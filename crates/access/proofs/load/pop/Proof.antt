@@ -4,14 +4,8 @@ use borrow.Author.Needs.{needs}
 use Rattle.access.proofs.load.pop.Statement.{statement}
 use Rattle.access.proofs.load.pop.Tie as tie
 
-element-copy-out-wide : tie.Need-element-copy-out-wide
-element-copy-out-wide c = search needs
-
 wide-requires : tie.Need-wide-requires
 wide-requires c κs = tt
-
-popped-requires : tie.Need-popped-requires
-popped-requires c κs = search needs
 
 note-empty-read-requires : tie.Need-note-empty-read-requires
 note-empty-read-requires c κs = tt
@@ -23,12 +17,4 @@ returns-2 : tie.Need-returns-2
 returns-2 c = pop-misses _ _ _ (c .before .if1 .left) (c .note-empty-read .ensures)
 
 pub pop-spec : {M : Type 1} → statement M
-pop-spec =
-    tie.close
-    (tie.spec
-    element-copy-out-wide
-    wide-requires
-    popped-requires
-    note-empty-read-requires
-    returns
-    returns-2)
+pop-spec = tie.close (tie.spec (λ c. search needs) wide-requires (λ c κs. search needs) note-empty-read-requires returns returns-2)

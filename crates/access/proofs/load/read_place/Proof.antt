@@ -25,9 +25,6 @@ receive-clock-notices-requires c κs = tt
 forget-mistimed-requires : tie.Need-forget-mistimed-requires
 forget-mistimed-requires c κs = tt
 
-enum-told : tie.Need-enum-told
-enum-told c = search needs
-
 pop-requires : tie.Need-pop-requires
 pop-requires c κs =
     let pre = c .before .before .before .before .before .before .before .before .pre in
@@ -58,14 +55,5 @@ returns-2 c = λ a e k.
 
 pub read-place-spec : {M : Type 1} → statement M
 read-place-spec =
-    tie.close
-    (tie.spec
-    looks-requires
-    mistimed-at-requires
-    receive-clock-notices-requires
-    forget-mistimed-requires
-    enum-told
-    pop-requires
-    word-at-requires
-    returns
-    returns-2)
+    tie.close (tie.spec looks-requires mistimed-at-requires receive-clock-notices-requires forget-mistimed-requires
+    (λ c. search needs) pop-requires word-at-requires returns returns-2)

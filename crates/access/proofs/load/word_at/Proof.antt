@@ -9,29 +9,11 @@ use borrow.Author.Needs.{needs}
 use Rattle.access.proofs.load.word_at.Statement.{statement}
 use Rattle.access.proofs.load.word_at.Tie as tie
 
-enum-told : tie.Need-enum-told
-enum-told c = search needs
-
-enum-told-2 : tie.Need-enum-told-2
-enum-told-2 c = search needs
-
 int-status-requires : tie.Need-int-status-requires
 int-status-requires c κs = tt
 
-enum-told-3 : tie.Need-enum-told-3
-enum-told-3 c = search needs
-
-status-word-requires : tie.Need-status-word-requires
-status-word-requires c κs = search needs
-
-enum-told-4 : tie.Need-enum-told-4
-enum-told-4 c = search needs
-
 fsm-status-requires : tie.Need-fsm-status-requires
 fsm-status-requires c κs = tt
-
-enum-told-5 : tie.Need-enum-told-5
-enum-told-5 c = search needs
 
 read-requires : tie.Need-read-requires
 read-requires c κs = tt
@@ -66,20 +48,6 @@ returns-6 c =
 
 pub word-at-spec : {M : Type 1} → statement M
 word-at-spec =
-    tie.close
-    (tie.spec
-    enum-told
-    enum-told-2
-    int-status-requires
-    enum-told-3
-    status-word-requires
-    enum-told-4
-    fsm-status-requires
-    enum-told-5
-    read-requires
-    returns
-    returns-2
-    returns-3
-    returns-4
-    returns-5
-    returns-6)
+    tie.close (tie.spec (λ c. search needs) (λ c. search needs) int-status-requires (λ c. search needs)
+    (λ c κs. search needs) (λ c. search needs) fsm-status-requires (λ c. search needs) read-requires returns returns-2
+    returns-3 returns-4 returns-5 returns-6)

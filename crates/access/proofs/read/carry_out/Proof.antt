@@ -8,12 +8,6 @@ use borrow.Author.Needs.{needs}
 use Rattle.access.proofs.read.carry_out.Statement.{statement}
 use Rattle.access.proofs.read.carry_out.Tie as tie
 
-settle-at-requires : tie.Need-settle-at-requires
-settle-at-requires c κs = search needs
-
-read-place-requires : tie.Need-read-place-requires
-read-place-requires c κs = search needs
-
 answer-requires : tie.Need-answer-requires
 answer-requires c κs = tt
 
@@ -24,5 +18,4 @@ returns c =
     rw (c .answer .ensures) (after asRead s (readAt (c .before .before .before .before .before .before .before .before .before .before .args .place)) (c .before .before .before .read-place .ensures _ refl (s .ok .shape)))
 
 pub carry-out-spec : {M : Type 1} → statement M
-carry-out-spec =
-    tie.close (tie.spec settle-at-requires read-place-requires answer-requires returns)
+carry-out-spec = tie.close (tie.spec (λ c κs. search needs) (λ c κs. search needs) answer-requires returns)

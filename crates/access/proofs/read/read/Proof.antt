@@ -53,13 +53,5 @@ returns-2 c =
 
 pub read-spec : {M : Type 1} → statement M
 read-spec =
-    tie.close
-    (tie.spec
-    place-of-requires
-    date-refusal-requires
-    enum-known-tests
-    refuse-requires
-    enum-told
-    carry-out-requires
-    returns
-    returns-2)
+    tie.close (tie.spec place-of-requires date-refusal-requires enum-known-tests refuse-requires enum-told
+    carry-out-requires returns returns-2)

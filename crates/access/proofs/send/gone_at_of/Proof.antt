@@ -3,17 +3,11 @@ use borrow.Author.Needs.{needs}
 use Rattle.access.proofs.send.gone_at_of.Statement.{statement}
 use Rattle.access.proofs.send.gone_at_of.Tie as tie
 
-last-gone-requires : tie.Need-last-gone-requires
-last-gone-requires c κs = search needs
-
 subcycles-requires : tie.Need-subcycles-requires
 subcycles-requires c κs = tt
 
 starts-at-requires : tie.Need-starts-at-requires
 starts-at-requires c κs = tt
-
-byte-time-requires : tie.Need-byte-time-requires
-byte-time-requires c κs = search needs
 
 after-requires : tie.Need-after-requires
 after-requires c κs = tt
@@ -23,11 +17,5 @@ returns c = λ bytes. rw (c .after .ensures, c .before .byte-time .ensures, c .b
 
 pub gone-at-of-spec : {M : Type 1} → statement M
 gone-at-of-spec =
-    tie.close
-    (tie.spec
-    last-gone-requires
-    subcycles-requires
-    starts-at-requires
-    byte-time-requires
-    after-requires
-    returns)
+    tie.close (tie.spec (λ c κs. search needs) subcycles-requires starts-at-requires (λ c κs. search needs)
+    after-requires returns)

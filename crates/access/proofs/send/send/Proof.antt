@@ -14,24 +14,6 @@ fifo-full-requires c κs = tt
 overflow-notices-requires : tie.Need-overflow-notices-requires
 overflow-notices-requires c κs = tt
 
-back-requires : tie.Need-back-requires
-back-requires c κs = search needs
-
-gone-at-of-requires : tie.Need-gone-at-of-requires
-gone-at-of-requires c κs = search needs
-
-mul-gone-at : tie.Need-mul-gone-at
-mul-gone-at c = search needs
-
-element-write-gone-at : tie.Need-element-write-gone-at
-element-write-gone-at c = search needs
-
-element-write-flight : tie.Need-element-write-flight
-element-write-flight c = search needs
-
-pushed-requires : tie.Need-pushed-requires
-pushed-requires c κs = search needs
-
 unmodelled-source-requires : tie.Need-unmodelled-source-requires
 unmodelled-source-requires c κs = tt
 
@@ -51,17 +33,6 @@ returns-2 c =
 
 pub send-spec : {M : Type 1} → statement M
 send-spec =
-    tie.close
-    (tie.spec
-    fifo-full-requires
-    overflow-notices-requires
-    back-requires
-    gone-at-of-requires
-    mul-gone-at
-    element-write-gone-at
-    element-write-flight
-    pushed-requires
-    unmodelled-source-requires
-    clock-notices-requires
-    returns
-    returns-2)
+    tie.close (tie.spec fifo-full-requires overflow-notices-requires (λ c κs. search needs) (λ c κs. search needs)
+    (λ c. search needs) (λ c. search needs) (λ c. search needs) (λ c κs. search needs) unmodelled-source-requires
+    clock-notices-requires returns returns-2)

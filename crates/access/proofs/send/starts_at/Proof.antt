@@ -4,12 +4,6 @@ use borrow.Author.Needs.{needs}
 use Rattle.access.proofs.send.starts_at.Statement.{statement}
 use Rattle.access.proofs.send.starts_at.Tie as tie
 
-enum-told : tie.Need-enum-told
-enum-told c = search needs
-
-enum-known-last : tie.Need-enum-known-last
-enum-known-last c = search needs
-
 later-requires : tie.Need-later-requires
 later-requires c κs = tt
 
@@ -22,4 +16,4 @@ unfolding startsAt
 returns-2 c = rw (c .before .before .last .given .1) (c .later .ensures)
 
 pub starts-at-spec : {M : Type 1} → statement M
-starts-at-spec = tie.close (tie.spec enum-told enum-known-last later-requires returns returns-2)
+starts-at-spec = tie.close (tie.spec (λ c. search needs) (λ c. search needs) later-requires returns returns-2)

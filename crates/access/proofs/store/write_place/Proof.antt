@@ -8,14 +8,8 @@ use borrow.Author.Needs.{needs}
 use Rattle.access.proofs.store.write_place.Statement.{statement}
 use Rattle.access.proofs.store.write_place.Tie as tie
 
-enum-told : tie.Need-enum-told
-enum-told c = search needs
-
 clear-interrupts-requires : tie.Need-clear-interrupts-requires
 clear-interrupts-requires c κs = tt
-
-enum-told-2 : tie.Need-enum-told-2
-enum-told-2 c = search needs
 
 reset-fifos-requires : tie.Need-reset-fifos-requires
 reset-fifos-requires c κs = tt
@@ -48,14 +42,5 @@ returns-3 c = λ a k.
 
 pub write-place-spec : {M : Type 1} → statement M
 write-place-spec =
-    tie.close
-    (tie.spec
-    enum-told
-    clear-interrupts-requires
-    enum-told-2
-    reset-fifos-requires
-    store-requires
-    store-requires-2
-    returns
-    returns-2
-    returns-3)
+    tie.close (tie.spec (λ c. search needs) clear-interrupts-requires (λ c. search needs) reset-fifos-requires
+    store-requires store-requires-2 returns returns-2 returns-3)

@@ -50,12 +50,5 @@ returns-2 c =
 
 pub carry-out-spec : {M : Type 1} → statement M
 carry-out-spec =
-    tie.close
-    (tie.spec
-    settle-at-requires
-    send-requires
-    conclude-requires
-    write-place-requires
-    conclude-requires-2
-    returns
-    returns-2)
+    tie.close (tie.spec settle-at-requires send-requires conclude-requires write-place-requires conclude-requires-2
+    returns returns-2)

@@ -52,15 +52,5 @@ returns-2 c =
 
 pub write-spec : {M : Type 1} → statement M
 write-spec =
-    tie.close
-    (tie.spec
-    place-of-requires
-    is-fifo-requires
-    tests-at-requires
-    enum-known-tests
-    refuse-requires
-    enum-told
-    low-byte-requires
-    carry-out-requires
-    returns
-    returns-2)
+    tie.close (tie.spec place-of-requires is-fifo-requires tests-at-requires enum-known-tests refuse-requires enum-told
+    low-byte-requires carry-out-requires returns returns-2)

@@ -45,13 +45,5 @@ returns c =
 
 pub carry-out-spec : {M : Type 1} → statement M
 carry-out-spec =
-    tie.close
-    (tie.spec
-    settle-at-requires
-    with-period-requires
-    settle-requires
-    arm-requires
-    add-done
-    add-done-2
-    done-requires
-    returns)
+    tie.close (tie.spec settle-at-requires with-period-requires settle-requires arm-requires add-done add-done-2
+    done-requires returns)

@@ -46,12 +46,5 @@ returns-2 c =
 
 pub clock-change-spec : {M : Type 1} → statement M
 clock-change-spec =
-    tie.close
-    (tie.spec
-    clock-refusal-requires
-    enum-known-tests
-    refuse-requires
-    enum-told
-    carry-out-requires
-    returns
+    tie.close (tie.spec clock-refusal-requires enum-known-tests refuse-requires enum-told carry-out-requires returns
     returns-2)

@@ -52,15 +52,5 @@ returns-2 c = λ a ok.
 
 pub power-down-spec : {M : Type 1} → statement M
 power-down-spec =
-    tie.close
-    (tie.spec
-    date-refusal-requires
-    enum-known-tests
-    refuse-requires
-    enum-told
-    with-last-requires
-    subcycles-requires
-    with-powered-down-at-requires
-    done-requires
-    returns
-    returns-2)
+    tie.close (tie.spec date-refusal-requires enum-known-tests refuse-requires enum-told with-last-requires
+    subcycles-requires with-powered-down-at-requires done-requires returns returns-2)

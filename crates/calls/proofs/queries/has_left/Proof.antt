@@ -7,7 +7,4 @@ returns : tie.Need-returns
 returns c = λ a ok. has-left-of (c .before .args .core) a
 
 pub has-left-spec : {M : Type 1} → statement M
-has-left-spec =
-    tie.close
-    (tie.spec
-    returns)
+has-left-spec = tie.close (tie.spec returns)

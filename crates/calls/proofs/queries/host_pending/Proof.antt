@@ -4,15 +4,6 @@ use borrow.Author.Needs.{needs}
 use Rattle.calls.proofs.queries.host_pending.Statement.{statement}
 use Rattle.calls.proofs.queries.host_pending.Tie as tie
 
-enum-told : tie.Need-enum-told
-enum-told c = search needs
-
-enum-told-2 : tie.Need-enum-told-2
-enum-told-2 c = search needs
-
-add-result : tie.Need-add-result
-add-result c = search needs
-
 returns : tie.Need-returns
 returns c = λ a ok. pending-free (c .before .before .args .core) a (c .enum-told .given .1)
 
@@ -20,11 +11,4 @@ returns-2 : tie.Need-returns-2
 returns-2 c = λ a ok. pending-on (c .before .before .before .args .core) a _ (c .before .enum-told2 .given .1)
 
 pub host-pending-spec : {M : Type 1} → statement M
-host-pending-spec =
-    tie.close
-    (tie.spec
-    enum-told
-    enum-told-2
-    add-result
-    returns
-    returns-2)
+host-pending-spec = tie.close (tie.spec (λ c. search needs) (λ c. search needs) (λ c. search needs) returns returns-2)

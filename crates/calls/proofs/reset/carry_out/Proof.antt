@@ -28,11 +28,5 @@ returns c =
 
 pub carry-out-spec : {M : Type 1} → statement M
 carry-out-spec =
-    tie.close
-    (tie.spec
-    with-powered-down-at-requires
-    settle-at-requires
-    clear-requires
-    conclude-requires
-    done-requires
+    tie.close (tie.spec with-powered-down-at-requires settle-at-requires clear-requires conclude-requires done-requires
     returns)

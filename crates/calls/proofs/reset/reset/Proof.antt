@@ -41,13 +41,4 @@ returns-2 c =
     (reset-within (o .cycle) _ (start .pre .within)) (reset-zero (o .cycle) _) (c .carry-out .ensures)
 
 pub reset-spec : {M : Type 1} → statement M
-reset-spec =
-    tie.close
-    (tie.spec
-    date-refusal-requires
-    enum-known-tests
-    refuse-requires
-    enum-told
-    carry-out-requires
-    returns
-    returns-2)
+reset-spec = tie.close (tie.spec date-refusal-requires enum-known-tests refuse-requires enum-told carry-out-requires returns returns-2)

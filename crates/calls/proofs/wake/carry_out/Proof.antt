@@ -27,5 +27,4 @@ returns c =
     (c .before .before .before .settle-at .ensures) (c .before .arm .ensures) (c .done .ensures)
 
 pub carry-out-spec : {M : Type 1} → statement M
-carry-out-spec =
-    tie.close (tie.spec called-requires settle-at-requires arm-requires done-requires returns)
+carry-out-spec = tie.close (tie.spec called-requires settle-at-requires arm-requires done-requires returns)

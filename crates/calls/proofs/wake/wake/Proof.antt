@@ -44,13 +44,4 @@ returns-2 c =
     (wake-within (o .cycle) _ (start .pre .within)) (wake-zero (o .cycle) _) (c .carry-out .ensures)
 
 pub wake-spec : {M : Type 1} → statement M
-wake-spec =
-    tie.close
-    (tie.spec
-    date-refusal-requires
-    enum-known-tests
-    refuse-requires
-    enum-told
-    carry-out-requires
-    returns
-    returns-2)
+wake-spec = tie.close (tie.spec date-refusal-requires enum-known-tests refuse-requires enum-told carry-out-requires returns returns-2)

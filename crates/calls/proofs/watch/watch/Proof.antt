@@ -53,14 +53,5 @@ returns-2 c = λ a eg ed ok.
 
 pub watch-spec : {M : Type 1} → statement M
 watch-spec =
-    tie.close
-    (tie.spec
-    date-refusal-requires
-    enum-known-tests
-    refuse-requires
-    enum-told
-    with-watched-requires
-    arm-requires
-    done-requires
-    returns
-    returns-2)
+    tie.close (tie.spec date-refusal-requires enum-known-tests refuse-requires enum-told with-watched-requires
+    arm-requires done-requires returns returns-2)

@@ -11,12 +11,6 @@ use Rattle.deadline.proofs.Deadline.cleared.Tie as tie
 abbrev dated : Date → Deadline
 dated d = record { due = d }
 
-enum-told : tie.Need-enum-told
-enum-told c = search needs
-
-enum-known-due : tie.Need-enum-known-due
-enum-known-due c = search needs
-
 returns : tie.Need-returns
 returns c = ap dated (sym (ap (called (c .before .before .args .at)) (c .enum-told .given .1) ∙ called-none _))
 
@@ -27,4 +21,4 @@ returns-3 : tie.Need-returns-3
 returns-3 c = let d = c .before .before .due .given .1 in ap dated (d ∙ sym (ap (called (c .before .before .before .before .args .at)) d ∙ called-before _ _ (c .if1 .left)))
 
 pub cleared-spec : {M : Type 1} → statement M
-cleared-spec = tie.close (tie.spec enum-told enum-known-due returns returns-2 returns-3)
+cleared-spec = tie.close (tie.spec (λ c. search needs) (λ c. search needs) returns returns-2 returns-3)

@@ -10,12 +10,6 @@ use Rattle.deadline.proofs.Deadline.earliest.Tie as tie
 abbrev dated : Date → Deadline
 dated d = record { due = d }
 
-enum-told : tie.Need-enum-told
-enum-told c = search needs
-
-enum-known-due : tie.Need-enum-known-due
-enum-known-due c = search needs
-
 earlier-requires : tie.Need-earlier-requires
 earlier-requires c κs = tt
 
@@ -30,4 +24,4 @@ returns-2 c =
     ∙ ap (λ d. dated (earliest d (Date.At (c .before .before .before .before .args .at)))) (sym (c .before .before .due .given .1))
 
 pub earliest-spec : {M : Type 1} → statement M
-earliest-spec = tie.close (tie.spec enum-told enum-known-due earlier-requires returns returns-2)
+earliest-spec = tie.close (tie.spec (λ c. search needs) (λ c. search needs) earlier-requires returns returns-2)

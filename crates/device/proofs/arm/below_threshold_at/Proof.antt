@@ -7,15 +7,6 @@ use borrow.Author.Needs.{needs}
 use Rattle.device.proofs.arm.below_threshold_at.Statement.{statement}
 use Rattle.device.proofs.arm.below_threshold_at.Tie as tie
 
-enum-told : tie.Need-enum-told
-enum-told c = search needs
-
-enum-known-below : tie.Need-enum-known-below
-enum-known-below c = search needs
-
-nth-gone-requires : tie.Need-nth-gone-requires
-nth-gone-requires c κs = search needs
-
 returns : tie.Need-returns
 unfolding goneBelow
 returns c = λ bytes. sym (ap (λ b. goneBelow b (flightOf (c .before .before .args .gone-at .now) bytes (c .before .before .args .flight))) (c .enum-told .given .1))
@@ -25,5 +16,4 @@ unfolding goneBelow
 returns-2 c = λ bytes. c .nth-gone .ensures bytes ∙ sym (ap (λ b. goneBelow b (flightOf (c .before .before .before .before .args .gone-at .now) bytes (c .before .before .before .before .args .flight))) (c .before .before .below .given .1))
 
 pub below-threshold-at-spec : {M : Type 1} → statement M
-below-threshold-at-spec =
-    tie.close (tie.spec enum-told enum-known-below nth-gone-requires returns returns-2)
+below-threshold-at-spec = tie.close (tie.spec (λ c. search needs) (λ c. search needs) (λ c κs. search needs) returns returns-2)

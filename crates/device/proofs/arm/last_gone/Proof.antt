@@ -6,12 +6,6 @@ use borrow.Author.Needs.{needs}
 use Rattle.device.proofs.arm.last_gone.Statement.{statement}
 use Rattle.device.proofs.arm.last_gone.Tie as tie
 
-sub-nth-gone : tie.Need-sub-nth-gone
-sub-nth-gone c = search needs
-
-nth-gone-requires : tie.Need-nth-gone-requires
-nth-gone-requires c κs = search needs
-
 returns : tie.Need-returns
 returns c = λ bytes. last-in (c .before .before .before .before .args .gone-at .now) bytes (c .before .before .before .before .args .flight) (c .nth-gone .ensures bytes)
 
@@ -19,4 +13,4 @@ returns-2 : tie.Need-returns-2
 returns-2 c = λ bytes. last-none (c .before .before .args .gone-at .now) bytes (c .before .before .args .flight) (c .if1 .left)
 
 pub last-gone-spec : {M : Type 1} → statement M
-last-gone-spec = tie.close (tie.spec sub-nth-gone nth-gone-requires returns returns-2)
+last-gone-spec = tie.close (tie.spec (λ c. search needs) (λ c κs. search needs) returns returns-2)

@@ -7,39 +7,6 @@ use borrow.Author.Needs.{needs}
 use Rattle.device.proofs.arm.next_wake.Statement.{statement}
 use Rattle.device.proofs.arm.next_wake.Tie as tie
 
-settings-requires : tie.Need-settings-requires
-settings-requires c κs = search needs
-
-last-gone-requires : tie.Need-last-gone-requires
-last-gone-requires c κs = search needs
-
-waiting-requires : tie.Need-waiting-requires
-waiting-requires c κs = search needs
-
-next-landing-requires : tie.Need-next-landing-requires
-next-landing-requires c κs = search needs
-
-timeout-at-requires : tie.Need-timeout-at-requires
-timeout-at-requires c κs = search needs
-
-only-if-requires : tie.Need-only-if-requires
-only-if-requires c κs = search needs
-
-below-threshold-requires : tie.Need-below-threshold-requires
-below-threshold-requires c κs = search needs
-
-below-threshold-at-requires : tie.Need-below-threshold-at-requires
-below-threshold-at-requires c κs = search needs
-
-nth-gone-requires : tie.Need-nth-gone-requires
-nth-gone-requires c κs = search needs
-
-only-if-requires-2 : tie.Need-only-if-requires-2
-only-if-requires-2 c κs = search needs
-
-arm-requires : tie.Need-arm-requires
-arm-requires c κs = search needs
-
 returns : tie.Need-returns
 unfolding firstGone
 returns c = λ a ea er hh rh.
@@ -50,17 +17,6 @@ returns c = λ a ea er hh rh.
 
 pub next-wake-spec : {M : Type 1} → statement M
 next-wake-spec =
-    tie.close
-    (tie.spec
-    settings-requires
-    last-gone-requires
-    waiting-requires
-    next-landing-requires
-    timeout-at-requires
-    only-if-requires
-    below-threshold-requires
-    below-threshold-at-requires
-    nth-gone-requires
-    only-if-requires-2
-    arm-requires
-    returns)
+    tie.close (tie.spec (λ c κs. search needs) (λ c κs. search needs) (λ c κs. search needs) (λ c κs. search needs)
+    (λ c κs. search needs) (λ c κs. search needs) (λ c κs. search needs) (λ c κs. search needs) (λ c κs. search needs)
+    (λ c κs. search needs) (λ c κs. search needs) returns)

@@ -8,15 +8,6 @@ use borrow.Author.Needs.{needs}
 use Rattle.device.proofs.arm.nth_gone.Statement.{statement}
 use Rattle.device.proofs.arm.nth_gone.Tie as tie
 
-nth-requires : tie.Need-nth-requires
-nth-requires c κs = search needs
-
-mul-t6 : tie.Need-mul-t6
-mul-t6 c = search needs
-
-element-copy-out-t9 : tie.Need-element-copy-out-t9
-element-copy-out-t9 c = search needs
-
 returns : tie.Need-returns
 returns c = λ bytes. ap (λ i. Date.At (getD (c .before .before .before .before .args .gone-at .now) i 0)) (c .before .nth .ensures .0) ∙ gone-in (c .before .before .before .before .args .gone-at .now) bytes (c .before .before .before .before .args .flight) (c .before .before .before .before .args .n) (c .before .before .if1 .taken)
 
@@ -24,4 +15,4 @@ returns-2 : tie.Need-returns-2
 returns-2 c = λ bytes. gone-out (c .before .before .args .gone-at .now) bytes (c .before .before .args .flight) (c .before .before .args .n) (c .if1 .left)
 
 pub nth-gone-spec : {M : Type 1} → statement M
-nth-gone-spec = tie.close (tie.spec nth-requires mul-t6 element-copy-out-t9 returns returns-2)
+nth-gone-spec = tie.close (tie.spec (λ c κs. search needs) (λ c. search needs) (λ c. search needs) returns returns-2)

@@ -3,11 +3,8 @@ use borrow.Author.Needs.{needs}
 use Rattle.device.proofs.arm.with_wake_of.Statement.{statement}
 use Rattle.device.proofs.arm.with_wake_of.Tie as tie
 
-with-wake-requires : tie.Need-with-wake-requires
-with-wake-requires c κs = search needs
-
 returns : tie.Need-returns
 returns c = rw (c .with-wake .ensures)
 
 pub with-wake-of-spec : {M : Type 1} → statement M
-with-wake-of-spec = tie.close (tie.spec with-wake-requires returns)
+with-wake-of-spec = tie.close (tie.spec (λ c κs. search needs) returns)

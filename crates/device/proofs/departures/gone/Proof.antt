@@ -24,15 +24,6 @@ abbrev μ-loop : tie.MeasureT-loop
 loop-holds : tie.Need-loop-holds Inv-loop μ-loop
 loop-holds c = (c .pre .0, λ bytes. omega arith, omega arith)
 
-mul-if2 : tie.Need-mul-if2 Inv-loop μ-loop
-mul-if2 c = search needs
-
-element-copy-out-if2 : tie.Need-element-copy-out-if2 Inv-loop μ-loop
-element-copy-out-if2 c = search needs
-
-popped-requires : tie.Need-popped-requires Inv-loop μ-loop
-popped-requires c κs = search needs
-
 add-n : tie.Need-add-n Inv-loop μ-loop
 add-n c = omega (arith, c .before .before .before .before .before .before .pre .0 .few, c .before .before .before .before .before .loop .inv .2)
 
@@ -63,16 +54,5 @@ returns-2 c = let o = c .before .before .before .before .before .args in
 
 pub gone-spec : {M : Type 1} → statement M
 gone-spec =
-    tie.close
-    (tie.spec
-    Inv-loop
-    μ-loop
-    loop-holds
-    mul-if2
-    element-copy-out-if2
-    popped-requires
-    add-n
-    loop-less
-    loop-again
-    returns
-    returns-2)
+    tie.close (tie.spec Inv-loop μ-loop loop-holds (λ c. search needs) (λ c. search needs) (λ c κs. search needs) add-n
+    loop-less loop-again returns returns-2)

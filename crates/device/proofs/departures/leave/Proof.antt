@@ -36,9 +36,6 @@ popped-requires c κs = c .before .before .before .before .loop .inv .1 .flightH
 add-i : tie.Need-add-i Inv-loop μ-loop
 add-i c = omega (arith, c .before .before .before .before .before .before .pre .0 .few, c .before .before .before .before .before .before .pre .4)
 
-loop-less : tie.Need-loop-less Inv-loop μ-loop
-loop-less c = search needs
-
 loop-again : tie.Need-loop-again Inv-loop μ-loop
 loop-again c = let p = c .before .before .before .before .before .before .pre in
     let l = c .before .before .before .before .before .loop in
@@ -55,17 +52,5 @@ returns c = let l = c .before .loop in
 
 pub leave-spec : {M : Type 1} → statement M
 leave-spec =
-    tie.close
-    (tie.spec
-    Inv-loop
-    μ-loop
-    loop-holds
-    element-copy-out-byte
-    back-requires
-    element-write-left
-    pushed-requires
-    popped-requires
-    add-i
-    loop-less
-    loop-again
-    returns)
+    tie.close (tie.spec Inv-loop μ-loop loop-holds element-copy-out-byte back-requires element-write-left
+    pushed-requires popped-requires add-i (λ c. search needs) loop-again returns)

@@ -5,61 +5,19 @@ use Rattle.device.specs.Carries.{assembled}
 use Rattle.device.proofs.pass.take_next_on_the_line.Statement.{statement}
 use Rattle.device.proofs.pass.take_next_on_the_line.Tie as tie
 
-mul-run-date : tie.Need-mul-run-date
-mul-run-date c = search needs
-
-element-copy-out-run-date : tie.Need-element-copy-out-run-date
-element-copy-out-run-date c = search needs
-
-mul-count : tie.Need-mul-count
-mul-count c = search needs
-
-element-copy-out-count : tie.Need-element-copy-out-count
-element-copy-out-count c = search needs
-
 back-requires : tie.Need-back-requires
 back-requires c κs = c .before .before .pre .rx
-
-waiting-requires : tie.Need-waiting-requires
-waiting-requires c κs = search needs
-
-take-next-on-the-line-requires : tie.Need-take-next-on-the-line-requires
-take-next-on-the-line-requires c κs = search needs
-
-is-stored-requires : tie.Need-is-stored-requires
-is-stored-requires c κs = search needs
-
-element-copy-out-choose : tie.Need-element-copy-out-choose
-element-copy-out-choose c = search needs
-
-choose-requires : tie.Need-choose-requires
-choose-requires c κs = search needs
 
 element-copy-out-old : tie.Need-element-copy-out-old
 element-copy-out-old c = let p = c .before .before .before .before .before .before .before .before .before .pre in
     omega (arith, c .before .before .before .before .before .before .back .ensures .1, p .rxSlots)
 
-choose-requires-2 : tie.Need-choose-requires-2
-choose-requires-2 c κs = search needs
-
 element-write-rx : tie.Need-element-write-rx
 element-write-rx c = let p = c .before .before .before .before .before .before .before .before .before .before .before .pre in
     omega (arith, c .before .before .before .before .before .before .before .before .back .ensures .1, p .rxSlots)
 
-less-if-requires : tie.Need-less-if-requires
-less-if-requires c κs = search needs
-
-mul-run-len : tie.Need-mul-run-len
-mul-run-len c = search needs
-
-element-write-run-len : tie.Need-element-write-run-len
-element-write-run-len c = search needs
-
 popped-if-requires : tie.Need-popped-if-requires
 popped-if-requires c κs = c .before .before .before .before .before .before .before .before .before .before .before .before .before .pre .host .low
-
-is-spent-requires : tie.Need-is-spent-requires
-is-spent-requires c κs = search needs
 
 popped-if-requires-2 : tie.Need-popped-if-requires-2
 popped-if-requires-2 c κs = c .before .before .before .before .before .before .before .before .before .before .before .before .before .before .before .pre .runs .low
@@ -86,26 +44,7 @@ returns c = let start = c .before .before .before .before .before .before .befor
 
 pub take-next-on-the-line-spec : {M : Type 1} → statement M
 take-next-on-the-line-spec =
-    tie.close
-    (tie.spec
-    mul-run-date
-    element-copy-out-run-date
-    mul-count
-    element-copy-out-count
-    back-requires
-    waiting-requires
-    take-next-on-the-line-requires
-    is-stored-requires
-    element-copy-out-choose
-    choose-requires
-    element-copy-out-old
-    choose-requires-2
-    element-write-rx
-    less-if-requires
-    mul-run-len
-    element-write-run-len
-    popped-if-requires
-    is-spent-requires
-    popped-if-requires-2
-    pushed-if-requires
-    returns)
+    tie.close (tie.spec (λ c. search needs) (λ c. search needs) (λ c. search needs) (λ c. search needs) back-requires
+    (λ c κs. search needs) (λ c κs. search needs) (λ c κs. search needs) (λ c. search needs) (λ c κs. search needs)
+    element-copy-out-old (λ c κs. search needs) element-write-rx (λ c κs. search needs) (λ c. search needs)
+    (λ c. search needs) popped-if-requires (λ c κs. search needs) popped-if-requires-2 pushed-if-requires returns)

@@ -4,15 +4,6 @@ use Rattle.device.specs.Quiet.{quiet}
 use Rattle.device.proofs.passes.quiet.Statement.{statement}
 use Rattle.device.proofs.passes.quiet.Tie as tie
 
-enum-told : tie.Need-enum-told
-enum-told c = search needs
-
-comes-later-requires : tie.Need-comes-later-requires
-comes-later-requires c κs = search needs
-
-enum-told-2 : tie.Need-enum-told-2
-enum-told-2 c = search needs
-
 returns : tie.Need-returns
 unfolding quiet
 returns c = rw (c .before .enum-told .given .1) (c .comes-later .ensures)
@@ -22,4 +13,4 @@ unfolding quiet
 returns-2 c = rw (c .enum-told2 .given .1)
 
 pub quiet-spec : {M : Type 1} → statement M
-quiet-spec = tie.close (tie.spec enum-told comes-later-requires enum-told-2 returns returns-2)
+quiet-spec = tie.close (tie.spec (λ c. search needs) (λ c κs. search needs) (λ c. search needs) returns returns-2)

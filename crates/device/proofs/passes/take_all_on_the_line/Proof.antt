@@ -36,15 +36,9 @@ add-passes : tie.Need-add-passes Inv-loop μ-loop
 add-passes c = let k = c .before .before .before .before .loop .inv in
     omega (arith, k .1 blank .passes, k .3)
 
-overflow-of-requires : tie.Need-overflow-of-requires Inv-loop μ-loop
-overflow-of-requires c κs = search needs
-
 add-overflows : tie.Need-add-overflows Inv-loop μ-loop
 add-overflows c = let k = c .before .before .before .before .before .loop .inv in
     omega (arith, c .overflow-of .ensures, lost-low (c .before .before .take-next-on-the-line .result .found), k .1 blank .passes, k .2, k .3)
-
-goes-on-requires : tie.Need-goes-on-requires Inv-loop μ-loop
-goes-on-requires c κs = search needs
 
 loop-less : tie.Need-loop-less Inv-loop μ-loop
 loop-less c = omega (arith, c .before .before .before .before .before .before .before .loop .inv .1 blank .passes)
@@ -69,16 +63,5 @@ returns c = let o = c .before .before .before .before .before .before .before .b
 
 pub take-all-on-the-line-spec : {M : Type 1} → statement M
 take-all-on-the-line-spec =
-    tie.close
-    (tie.spec
-    Inv-loop
-    μ-loop
-    loop-holds
-    take-next-on-the-line-requires
-    add-passes
-    overflow-of-requires
-    add-overflows
-    goes-on-requires
-    loop-less
-    loop-again
-    returns)
+    tie.close (tie.spec Inv-loop μ-loop loop-holds take-next-on-the-line-requires add-passes (λ c κs. search needs)
+    add-overflows (λ c κs. search needs) loop-less loop-again returns)

@@ -6,20 +6,8 @@ use borrow.Author.Needs.{needs}
 use Rattle.device.proofs.runs.join.Statement.{statement}
 use Rattle.device.proofs.runs.join.Tie as tie
 
-last-requires : tie.Need-last-requires
-last-requires c κs = search needs
-
-mul-joins-last : tie.Need-mul-joins-last
-mul-joins-last c = search needs
-
 element-copy-out-joins-last : tie.Need-element-copy-out-joins-last
 element-copy-out-joins-last c = omega (arith, c .last .ensures .1, c .before .pre .1, c .before .pre .2)
-
-joins-last-requires : tie.Need-joins-last-requires
-joins-last-requires c κs = search needs
-
-mul-run-len : tie.Need-mul-run-len
-mul-run-len c = search needs
 
 element-copy-out-run-len : tie.Need-element-copy-out-run-len
 element-copy-out-run-len c = omega (arith, c .before .before .before .last .ensures .1, c .before .before .before .before .pre .1, c .before .before .before .before .pre .2)
@@ -32,23 +20,11 @@ add-run-len c =
     let early = rw (c .before .before .before .before .last .ensures .0) at (joins-true _ _ _ test) in
     rw (c .before .before .before .before .last .ensures .0) (omega (arith, p .3 .fits (early .0)))
 
-mul-run-len-2 : tie.Need-mul-run-len-2
-mul-run-len-2 c = search needs
-
 element-write-run-len : tie.Need-element-write-run-len
 element-write-run-len c = omega (arith, c .before .before .before .before .last .ensures .1, c .before .before .before .before .before .pre .1, c .before .before .before .before .before .pre .2)
 
-back-requires : tie.Need-back-requires
-back-requires c κs = search needs
-
-mul-run-at : tie.Need-mul-run-at
-mul-run-at c = search needs
-
 element-write-run-at : tie.Need-element-write-run-at
 element-write-run-at c = omega (arith, c .back .ensures .1, c .before .before .before .before .before .pre .1, c .before .before .before .before .before .pre .2)
-
-mul-run-len-3 : tie.Need-mul-run-len-3
-mul-run-len-3 c = search needs
 
 element-write-run-len-2 : tie.Need-element-write-run-len-2
 element-write-run-len-2 c = omega (arith, c .back .ensures .1, c .before .before .before .before .before .pre .1, c .before .before .before .before .before .pre .2)
@@ -74,22 +50,7 @@ returns-2 c =
 
 pub join-spec : {M : Type 1} → statement M
 join-spec =
-    tie.close
-    (tie.spec
-    last-requires
-    mul-joins-last
-    element-copy-out-joins-last
-    joins-last-requires
-    mul-run-len
-    element-copy-out-run-len
-    add-run-len
-    mul-run-len-2
-    element-write-run-len
-    back-requires
-    mul-run-at
-    element-write-run-at
-    mul-run-len-3
-    element-write-run-len-2
-    pushed-requires
-    returns
-    returns-2)
+    tie.close (tie.spec (λ c κs. search needs) (λ c. search needs) element-copy-out-joins-last (λ c κs. search needs)
+    (λ c. search needs) element-copy-out-run-len add-run-len (λ c. search needs) element-write-run-len
+    (λ c κs. search needs) (λ c. search needs) element-write-run-at (λ c. search needs) element-write-run-len-2
+    pushed-requires returns returns-2)

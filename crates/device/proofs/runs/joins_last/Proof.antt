@@ -14,8 +14,4 @@ unfolding joins choose
 returns-2 c = rw (le-ltb 0 _ (c .if1 .left))
 
 pub joins-last-spec : {M : Type 1} → statement M
-joins-last-spec =
-    tie.close
-    (tie.spec
-    returns
-    returns-2)
+joins-last-spec = tie.close (tie.spec returns returns-2)

@@ -7,12 +7,6 @@ use borrow.Author.Needs.{needs}
 use Rattle.device.proofs.runs.last_date.Statement.{statement}
 use Rattle.device.proofs.runs.last_date.Tie as tie
 
-last-requires : tie.Need-last-requires
-last-requires c κs = search needs
-
-mul-result : tie.Need-mul-result
-mul-result c = search needs
-
 element-copy-out-result : tie.Need-element-copy-out-result
 element-copy-out-result c = omega (arith, c .last .ensures .1, c .before .before .before .pre .1)
 
@@ -23,11 +17,4 @@ returns-2 : tie.Need-returns-2
 returns-2 c = λ counts. last-none (c .before .before .args .run-at .now) counts (c .before .before .args .runs) (c .if1 .left)
 
 pub last-date-spec : {M : Type 1} → statement M
-last-date-spec =
-    tie.close
-    (tie.spec
-    last-requires
-    mul-result
-    element-copy-out-result
-    returns
-    returns-2)
+last-date-spec = tie.close (tie.spec (λ c κs. search needs) (λ c. search needs) element-copy-out-result returns returns-2)

@@ -6,9 +6,6 @@ use Rattle.device.specs.Settles.{room, fit, settles}
 use Rattle.device.proofs.settle.settle.Statement.{statement}
 use Rattle.device.proofs.settle.settle.Tie as tie
 
-settling-date-requires : tie.Need-settling-date-requires
-settling-date-requires c κs = search needs
-
 gone-requires : tie.Need-gone-requires
 gone-requires c κs = (c .before .before .pre .shape .flight, c .before .before .pre .shape .goneAtSlots)
 
@@ -19,26 +16,11 @@ leave-requires c κs = let o = c .before .before .before .before .args in
     let a = arrays (o .gone-at .now) (o .flight .now) (o .tx .now) (o .host .now) (o .run-at .now) (o .run-len .now) (o .rx .now) in
     (p .shape .flight, p .shape .tx, p .shape .flightSlots, p .shape .txSlots, few, room (o .core) a _ p few)
 
-tx-done-requires : tie.Need-tx-done-requires
-tx-done-requires c κs = search needs
-
-reception-requires : tie.Need-reception-requires
-reception-requires c κs = search needs
-
 settle-line-requires : tie.Need-settle-line-requires
 settle-line-requires c κs = let start = c .before .before .before .before .before .before .before .before .before .before .before in
     let o = start .args in
     let a = arrays (o .gone-at .now) (o .flight .now) (o .tx .now) (o .host .now) (o .run-at .now) (o .run-len .now) (o .rx .now) in
     (rw (c .before .before .reception .ensures) (fit (o .core) a _ (start .pre)), start .pre .within .periodHigh)
-
-assert-levels-requires : tie.Need-assert-levels-requires
-assert-levels-requires c κs = search needs
-
-level-requires : tie.Need-level-requires
-level-requires c κs = search needs
-
-together-requires : tie.Need-together-requires
-together-requires c κs = search needs
 
 returns : tie.Need-returns
 returns c = let start = c .before .before .before .before .before .before .before .before .before .before .before .before .before .before .before .before .before in
@@ -58,15 +40,6 @@ returns c = let start = c .before .before .before .before .before .before .befor
 
 pub settle-spec : {M : Type 1} → statement M
 settle-spec =
-    tie.close
-    (tie.spec
-    settling-date-requires
-    gone-requires
-    leave-requires
-    tx-done-requires
-    reception-requires
-    settle-line-requires
-    assert-levels-requires
-    level-requires
-    together-requires
+    tie.close (tie.spec (λ c κs. search needs) gone-requires leave-requires (λ c κs. search needs)
+    (λ c κs. search needs) settle-line-requires (λ c κs. search needs) (λ c κs. search needs) (λ c κs. search needs)
     returns)

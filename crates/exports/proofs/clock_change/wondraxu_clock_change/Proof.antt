@@ -16,5 +16,4 @@ returns : tie.Need-returns
 returns c = plainly _ (c .before .before .before .before .before .core-of .ensures) (c .before .clock-change .ensures) (c .done-answer .ensures)
 
 pub wondraxu-clock-change-spec : {M : Type 1} → statement M
-wondraxu-clock-change-spec =
-    tie.close (tie.spec core-of-requires clock-change-requires done-answer-requires returns)
+wondraxu-clock-change-spec = tie.close (tie.spec core-of-requires clock-change-requires done-answer-requires returns)

@@ -25,11 +25,4 @@ returns c = sets-up _ _ (omega arith)
     (c .set-up-reply2 .ensures ∙ ap plainSetUp (c .before .set-up-reply .ensures))
 
 pub made-spec : {M : Type 1} → statement M
-made-spec =
-    tie.close
-    (tie.spec
-    new-core-requires
-    plain-core-requires
-    set-up-reply-requires
-    set-up-reply-requires-2
-    returns)
+made-spec = tie.close (tie.spec new-core-requires plain-core-requires set-up-reply-requires set-up-reply-requires-2 returns)

@@ -18,5 +18,4 @@ returns c = λ a ok.
     plainly _ e (c .before .power-down .ensures a (ok-of _ e ok)) (c .done-answer .ensures)
 
 pub wondraxu-power-down-spec : {M : Type 1} → statement M
-wondraxu-power-down-spec =
-    tie.close (tie.spec core-of-requires power-down-requires done-answer-requires returns)
+wondraxu-power-down-spec = tie.close (tie.spec core-of-requires power-down-requires done-answer-requires returns)

@@ -16,5 +16,4 @@ returns : tie.Need-returns
 returns c = plainly _ (c .before .before .before .before .before .core-of .ensures) (c .before .read .ensures) (c .read-answer .ensures)
 
 pub wondraxu-read-spec : {M : Type 1} → statement M
-wondraxu-read-spec =
-    tie.close (tie.spec core-of-requires read-requires read-answer-requires returns)
+wondraxu-read-spec = tie.close (tie.spec core-of-requires read-requires read-answer-requires returns)

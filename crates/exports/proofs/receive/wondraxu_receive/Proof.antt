@@ -16,5 +16,4 @@ returns : tie.Need-returns
 returns c = plainly _ (c .before .before .before .before .before .before .before .core-of .ensures) (c .before .receive .ensures) (c .done-answer .ensures)
 
 pub wondraxu-receive-spec : {M : Type 1} → statement M
-wondraxu-receive-spec =
-    tie.close (tie.spec core-of-requires receive-requires done-answer-requires returns)
+wondraxu-receive-spec = tie.close (tie.spec core-of-requires receive-requires done-answer-requires returns)

@@ -16,5 +16,4 @@ returns : tie.Need-returns
 returns c = plainly _ (c .before .before .before .before .before .core-of .ensures) (c .before .reset .ensures) (c .done-answer .ensures)
 
 pub wondraxu-reset-spec : {M : Type 1} → statement M
-wondraxu-reset-spec =
-    tie.close (tie.spec core-of-requires reset-requires done-answer-requires returns)
+wondraxu-reset-spec = tie.close (tie.spec core-of-requires reset-requires done-answer-requires returns)

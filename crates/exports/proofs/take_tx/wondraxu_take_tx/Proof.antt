@@ -13,13 +13,8 @@ take-tx-requires c κs = ok-of _ (c .before .before .before .before .core-of .en
 taken-answer-requires : tie.Need-taken-answer-requires
 taken-answer-requires c κs = tt
 
-same-length : tie.Need-same-length
-same-length c = search needs
-
 returns : tie.Need-returns
 returns c = plainly _ (c .before .before .before .before .before .before .before .before .core-of .ensures) (c .before .before .before .take-tx .ensures) (c .taken-answer .ensures)
 
 pub wondraxu-take-tx-spec : {M : Type 1} → statement M
-wondraxu-take-tx-spec =
-    tie.close
-    (tie.spec core-of-requires take-tx-requires taken-answer-requires same-length returns)
+wondraxu-take-tx-spec = tie.close (tie.spec core-of-requires take-tx-requires taken-answer-requires (λ c. search needs) returns)

@@ -13,15 +13,10 @@ take-written-requires c κs = rw (c .before .core-of .ensures) (c .before .befor
 taken-answer-requires : tie.Need-taken-answer-requires
 taken-answer-requires c κs = tt
 
-same-length : tie.Need-same-length
-same-length c = search needs
-
 returns : tie.Need-returns
 returns c = λ a g d ok.
     let e = c .before .before .before .before .before .core-of .ensures in
     plainly _ e (c .before .before .before .take-written .ensures a g d (ok-of _ e ok)) (c .taken-answer .ensures)
 
 pub wondraxu-take-written-spec : {M : Type 1} → statement M
-wondraxu-take-written-spec =
-    tie.close
-    (tie.spec core-of-requires take-written-requires taken-answer-requires same-length returns)
+wondraxu-take-written-spec = tie.close (tie.spec core-of-requires take-written-requires taken-answer-requires (λ c. search needs) returns)

@@ -16,5 +16,4 @@ returns : tie.Need-returns
 returns c = plainly _ (c .before .before .before .before .before .core-of .ensures) (c .before .wake .ensures) (c .done-answer .ensures)
 
 pub wondraxu-wake-spec : {M : Type 1} → statement M
-wondraxu-wake-spec =
-    tie.close (tie.spec core-of-requires wake-requires done-answer-requires returns)
+wondraxu-wake-spec = tie.close (tie.spec core-of-requires wake-requires done-answer-requires returns)

@@ -18,5 +18,4 @@ returns c = λ a g d ok.
     plainly _ e (c .before .watch .ensures a g d (ok-of _ e ok)) (c .done-answer .ensures)
 
 pub wondraxu-watch-spec : {M : Type 1} → statement M
-wondraxu-watch-spec =
-    tie.close (tie.spec core-of-requires watch-requires done-answer-requires returns)
+wondraxu-watch-spec = tie.close (tie.spec core-of-requires watch-requires done-answer-requires returns)

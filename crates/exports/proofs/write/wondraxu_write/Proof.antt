@@ -16,5 +16,4 @@ returns : tie.Need-returns
 returns c = plainly _ (c .before .before .before .before .before .before .before .core-of .ensures) (c .before .write .ensures) (c .write-answer .ensures)
 
 pub wondraxu-write-spec : {M : Type 1} → statement M
-wondraxu-write-spec =
-    tie.close (tie.spec core-of-requires write-requires write-answer-requires returns)
+wondraxu-write-spec = tie.close (tie.spec core-of-requires write-requires write-answer-requires returns)

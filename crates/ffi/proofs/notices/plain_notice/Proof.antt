@@ -5,21 +5,6 @@ use Rattle.ffi.specs.Notes.{plainUnsupported}
 use Rattle.ffi.proofs.notices.plain_notice.Statement.{statement}
 use Rattle.ffi.proofs.notices.plain_notice.Tie as tie
 
-enum-told : tie.Need-enum-told
-enum-told c = search needs
-
-enum-told-2 : tie.Need-enum-told-2
-enum-told-2 c = search needs
-
-enum-known-what : tie.Need-enum-known-what
-enum-known-what c = search needs
-
-enum-known-what-2 : tie.Need-enum-known-what-2
-enum-known-what-2 c = search needs
-
-enum-known-what-3 : tie.Need-enum-known-what-3
-enum-known-what-3 c = search needs
-
 mode-number-requires : tie.Need-mode-number-requires
 mode-number-requires c κs = tt
 
@@ -45,16 +30,5 @@ returns-5 c = rw (c .mode-number .ensures) (sym (ap plainUnsupported (c .before 
 
 pub plain-notice-spec : {M : Type 1} → statement M
 plain-notice-spec =
-    tie.close
-    (tie.spec
-    enum-told
-    enum-told-2
-    enum-known-what
-    enum-known-what-2
-    enum-known-what-3
-    mode-number-requires
-    returns
-    returns-2
-    returns-3
-    returns-4
-    returns-5)
+    tie.close (tie.spec (λ c. search needs) (λ c. search needs) (λ c. search needs) (λ c. search needs)
+    (λ c. search needs) mode-number-requires returns returns-2 returns-3 returns-4 returns-5)

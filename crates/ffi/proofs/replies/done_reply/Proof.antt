@@ -5,14 +5,8 @@ use Rattle.ffi.specs.Replies.{plainDone}
 use Rattle.ffi.proofs.replies.done_reply.Statement.{statement}
 use Rattle.ffi.proofs.replies.done_reply.Tie as tie
 
-enum-told : tie.Need-enum-told
-enum-told c = search needs
-
 carried-out-requires : tie.Need-carried-out-requires
 carried-out-requires c κs = tt
-
-enum-known-reply : tie.Need-enum-known-reply
-enum-known-reply c = search needs
 
 refusal-reply-requires : tie.Need-refusal-reply-requires
 refusal-reply-requires c κs = tt
@@ -26,6 +20,4 @@ unfolding plainDone
 returns-2 c = c .refusal-reply .ensures ∙ sym (ap plainDone (c .before .before .reply .given .1))
 
 pub done-reply-spec : {M : Type 1} → statement M
-done-reply-spec =
-    tie.close
-    (tie.spec enum-told carried-out-requires enum-known-reply refusal-reply-requires returns returns-2)
+done-reply-spec = tie.close (tie.spec (λ c. search needs) carried-out-requires (λ c. search needs) refusal-reply-requires returns returns-2)

@@ -5,23 +5,8 @@ use Rattle.ffi.specs.Replies.{plainRead}
 use Rattle.ffi.proofs.replies.read_reply.Statement.{statement}
 use Rattle.ffi.proofs.replies.read_reply.Tie as tie
 
-enum-known-reply : tie.Need-enum-known-reply
-enum-known-reply c = search needs
-
-cast-carried-out : tie.Need-cast-carried-out
-cast-carried-out c = search needs
-
 carried-out-requires : tie.Need-carried-out-requires
 carried-out-requires c κs = tt
-
-enum-told : tie.Need-enum-told
-enum-told c = search needs
-
-carried-out-requires-2 : tie.Need-carried-out-requires-2
-carried-out-requires-2 c κs = search needs
-
-enum-known-reply-2 : tie.Need-enum-known-reply-2
-enum-known-reply-2 c = search needs
 
 refusal-reply-requires : tie.Need-refusal-reply-requires
 refusal-reply-requires c κs = tt
@@ -40,15 +25,5 @@ returns-3 c = c .refusal-reply .ensures ∙ sym (ap plainRead (c .before .before
 
 pub read-reply-spec : {M : Type 1} → statement M
 read-reply-spec =
-    tie.close
-    (tie.spec
-    enum-known-reply
-    cast-carried-out
-    carried-out-requires
-    enum-told
-    carried-out-requires-2
-    enum-known-reply-2
-    refusal-reply-requires
-    returns
-    returns-2
-    returns-3)
+    tie.close (tie.spec (λ c. search needs) (λ c. search needs) carried-out-requires (λ c. search needs)
+    (λ c κs. search needs) (λ c. search needs) refusal-reply-requires returns returns-2 returns-3)

@@ -5,14 +5,8 @@ use Rattle.ffi.specs.Replies.{plainTaken}
 use Rattle.ffi.proofs.replies.taken_reply.Statement.{statement}
 use Rattle.ffi.proofs.replies.taken_reply.Tie as tie
 
-enum-known-reply : tie.Need-enum-known-reply
-enum-known-reply c = search needs
-
 carried-out-requires : tie.Need-carried-out-requires
 carried-out-requires c κs = tt
-
-enum-known-reply-2 : tie.Need-enum-known-reply-2
-enum-known-reply-2 c = search needs
 
 refusal-reply-requires : tie.Need-refusal-reply-requires
 refusal-reply-requires c κs = tt
@@ -27,11 +21,5 @@ returns-2 c = c .refusal-reply .ensures ∙ sym (ap plainTaken (c .before .befor
 
 pub taken-reply-spec : {M : Type 1} → statement M
 taken-reply-spec =
-    tie.close
-    (tie.spec
-    enum-known-reply
-    carried-out-requires
-    enum-known-reply-2
-    refusal-reply-requires
-    returns
+    tie.close (tie.spec (λ c. search needs) carried-out-requires (λ c. search needs) refusal-reply-requires returns
     returns-2)

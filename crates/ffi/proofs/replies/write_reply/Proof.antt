@@ -5,20 +5,8 @@ use Rattle.ffi.specs.Replies.{plainWrite}
 use Rattle.ffi.proofs.replies.write_reply.Statement.{statement}
 use Rattle.ffi.proofs.replies.write_reply.Tie as tie
 
-enum-told : tie.Need-enum-told
-enum-told c = search needs
-
 carried-out-requires : tie.Need-carried-out-requires
 carried-out-requires c κs = tt
-
-enum-told-2 : tie.Need-enum-told-2
-enum-told-2 c = search needs
-
-carried-out-requires-2 : tie.Need-carried-out-requires-2
-carried-out-requires-2 c κs = search needs
-
-enum-known-reply : tie.Need-enum-known-reply
-enum-known-reply c = search needs
 
 refusal-reply-requires : tie.Need-refusal-reply-requires
 refusal-reply-requires c κs = tt
@@ -37,14 +25,5 @@ returns-3 c = c .refusal-reply .ensures ∙ sym (ap plainWrite (c .before .befor
 
 pub write-reply-spec : {M : Type 1} → statement M
 write-reply-spec =
-    tie.close
-    (tie.spec
-    enum-told
-    carried-out-requires
-    enum-told-2
-    carried-out-requires-2
-    enum-known-reply
-    refusal-reply-requires
-    returns
-    returns-2
-    returns-3)
+    tie.close (tie.spec (λ c. search needs) carried-out-requires (λ c. search needs) (λ c κs. search needs)
+    (λ c. search needs) refusal-reply-requires returns returns-2 returns-3)

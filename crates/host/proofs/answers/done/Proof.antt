@@ -12,9 +12,4 @@ returns : tie.Need-returns
 returns c = rw (c .report .ensures, c .before .none .ensures)
 
 pub done-spec : {M : Type 1} → statement M
-done-spec =
-    tie.close
-    (tie.spec
-    none-requires
-    report-requires
-    returns)
+done-spec = tie.close (tie.spec none-requires report-requires returns)

@@ -9,8 +9,4 @@ returns : tie.Need-returns
 returns c = rw (c .no-report .ensures)
 
 pub refuse-spec : {M : Type 1} → statement M
-refuse-spec =
-    tie.close
-    (tie.spec
-    no-report-requires
-    returns)
+refuse-spec = tie.close (tie.spec no-report-requires returns)

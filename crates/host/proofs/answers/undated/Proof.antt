@@ -9,8 +9,4 @@ returns : tie.Need-returns
 returns c = rw (c .no-report .ensures)
 
 pub undated-spec : {M : Type 1} → statement M
-undated-spec =
-    tie.close
-    (tie.spec
-    no-report-requires
-    returns)
+undated-spec = tie.close (tie.spec no-report-requires returns)

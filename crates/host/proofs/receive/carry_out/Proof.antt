@@ -27,6 +27,4 @@ returns c =
     (c .done .ensures)
 
 pub carry-out-spec : {M : Type 1} → statement M
-carry-out-spec =
-    tie.close
-    (tie.spec settle-at-requires host-date-requires hand-over-requires done-requires returns)
+carry-out-spec = tie.close (tie.spec settle-at-requires host-date-requires hand-over-requires done-requires returns)

@@ -4,20 +4,9 @@ use borrow.Author.Needs.{needs}
 use Rattle.host.proofs.receive.host_date.Statement.{statement}
 use Rattle.host.proofs.receive.host_date.Tie as tie
 
-later-requires : tie.Need-later-requires
-later-requires c κs = search needs
-
-subcycles-requires : tie.Need-subcycles-requires
-subcycles-requires c κs = search needs
-
 returns : tie.Need-returns
 unfolding hostDate
 returns c = rw (c .subcycles .ensures, c .before .later .ensures)
 
 pub host-date-spec : {M : Type 1} → statement M
-host-date-spec =
-    tie.close
-    (tie.spec
-    later-requires
-    subcycles-requires
-    returns)
+host-date-spec = tie.close (tie.spec (λ c κs. search needs) (λ c κs. search needs) returns)

@@ -51,14 +51,5 @@ returns-2 c =
 
 pub receive-spec : {M : Type 1} → statement M
 receive-spec =
-    tie.close
-    (tie.spec
-    last-date-requires
-    host-date-requires
-    receive-refusal-requires
-    enum-known-tests
-    refuse-requires
-    enum-told
-    carry-out-requires
-    returns
-    returns-2)
+    tie.close (tie.spec last-date-requires host-date-requires receive-refusal-requires enum-known-tests refuse-requires
+    enum-told carry-out-requires returns returns-2)

@@ -19,9 +19,6 @@ new-requires c κs = tt
 done-requires : tie.Need-done-requires
 done-requires c κs = tt
 
-same-length : tie.Need-same-length
-same-length c = search needs
-
 returns : tie.Need-returns
 returns c =
     let start = c .before .before .before .before .before .before .before .before .before .before .before .before .before .before in
@@ -30,12 +27,4 @@ returns c =
     (copied .0) (copied .1) (c .before .new .ensures) (c .done .ensures)
 
 pub carry-out-spec : {M : Type 1} → statement M
-carry-out-spec =
-    tie.close
-    (tie.spec
-    settle-at-requires
-    copy-out-requires
-    new-requires
-    done-requires
-    same-length
-    returns)
+carry-out-spec = tie.close (tie.spec settle-at-requires copy-out-requires new-requires done-requires (λ c. search needs) returns)

@@ -36,9 +36,6 @@ returns c =
     let o = c .before .before .before .before .before .before .before .args in
     take-refused (o .out .now) (takeTxWork (o .cycle) (o .out .now)) _ _ (take-tests (o .cycle) _ (o .out .now)) (refuses (c .before .before .before .before .take-refusal .ensures) (c .before .before .tests .given .1)) (c .before .before .before .before .before .before .before .pre) (c .refuse .ensures)
 
-same-length : tie.Need-same-length
-same-length c = search needs
-
 returns-2 : tie.Need-returns-2
 returns-2 c =
     let o = c .before .before .before .before .before .before .before .before .before .before .before .before .args in
@@ -47,13 +44,5 @@ returns-2 c =
 
 pub take-tx-spec : {M : Type 1} → statement M
 take-tx-spec =
-    tie.close
-    (tie.spec
-    take-refusal-requires
-    enum-known-tests
-    refuse-requires
-    enum-told
-    carry-out-requires
-    returns
-    same-length
-    returns-2)
+    tie.close (tie.spec take-refusal-requires enum-known-tests refuse-requires enum-told carry-out-requires returns
+    (λ c. search needs) returns-2)

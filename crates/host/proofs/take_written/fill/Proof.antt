@@ -5,27 +5,6 @@ use borrow.Author.Needs.{needs}
 use Rattle.host.proofs.take_written.fill.Statement.{statement}
 use Rattle.host.proofs.take_written.fill.Tie as tie
 
-copy-out-requires : tie.Need-copy-out-requires
-copy-out-requires c κs = search needs
-
-sub-copy-out : tie.Need-sub-copy-out
-sub-copy-out c = search needs
-
-part-copy-out-start : tie.Need-part-copy-out-start
-part-copy-out-start c = search needs
-
-part-copy-out-end : tie.Need-part-copy-out-end
-part-copy-out-end c = search needs
-
-copy-out-requires-2 : tie.Need-copy-out-requires-2
-copy-out-requires-2 c κs = search needs
-
-add-result : tie.Need-add-result
-add-result c = search needs
-
-same-length : tie.Need-same-length
-same-length c = search needs
-
 returns : tie.Need-returns
 returns c =
     let o = c .before .before .before .before .before .before .before .before .before .before .before .args in
@@ -33,13 +12,5 @@ returns c =
 
 pub fill-spec : {M : Type 1} → statement M
 fill-spec =
-    tie.close
-    (tie.spec
-    copy-out-requires
-    sub-copy-out
-    part-copy-out-start
-    part-copy-out-end
-    copy-out-requires-2
-    add-result
-    same-length
-    returns)
+    tie.close (tie.spec (λ c κs. search needs) (λ c. search needs) (λ c. search needs) (λ c. search needs)
+    (λ c κs. search needs) (λ c. search needs) (λ c. search needs) returns)

@@ -47,9 +47,6 @@ returns c = λ a ef et ok.
     let o = c .before .before .before .before .before .before .args in
     take-refused (o .out .now) (takeWrittenWork (o .out .now)) _ a (written-tests (o .out .now) _) (refuses (c .before .before .before .before .written-refusal .ensures) (c .before .before .tests .given .1)) ok (c .refuse .ensures)
 
-same-length : tie.Need-same-length
-same-length c = search needs
-
 returns-2 : tie.Need-returns-2
 unfolding takeWrittenWork undated filled takenNumber
 returns-2 c = λ a ef et ok.
@@ -60,16 +57,5 @@ returns-2 c = λ a ef et ok.
 
 pub take-written-spec : {M : Type 1} → statement M
 take-written-spec =
-    tie.close
-    (tie.spec
-    written-refusal-requires
-    enum-known-tests
-    refuse-requires
-    enum-told
-    fill-requires
-    new-requires
-    new-requires-2
-    undated-requires
-    returns
-    same-length
-    returns-2)
+    tie.close (tie.spec written-refusal-requires enum-known-tests refuse-requires enum-told fill-requires new-requires
+    new-requires-2 undated-requires returns (λ c. search needs) returns-2)

@@ -52,19 +52,5 @@ returns-5 c = rw (c .enum-told5 .given .1)
 
 pub land-spec : {M : Type 1} → statement M
 land-spec =
-    tie.close
-    (tie.spec
-    enum-told
-    open-idle-line-requires
-    enum-told-2
-    raise-if-requires
-    open-idle-line-requires-2
-    enum-told-3
-    open-idle-line-requires-3
-    enum-told-4
-    enum-told-5
-    returns
-    returns-2
-    returns-3
-    returns-4
-    returns-5)
+    tie.close (tie.spec enum-told open-idle-line-requires enum-told-2 raise-if-requires open-idle-line-requires-2
+    enum-told-3 open-idle-line-requires-3 enum-told-4 enum-told-5 returns returns-2 returns-3 returns-4 returns-5)

@@ -27,12 +27,4 @@ unfolding timeOut choose
 returns-3 c = rw (c .if1 .left) (c .before .with-idle-since .ensures)
 
 pub time-out-spec : {M : Type 1} → statement M
-time-out-spec =
-    tie.close
-    (tie.spec
-    with-idle-since-requires
-    note-source-requires
-    raise-if-requires
-    returns
-    returns-2
-    returns-3)
+time-out-spec = tie.close (tie.spec with-idle-since-requires note-source-requires raise-if-requires returns returns-2 returns-3)

@@ -17,5 +17,4 @@ unfolding belowEmpty emptyThreshold
 returns c = rw (c .before .before .in-fifo .ensures, c .wide .ensures, c .before .txfifo-empty-thrhd .ensures)
 
 pub below-empty-spec : {M : Type 1} → statement M
-below-empty-spec =
-    tie.close (tie.spec in-fifo-requires txfifo-empty-thrhd-requires wide-requires returns)
+below-empty-spec = tie.close (tie.spec in-fifo-requires txfifo-empty-thrhd-requires wide-requires returns)

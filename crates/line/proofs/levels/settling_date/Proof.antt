@@ -24,12 +24,4 @@ unfolding noLaterThan
 returns-2 c = rw (c .before .before .powered-down-at .given .1, ← c .before .before .before .before .subcycles .ensures) (c .earlier .ensures)
 
 pub settling-date-spec : {M : Type 1} → statement M
-settling-date-spec =
-    tie.close
-    (tie.spec
-    subcycles-requires
-    enum-told
-    enum-known-powered-down-at
-    earlier-requires
-    returns
-    returns-2)
+settling-date-spec = tie.close (tie.spec subcycles-requires enum-told enum-known-powered-down-at earlier-requires returns returns-2)

@@ -10,15 +10,6 @@ use Rattle.line.proofs.next.below_threshold.Tie as tie
 txfifo-empty-thrhd-requires : tie.Need-txfifo-empty-thrhd-requires
 txfifo-empty-thrhd-requires c κs = tt
 
-cast-threshold : tie.Need-cast-threshold
-cast-threshold c = search needs
-
-sub-above : tie.Need-sub-above
-sub-above c = search needs
-
-sub-t8 : tie.Need-sub-t8
-sub-t8 c = search needs
-
 returns : tie.Need-returns
 unfolding belowThreshold emptyThreshold choose
 returns c = rw (← c .before .before .txfifo-empty-thrhd .ensures, lt-ltb 0 _ (c .before .if1 .taken), lt-ltb _ _ (c .if2 .taken))
@@ -33,12 +24,5 @@ returns-3 c = rw (← c .before .txfifo-empty-thrhd .ensures, le-ltb 0 _ (c .if1
 
 pub below-threshold-spec : {M : Type 1} → statement M
 below-threshold-spec =
-    tie.close
-    (tie.spec
-    txfifo-empty-thrhd-requires
-    cast-threshold
-    sub-above
-    sub-t8
-    returns
-    returns-2
-    returns-3)
+    tie.close (tie.spec txfifo-empty-thrhd-requires (λ c. search needs) (λ c. search needs) (λ c. search needs) returns
+    returns-2 returns-3)

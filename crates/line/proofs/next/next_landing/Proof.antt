@@ -24,6 +24,4 @@ unfolding nextLanding
 returns-2 c = rw (c .enum-told2 .given .1)
 
 pub next-landing-spec : {M : Type 1} → statement M
-next-landing-spec =
-    tie.close
-    (tie.spec enum-told next-start-requires after-date-requires enum-told-2 returns returns-2)
+next-landing-spec = tie.close (tie.spec enum-told next-start-requires after-date-requires enum-told-2 returns returns-2)

@@ -21,5 +21,4 @@ unfolding nextStart
 returns-2 c = rw (c .before .before .waiting .given .1, c .later .ensures)
 
 pub next-start-spec : {M : Type 1} → statement M
-next-start-spec =
-    tie.close (tie.spec enum-told enum-known-waiting later-requires returns returns-2)
+next-start-spec = tie.close (tie.spec enum-told enum-known-waiting later-requires returns returns-2)

@@ -4,14 +4,8 @@ use Rattle.line.specs.Begins.{begun}
 use Rattle.line.proofs.pass.begin.Statement.{statement}
 use Rattle.line.proofs.pass.begin.Tie as tie
 
-enum-told : tie.Need-enum-told
-enum-told c = search needs
-
 line-free-requires : tie.Need-line-free-requires
 line-free-requires c κs = tt
-
-enum-known-receiving : tie.Need-enum-known-receiving
-enum-known-receiving c = search needs
 
 keep-requires : tie.Need-keep-requires
 keep-requires c κs = tt
@@ -25,6 +19,4 @@ unfolding begun
 returns-2 c = rw (c .before .before .receiving .given .1) (c .keep .ensures)
 
 pub begin-spec : {M : Type 1} → statement M
-begin-spec =
-    tie.close
-    (tie.spec enum-told line-free-requires enum-known-receiving keep-requires returns returns-2)
+begin-spec = tie.close (tie.spec (λ c. search needs) line-free-requires (λ c. search needs) keep-requires returns returns-2)

@@ -22,6 +22,4 @@ unfolding idle choose
 returns-2 c = rw (← c .before .before .timeout-due .ensures, c .before .if1 .left) (c .rest .ensures)
 
 pub idle-spec : {M : Type 1} → statement M
-idle-spec =
-    tie.close
-    (tie.spec timeout-due-requires time-out-requires rest-requires returns returns-2)
+idle-spec = tie.close (tie.spec timeout-due-requires time-out-requires rest-requires returns returns-2)

@@ -30,13 +30,4 @@ unfolding inFrame choose
 returns-3 c = rw (← c .before .before .before .before .timeout-due .ensures, c .before .before .before .if1 .left, le-ltb _ _ (c .before .if2 .left)) (c .land .ensures)
 
 pub in-frame-spec : {M : Type 1} → statement M
-in-frame-spec =
-    tie.close
-    (tie.spec
-    timeout-due-requires
-    time-out-requires
-    returns
-    rest-requires
-    returns-2
-    land-requires
-    returns-3)
+in-frame-spec = tie.close (tie.spec timeout-due-requires time-out-requires returns rest-requires returns-2 land-requires returns-3)

@@ -4,14 +4,8 @@ use Rattle.line.specs.Begins.{lineFree}
 use Rattle.line.proofs.pass.line_free.Statement.{statement}
 use Rattle.line.proofs.pass.line_free.Tie as tie
 
-enum-told : tie.Need-enum-told
-enum-told c = search needs
-
 keep-requires : tie.Need-keep-requires
 keep-requires c κs = tt
-
-enum-known-waiting : tie.Need-enum-known-waiting
-enum-known-waiting c = search needs
 
 later-requires : tie.Need-later-requires
 later-requires c κs = tt
@@ -28,13 +22,4 @@ unfolding lineFree
 returns-2 c = rw (c .before .before .before .waiting .given .1, ← c .before .later .ensures) (c .start .ensures)
 
 pub line-free-spec : {M : Type 1} → statement M
-line-free-spec =
-    tie.close
-    (tie.spec
-    enum-told
-    keep-requires
-    enum-known-waiting
-    later-requires
-    start-requires
-    returns
-    returns-2)
+line-free-spec = tie.close (tie.spec (λ c. search needs) keep-requires (λ c. search needs) later-requires start-requires returns returns-2)

@@ -34,13 +34,5 @@ returns-3 c = rw (le-ltb _ _ (c .before .before .before .before .if1 .left), ←
 
 pub start-spec : {M : Type 1} → statement M
 start-spec =
-    tie.close
-    (tie.spec
-    keep-requires
-    returns
-    timeout-due-requires
-    keep-requires-2
-    returns-2
-    frame-requires
-    start-requires
-    returns-3)
+    tie.close (tie.spec keep-requires returns timeout-due-requires keep-requires-2 returns-2 frame-requires
+    start-requires returns-3)

@@ -7,14 +7,8 @@ use Rattle.line.proofs.pass.take_next_on_the_line.Tie as tie
 begin-requires : tie.Need-begin-requires
 begin-requires c κs = tt
 
-enum-told : tie.Need-enum-told
-enum-told c = search needs
-
 idle-requires : tie.Need-idle-requires
 idle-requires c κs = tt
-
-enum-known-on : tie.Need-enum-known-on
-enum-known-on c = search needs
 
 in-frame-requires : tie.Need-in-frame-requires
 in-frame-requires c κs = tt
@@ -29,12 +23,5 @@ returns-2 c = moved (c .before .before .before .before .before .before .args .se
 
 pub take-next-on-the-line-spec : {M : Type 1} → statement M
 take-next-on-the-line-spec =
-    tie.close
-    (tie.spec
-    begin-requires
-    enum-told
-    idle-requires
-    enum-known-on
-    in-frame-requires
-    returns
+    tie.close (tie.spec begin-requires (λ c. search needs) idle-requires (λ c. search needs) in-frame-requires returns
     returns-2)

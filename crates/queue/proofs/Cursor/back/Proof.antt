@@ -3,11 +3,8 @@ use borrow.Author.Needs.{needs}
 use Rattle.queue.proofs.Cursor.back.Statement.{statement}
 use Rattle.queue.proofs.Cursor.back.Tie as tie
 
-nth-requires : tie.Need-nth-requires
-nth-requires c κs = search needs
-
 returns : tie.Need-returns
 returns c = c .nth .ensures
 
 pub back-spec : {M : Type 1} → statement M
-back-spec = tie.close (tie.spec nth-requires returns)
+back-spec = tie.close (tie.spec (λ c κs. search needs) returns)

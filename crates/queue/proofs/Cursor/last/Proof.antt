@@ -6,16 +6,10 @@ use Rattle.queue.specs.Cursors.{nthOf}
 use Rattle.queue.proofs.Cursor.last.Statement.{statement}
 use Rattle.queue.proofs.Cursor.last.Tie as tie
 
-less-one-requires : tie.Need-less-one-requires
-less-one-requires c κs = search needs
-
-nth-requires : tie.Need-nth-requires
-nth-requires c κs = search needs
-
 returns : tie.Need-returns
 returns c =
     let a = c .before .before .args in
     (c .nth .ensures .0 ∙ ap (λ (n : ℕ). nthOf (a .cap) n (a .self)) (c .before .less-one .ensures), c .nth .ensures .1)
 
 pub last-spec : {M : Type 1} → statement M
-last-spec = tie.close (tie.spec less-one-requires nth-requires returns)
+last-spec = tie.close (tie.spec (λ c κs. search needs) (λ c κs. search needs) returns)

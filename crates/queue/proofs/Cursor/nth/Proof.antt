@@ -6,13 +6,10 @@ use Rattle.queue.specs.Slots.{wrap-low}
 use Rattle.queue.proofs.Cursor.nth.Statement.{statement}
 use Rattle.queue.proofs.Cursor.nth.Tie as tie
 
-slot-requires : tie.Need-slot-requires
-slot-requires c κs = search needs
-
 returns : tie.Need-returns
 returns c =
     let a = c .before .args in
     (c .slot .ensures, rw (c .slot .ensures) (wrap-low (a .self .start + a .n) (a .cap) (omega arith)))
 
 pub nth-spec : {M : Type 1} → statement M
-nth-spec = tie.close (tie.spec slot-requires returns)
+nth-spec = tie.close (tie.spec (λ c κs. search needs) returns)

@@ -4,9 +4,6 @@ use Rattle.queue.specs.Cursors.{poppedIf}
 use Rattle.queue.proofs.Cursor.popped_if.Statement.{statement}
 use Rattle.queue.proofs.Cursor.popped_if.Tie as tie
 
-popped-requires : tie.Need-popped-requires
-popped-requires c κs = search needs
-
 returns : tie.Need-returns
 unfolding poppedIf
 returns c = rw (c .if1 .taken) (c .before .popped .ensures)
@@ -16,4 +13,4 @@ unfolding poppedIf
 returns-2 c = rw (c .if1 .left)
 
 pub popped-if-spec : {M : Type 1} → statement M
-popped-if-spec = tie.close (tie.spec popped-requires returns returns-2)
+popped-if-spec = tie.close (tie.spec (λ c κs. search needs) returns returns-2)

@@ -4,11 +4,8 @@ use borrow.Author.Needs.{needs}
 use Rattle.queue.proofs.Cursor.pushed.Statement.{statement}
 use Rattle.queue.proofs.Cursor.pushed.Tie as tie
 
-add-t2 : tie.Need-add-t2
-add-t2 c = search needs
-
 returns : tie.Need-returns
 returns c = refl
 
 pub pushed-spec : {M : Type 1} → statement M
-pushed-spec = tie.close (tie.spec add-t2 returns)
+pushed-spec = tie.close (tie.spec (λ c. search needs) returns)

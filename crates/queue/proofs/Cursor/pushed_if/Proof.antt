@@ -4,9 +4,6 @@ use Rattle.queue.specs.Cursors.{pushedIf}
 use Rattle.queue.proofs.Cursor.pushed_if.Statement.{statement}
 use Rattle.queue.proofs.Cursor.pushed_if.Tie as tie
 
-pushed-requires : tie.Need-pushed-requires
-pushed-requires c κs = search needs
-
 returns : tie.Need-returns
 unfolding pushedIf
 returns c = rw (c .if1 .taken) (c .before .pushed .ensures)
@@ -16,4 +13,4 @@ unfolding pushedIf
 returns-2 c = rw (c .if1 .left)
 
 pub pushed-if-spec : {M : Type 1} → statement M
-pushed-if-spec = tie.close (tie.spec pushed-requires returns returns-2)
+pushed-if-spec = tie.close (tie.spec (λ c κs. search needs) returns returns-2)

@@ -62,4 +62,6 @@ returns c =
     w .inv .1 ∙ ap (paste (a .dst .now) (a .at) (drop (a .from) (a .src .now))) e
 
 pub copy-run-spec : {M : Type 1} → statement M
-copy-run-spec = tie.close (tie.spec Inv-loop μ-loop loop-holds add-dst shared-slice-read-dst add-dst-2 slice-write-dst add-i loop-less loop-again same-length returns)
+copy-run-spec =
+    tie.close (tie.spec Inv-loop μ-loop loop-holds add-dst shared-slice-read-dst add-dst-2 slice-write-dst add-i
+    loop-less loop-again same-length returns)

@@ -4,11 +4,8 @@ use Rattle.registers.specs.Masks.{shift-bit}
 use Rattle.registers.proofs.fields.bit_at.Statement.{statement}
 use Rattle.registers.proofs.fields.bit_at.Tie as tie
 
-shr-result : tie.Need-shr-result
-shr-result c = search needs
-
 returns : tie.Need-returns
 returns c = shift-bit (c .args .n) (c .args .word)
 
 pub bit-at-spec : {M : Type 1} → statement M
-bit-at-spec = tie.close (tie.spec shr-result returns)
+bit-at-spec = tie.close (tie.spec (λ c. search needs) returns)

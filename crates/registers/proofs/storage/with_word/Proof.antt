@@ -48,24 +48,6 @@ returns-10 c = place-keys (λ p. c .before .args .words ≡ stored p (c .before 
 
 pub with-word-spec : {M : Type 1} → statement M
 with-word-spec =
-    tie.close
-    (tie.spec
-    (λ c. c .match .keys1)
-    (λ c. c .match .keys2)
-    (λ c. c .match .keys3)
-    (λ c. c .match .keys4)
-    (λ c. c .match .keys5)
-    (λ c. c .match .keys6)
-    (λ c. c .match .keys7)
-    (λ c. c .match .keys8)
-    (λ c. c .match .keys9)
-    returns
-    returns-2
-    returns-3
-    returns-4
-    returns-5
-    returns-6
-    returns-7
-    returns-8
-    returns-9
-    returns-10)
+    tie.close (tie.spec (λ c. c .match .keys1) (λ c. c .match .keys2) (λ c. c .match .keys3) (λ c. c .match .keys4)
+    (λ c. c .match .keys5) (λ c. c .match .keys6) (λ c. c .match .keys7) (λ c. c .match .keys8) (λ c. c .match .keys9)
+    returns returns-2 returns-3 returns-4 returns-5 returns-6 returns-7 returns-8 returns-9 returns-10)

@@ -5,9 +5,6 @@ use Rattle.model.specs.Settle.{inFifo}
 use Rattle.registers.proofs.words.in_fifo.Statement.{statement}
 use Rattle.registers.proofs.words.in_fifo.Tie as tie
 
-sub-result : tie.Need-sub-result
-sub-result c = search needs
-
 returns : tie.Need-returns
 unfolding inFifo
 returns c = omega arith
@@ -17,4 +14,4 @@ unfolding inFifo
 returns-2 c = omega arith
 
 pub in-fifo-spec : {M : Type 1} → statement M
-in-fifo-spec = tie.close (tie.spec sub-result returns returns-2)
+in-fifo-spec = tie.close (tie.spec (λ c. search needs) returns returns-2)

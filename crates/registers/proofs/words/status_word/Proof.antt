@@ -10,15 +10,9 @@ use Rattle.model.specs.Settle.{inFifo}
 use Rattle.registers.proofs.words.status_word.Statement.{statement}
 use Rattle.registers.proofs.words.status_word.Tie as tie
 
-in-fifo-requires : tie.Need-in-fifo-requires
-in-fifo-requires c κs = search needs
-
 cast-in-fifo : tie.Need-cast-in-fifo
 unfolding inFifo
 cast-in-fifo c = omega (arith, c .in-fifo .ensures)
-
-cast-result : tie.Need-cast-result
-cast-result c = search needs
 
 returns : tie.Need-returns
 unfolding statusWord inFifo
@@ -27,4 +21,4 @@ returns c =
     (shl-exact 8 16 32 (omega (arith, c .in-fifo .ensures)) (omega arith) ∙ ap (λ n. n * 2 ^ 16) (c .in-fifo .ensures))
 
 pub status-word-spec : {M : Type 1} → statement M
-status-word-spec = tie.close (tie.spec in-fifo-requires cast-in-fifo cast-result returns)
+status-word-spec = tie.close (tie.spec (λ c κs. search needs) cast-in-fifo (λ c. search needs) returns)

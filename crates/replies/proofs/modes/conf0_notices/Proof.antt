@@ -9,24 +9,6 @@ use Rattle.replies.specs.Modes.{modeIf, conf0-noted}
 use Rattle.replies.proofs.modes.conf0_notices.Statement.{statement}
 use Rattle.replies.proofs.modes.conf0_notices.Tie as tie
 
-stop-bit-num-requires : tie.Need-stop-bit-num-requires
-stop-bit-num-requires c κs = search needs
-
-low-modes-requires : tie.Need-low-modes-requires
-low-modes-requires c κs = search needs
-
-refuse-mode-requires : tie.Need-refuse-mode-requires
-refuse-mode-requires c κs = search needs
-
-refuse-mode-requires-2 : tie.Need-refuse-mode-requires-2
-refuse-mode-requires-2 c κs = search needs
-
-refuse-mode-requires-3 : tie.Need-refuse-mode-requires-3
-refuse-mode-requires-3 c κs = search needs
-
-note-if-requires : tie.Need-note-if-requires
-note-if-requires c κs = search needs
-
 returns : tie.Need-returns
 returns c =
     let v : ℕ = c .before .before .before .before .before .before .args .value in
@@ -43,12 +25,5 @@ returns c =
 
 pub conf0-notices-spec : {M : Type 1} → statement M
 conf0-notices-spec =
-    tie.close
-    (tie.spec
-    stop-bit-num-requires
-    low-modes-requires
-    refuse-mode-requires
-    refuse-mode-requires-2
-    refuse-mode-requires-3
-    note-if-requires
-    returns)
+    tie.close (tie.spec (λ c κs. search needs) (λ c κs. search needs) (λ c κs. search needs) (λ c κs. search needs)
+    (λ c κs. search needs) (λ c κs. search needs) returns)

@@ -8,21 +8,6 @@ use Rattle.replies.specs.Modes.{modeIf}
 use Rattle.replies.proofs.modes.low_modes.Statement.{statement}
 use Rattle.replies.proofs.modes.low_modes.Tie as tie
 
-none-requires : tie.Need-none-requires
-none-requires c κs = search needs
-
-refuse-mode-requires : tie.Need-refuse-mode-requires
-refuse-mode-requires c κs = search needs
-
-refuse-mode-requires-2 : tie.Need-refuse-mode-requires-2
-refuse-mode-requires-2 c κs = search needs
-
-refuse-mode-requires-3 : tie.Need-refuse-mode-requires-3
-refuse-mode-requires-3 c κs = search needs
-
-refuse-mode-requires-4 : tie.Need-refuse-mode-requires-4
-refuse-mode-requires-4 c κs = search needs
-
 returns : tie.Need-returns
 returns c =
     let v : ℕ = c .before .before .before .before .before .args .value in
@@ -38,11 +23,5 @@ returns c =
 
 pub low-modes-spec : {M : Type 1} → statement M
 low-modes-spec =
-    tie.close
-    (tie.spec
-    none-requires
-    refuse-mode-requires
-    refuse-mode-requires-2
-    refuse-mode-requires-3
-    refuse-mode-requires-4
-    returns)
+    tie.close (tie.spec (λ c κs. search needs) (λ c κs. search needs) (λ c κs. search needs) (λ c κs. search needs)
+    (λ c κs. search needs) returns)

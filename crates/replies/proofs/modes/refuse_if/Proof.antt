@@ -8,14 +8,8 @@ use Rattle.replies.specs.Notices.{addedIf}
 use Rattle.replies.proofs.modes.refuse_if.Statement.{statement}
 use Rattle.replies.proofs.modes.refuse_if.Tie as tie
 
-none-requires : tie.Need-none-requires
-none-requires c κs = search needs
-
-note-if-requires : tie.Need-note-if-requires
-note-if-requires c κs = search needs
-
 returns : tie.Need-returns
 returns c = c .note-if .ensures ∙ ap (addedIf _ _) (c .before .none .ensures) ∙ added-if-noted (c .before .before .args .test) _ [] (omega arith)
 
 pub refuse-if-spec : {M : Type 1} → statement M
-refuse-if-spec = tie.close (tie.spec none-requires note-if-requires returns)
+refuse-if-spec = tie.close (tie.spec (λ c κs. search needs) (λ c κs. search needs) returns)

@@ -6,14 +6,8 @@ use Rattle.replies.specs.Notices.{addedIf}
 use Rattle.replies.proofs.modes.refuse_mode.Statement.{statement}
 use Rattle.replies.proofs.modes.refuse_mode.Tie as tie
 
-bit-at-requires : tie.Need-bit-at-requires
-bit-at-requires c κs = search needs
-
-note-if-requires : tie.Need-note-if-requires
-note-if-requires c κs = search needs
-
 returns : tie.Need-returns
 returns c = rw (c .note-if .ensures, c .before .bit-at .ensures)
 
 pub refuse-mode-spec : {M : Type 1} → statement M
-refuse-mode-spec = tie.close (tie.spec bit-at-requires note-if-requires returns)
+refuse-mode-spec = tie.close (tie.spec (λ c κs. search needs) (λ c κs. search needs) returns)

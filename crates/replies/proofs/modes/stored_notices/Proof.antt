@@ -12,39 +12,6 @@ use Rattle.registers.proofs.Tags.{place-keys}
 use Rattle.replies.proofs.modes.stored_notices.Statement.{statement}
 use Rattle.replies.proofs.modes.stored_notices.Tie as tie
 
-enum-told : tie.Need-enum-told
-enum-told c = search needs
-
-conf0-notices-requires : tie.Need-conf0-notices-requires
-conf0-notices-requires c κs = search needs
-
-enum-told-2 : tie.Need-enum-told-2
-enum-told-2 c = search needs
-
-rx-flow-en-requires : tie.Need-rx-flow-en-requires
-rx-flow-en-requires c κs = search needs
-
-refuse-if-requires : tie.Need-refuse-if-requires
-refuse-if-requires c κs = search needs
-
-enum-told-3 : tie.Need-enum-told-3
-enum-told-3 c = search needs
-
-refuse-if-requires-2 : tie.Need-refuse-if-requires-2
-refuse-if-requires-2 c κs = search needs
-
-enum-told-4 : tie.Need-enum-told-4
-enum-told-4 c = search needs
-
-fifo-sizes-requires : tie.Need-fifo-sizes-requires
-fifo-sizes-requires c κs = search needs
-
-refuse-if-requires-3 : tie.Need-refuse-if-requires-3
-refuse-if-requires-3 c κs = search needs
-
-none-requires : tie.Need-none-requires
-none-requires c κs = search needs
-
 returns : tie.Need-returns
 unfolding storedNotes
 returns c = c .conf0-notices .ensures ∙ ap (λ p. noted (storedNotes p (c .before .before .before .args .value))) (sym (c .before .enum-told .given .1))
@@ -77,21 +44,6 @@ returns-5 c =
 
 pub stored-notices-spec : {M : Type 1} → statement M
 stored-notices-spec =
-    tie.close
-    (tie.spec
-    enum-told
-    conf0-notices-requires
-    enum-told-2
-    rx-flow-en-requires
-    refuse-if-requires
-    enum-told-3
-    refuse-if-requires-2
-    enum-told-4
-    fifo-sizes-requires
-    refuse-if-requires-3
-    none-requires
-    returns
-    returns-2
-    returns-3
-    returns-4
-    returns-5)
+    tie.close (tie.spec (λ c. search needs) (λ c κs. search needs) (λ c. search needs) (λ c κs. search needs)
+    (λ c κs. search needs) (λ c. search needs) (λ c κs. search needs) (λ c. search needs) (λ c κs. search needs)
+    (λ c κs. search needs) (λ c κs. search needs) returns returns-2 returns-3 returns-4 returns-5)

@@ -8,14 +8,8 @@ use Rattle.replies.specs.Notices.{noted, added}
 use Rattle.replies.proofs.notices.one.Statement.{statement}
 use Rattle.replies.proofs.notices.one.Tie as tie
 
-none-requires : tie.Need-none-requires
-none-requires c κs = search needs
-
-note-requires : tie.Need-note-requires
-note-requires c κs = search needs
-
 returns : tie.Need-returns
 returns c = c .note .ensures ∙ ap (added _) (c .before .none .ensures) ∙ added-noted (c .before .before .args .what) [] (omega arith)
 
 pub one-spec : {M : Type 1} → statement M
-one-spec = tie.close (tie.spec none-requires note-requires returns)
+one-spec = tie.close (tie.spec (λ c κs. search needs) (λ c κs. search needs) returns)

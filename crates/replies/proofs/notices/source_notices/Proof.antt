@@ -7,24 +7,6 @@ use Rattle.replies.specs.Notices.{noted}
 use Rattle.replies.proofs.notices.source_notices.Statement.{statement}
 use Rattle.replies.proofs.notices.source_notices.Tie as tie
 
-enum-told : tie.Need-enum-told
-enum-told c = search needs
-
-none-requires : tie.Need-none-requires
-none-requires c κs = search needs
-
-enum-told-2 : tie.Need-enum-told-2
-enum-told-2 c = search needs
-
-one-requires : tie.Need-one-requires
-one-requires c κs = search needs
-
-enum-told-3 : tie.Need-enum-told-3
-enum-told-3 c = search needs
-
-one-requires-2 : tie.Need-one-requires-2
-one-requires-2 c κs = search needs
-
 returns : tie.Need-returns
 unfolding sourceNotes
 returns c = λ notice e f. c .none .ensures ∙ ap (λ s. noted (sourceNotes notice s)) (sym (c .before .enum-told .given .1))
@@ -41,14 +23,5 @@ returns-3 c = λ notice e f.
 
 pub source-notices-spec : {M : Type 1} → statement M
 source-notices-spec =
-    tie.close
-    (tie.spec
-    enum-told
-    none-requires
-    enum-told-2
-    one-requires
-    enum-told-3
-    one-requires-2
-    returns
-    returns-2
-    returns-3)
+    tie.close (tie.spec (λ c. search needs) (λ c κs. search needs) (λ c. search needs) (λ c κs. search needs)
+    (λ c. search needs) (λ c κs. search needs) returns returns-2 returns-3)

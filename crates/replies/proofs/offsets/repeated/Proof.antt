@@ -18,28 +18,10 @@ abbrev μ-loop : tie.MeasureT-loop
 loop-holds : tie.Need-loop-holds Inv-loop μ-loop
 loop-holds c = (omega arith, omega arith, refl)
 
-add-stands-from : tie.Need-add-stands-from Inv-loop μ-loop
-add-stands-from c = search needs
-
-mul-stands-from : tie.Need-mul-stands-from Inv-loop μ-loop
-mul-stands-from c = search needs
-
-array-read-stands-from : tie.Need-array-read-stands-from Inv-loop μ-loop
-array-read-stands-from c = search needs
-
-stands-from-requires : tie.Need-stands-from-requires Inv-loop μ-loop
-stands-from-requires c κs = search needs
-
 returns : tie.Need-returns Inv-loop μ-loop
 returns c =
     repeated-found (c .before .before .before .loop .at) _ (omega arith) (sym (c .before .stands-from .ensures) ∙ c .if1 .taken)
     ∙ c .before .before .before .loop .inv .2
-
-add-at : tie.Need-add-at Inv-loop μ-loop
-add-at c = search needs
-
-loop-less : tie.Need-loop-less Inv-loop μ-loop
-loop-less c = search needs
 
 loop-again : tie.Need-loop-again Inv-loop μ-loop
 loop-again c = (
@@ -53,17 +35,5 @@ returns-2 c = repeated-end (c .before .loop .at) _ (omega arith) ∙ c .before .
 
 pub repeated-spec : {M : Type 1} → statement M
 repeated-spec =
-    tie.close
-    (tie.spec
-    Inv-loop
-    μ-loop
-    loop-holds
-    add-stands-from
-    mul-stands-from
-    array-read-stands-from
-    stands-from-requires
-    returns
-    add-at
-    loop-less
-    loop-again
-    returns-2)
+    tie.close (tie.spec Inv-loop μ-loop loop-holds (λ c. search needs) (λ c. search needs) (λ c. search needs)
+    (λ c κs. search needs) returns (λ c. search needs) (λ c. search needs) loop-again returns-2)

@@ -8,15 +8,6 @@ use Rattle.replies.specs.Refusals.{verdict, clocking, dates}
 use Rattle.replies.proofs.refusals.clock_refusal.Statement.{statement}
 use Rattle.replies.proofs.refusals.clock_refusal.Tie as tie
 
-period-too-long-requires : tie.Need-period-too-long-requires
-period-too-long-requires c κs = search needs
-
-refuse-if-requires : tie.Need-refuse-if-requires
-refuse-if-requires c κs = search needs
-
-date-first-requires : tie.Need-date-first-requires
-date-first-requires c κs = search needs
-
 returns : tie.Need-returns
 unfolding verdict clocking
 returns c =
@@ -24,5 +15,4 @@ returns c =
     ∙ ap (dates _ _) (c .before .refuse-if .ensures ∙ ap (λ t. refuseIf t Refusal.PeriodTooLong none) (c .before .before .period-too-long .ensures))
 
 pub clock-refusal-spec : {M : Type 1} → statement M
-clock-refusal-spec =
-    tie.close (tie.spec period-too-long-requires refuse-if-requires date-first-requires returns)
+clock-refusal-spec = tie.close (tie.spec (λ c κs. search needs) (λ c κs. search needs) (λ c κs. search needs) returns)

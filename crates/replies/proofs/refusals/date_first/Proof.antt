@@ -7,18 +7,6 @@ use Rattle.replies.specs.Refusals.{verdict, dates}
 use Rattle.replies.proofs.refusals.date_first.Statement.{statement}
 use Rattle.replies.proofs.refusals.date_first.Tie as tie
 
-past-end-requires : tie.Need-past-end-requires
-past-end-requires c κs = search needs
-
-went-back-requires : tie.Need-went-back-requires
-went-back-requires c κs = search needs
-
-refuse-if-requires : tie.Need-refuse-if-requires
-refuse-if-requires c κs = search needs
-
-refuse-if-requires-2 : tie.Need-refuse-if-requires-2
-refuse-if-requires-2 c κs = search needs
-
 returns : tie.Need-returns
 unfolding dates
 returns c =
@@ -27,6 +15,4 @@ returns c =
     (c .before .refuse-if .ensures ∙ ap (λ t. refuseIf t Refusal.DateWentBack (verdict (c .before .before .before .before .args .rest))) (c .before .before .went-back .ensures))
 
 pub date-first-spec : {M : Type 1} → statement M
-date-first-spec =
-    tie.close
-    (tie.spec past-end-requires went-back-requires refuse-if-requires refuse-if-requires-2 returns)
+date-first-spec = tie.close (tie.spec (λ c κs. search needs) (λ c κs. search needs) (λ c κs. search needs) (λ c κs. search needs) returns)

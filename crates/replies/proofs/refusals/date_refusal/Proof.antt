@@ -4,12 +4,9 @@ use Rattle.replies.specs.Refusals.{verdict, datesOnly}
 use Rattle.replies.proofs.refusals.date_refusal.Statement.{statement}
 use Rattle.replies.proofs.refusals.date_refusal.Tie as tie
 
-date-first-requires : tie.Need-date-first-requires
-date-first-requires c κs = search needs
-
 returns : tie.Need-returns
 unfolding verdict datesOnly
 returns c = c .date-first .ensures
 
 pub date-refusal-spec : {M : Type 1} → statement M
-date-refusal-spec = tie.close (tie.spec date-first-requires returns)
+date-refusal-spec = tie.close (tie.spec (λ c κs. search needs) returns)

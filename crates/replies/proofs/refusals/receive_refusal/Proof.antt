@@ -8,21 +8,6 @@ use Rattle.replies.specs.Refusals.{verdict, receiving, dates}
 use Rattle.replies.proofs.refusals.receive_refusal.Statement.{statement}
 use Rattle.replies.proofs.refusals.receive_refusal.Tie as tie
 
-host-full-requires : tie.Need-host-full-requires
-host-full-requires c κs = search needs
-
-runs-full-requires : tie.Need-runs-full-requires
-runs-full-requires c κs = search needs
-
-refuse-if-requires : tie.Need-refuse-if-requires
-refuse-if-requires c κs = search needs
-
-refuse-if-requires-2 : tie.Need-refuse-if-requires-2
-refuse-if-requires-2 c κs = search needs
-
-date-first-requires : tie.Need-date-first-requires
-date-first-requires c κs = search needs
-
 returns : tie.Need-returns
 unfolding verdict receiving
 returns c =
@@ -34,11 +19,5 @@ returns c =
 
 pub receive-refusal-spec : {M : Type 1} → statement M
 receive-refusal-spec =
-    tie.close
-    (tie.spec
-    host-full-requires
-    runs-full-requires
-    refuse-if-requires
-    refuse-if-requires-2
-    date-first-requires
-    returns)
+    tie.close (tie.spec (λ c κs. search needs) (λ c κs. search needs) (λ c κs. search needs) (λ c κs. search needs)
+    (λ c κs. search needs) returns)

@@ -6,9 +6,6 @@ use Rattle.model.specs.SetUp.{setUpReply}
 use Rattle.replies.proofs.refusals.set_up_reply.Statement.{statement}
 use Rattle.replies.proofs.refusals.set_up_reply.Tie as tie
 
-repeated-requires : tie.Need-repeated-requires
-repeated-requires c κs = search needs
-
 returns : tie.Need-returns
 unfolding setUpReply
 returns c = sym (choose-true _ _ (sym (c .before .repeated .ensures) ∙ c .if1 .taken))
@@ -18,4 +15,4 @@ unfolding setUpReply
 returns-2 c = sym (choose-false _ _ (sym (c .before .repeated .ensures) ∙ c .if1 .left))
 
 pub set-up-reply-spec : {M : Type 1} → statement M
-set-up-reply-spec = tie.close (tie.spec repeated-requires returns returns-2)
+set-up-reply-spec = tie.close (tie.spec (λ c κs. search needs) returns returns-2)

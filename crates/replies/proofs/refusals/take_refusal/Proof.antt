@@ -5,15 +5,9 @@ use Rattle.replies.specs.Refusals.{takingTx, dates}
 use Rattle.replies.proofs.refusals.take_refusal.Statement.{statement}
 use Rattle.replies.proofs.refusals.take_refusal.Tie as tie
 
-written-refusal-requires : tie.Need-written-refusal-requires
-written-refusal-requires c κs = search needs
-
-date-first-requires : tie.Need-date-first-requires
-date-first-requires c κs = search needs
-
 returns : tie.Need-returns
 unfolding takingTx
 returns c = c .date-first .ensures ∙ ap (dates _ _) (c .before .written-refusal .ensures)
 
 pub take-refusal-spec : {M : Type 1} → statement M
-take-refusal-spec = tie.close (tie.spec written-refusal-requires date-first-requires returns)
+take-refusal-spec = tie.close (tie.spec (λ c κs. search needs) (λ c κs. search needs) returns)

@@ -9,9 +9,6 @@ use Rattle.replies.specs.Room.{reaches}
 use Rattle.replies.proofs.refusals.transmit_full.Statement.{statement}
 use Rattle.replies.proofs.refusals.transmit_full.Tie as tie
 
-sub-result : tie.Need-sub-result
-sub-result c = search needs
-
 returns : tie.Need-returns
 unfolding transmitFull
 returns c = reaches _ (c .before .args .left) (c .before .args .flying) (omega arith)
@@ -21,4 +18,4 @@ unfolding transmitFull
 returns-2 c = sym (le-leb sentLimit (c .before .args .left + c .before .args .flying) (omega arith))
 
 pub transmit-full-spec : {M : Type 1} → statement M
-transmit-full-spec = tie.close (tie.spec sub-result returns returns-2)
+transmit-full-spec = tie.close (tie.spec (λ c. search needs) returns returns-2)

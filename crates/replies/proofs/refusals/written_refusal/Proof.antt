@@ -8,15 +8,9 @@ use Rattle.replies.specs.Refusals.{verdict, takingWritten}
 use Rattle.replies.proofs.refusals.written_refusal.Statement.{statement}
 use Rattle.replies.proofs.refusals.written_refusal.Tie as tie
 
-buffer-too-short-requires : tie.Need-buffer-too-short-requires
-buffer-too-short-requires c κs = search needs
-
-refuse-if-requires : tie.Need-refuse-if-requires
-refuse-if-requires c κs = search needs
-
 returns : tie.Need-returns
 unfolding verdict takingWritten
 returns c = c .refuse-if .ensures ∙ ap (λ t. refuseIf t Refusal.BufferTooShort none) (c .before .buffer-too-short .ensures)
 
 pub written-refusal-spec : {M : Type 1} → statement M
-written-refusal-spec = tie.close (tie.spec buffer-too-short-requires refuse-if-requires returns)
+written-refusal-spec = tie.close (tie.spec (λ c κs. search needs) (λ c κs. search needs) returns)

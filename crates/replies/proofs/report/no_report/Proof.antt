@@ -9,15 +9,9 @@ use Rattle.replies.specs.Reports.{reported}
 use Rattle.replies.proofs.report.no_report.Statement.{statement}
 use Rattle.replies.proofs.report.no_report.Tie as tie
 
-none-requires : tie.Need-none-requires
-none-requires c κs = search needs
-
-report-requires : tie.Need-report-requires
-report-requires c κs = search needs
-
 returns : tie.Need-returns
 unfolding reported noted notices noReport
 returns c = c .report .ensures ∙ ap (reported false Date.None 0 0) (c .before .none .ensures)
 
 pub no-report-spec : {M : Type 1} → statement M
-no-report-spec = tie.close (tie.spec none-requires report-requires returns)
+no-report-spec = tie.close (tie.spec (λ c κs. search needs) (λ c κs. search needs) returns)

@@ -5,17 +5,8 @@ use Rattle.streams.specs.Reads.{over}
 use Rattle.streams.proofs.input.fail.Statement.{statement}
 use Rattle.streams.proofs.input.fail.Tie as tie
 
-errno-requires : tie.Need-errno-requires
-errno-requires c κs = search needs
-
-returns : tie.Need-returns
-returns c = search needs
-
-fail-requires : tie.Need-fail-requires
-fail-requires c κs = search needs
-
 returns-2 : tie.Need-returns-2
 returns-2 c = over _ _ (c .before .before .before .before .pre) refl refl
 
 pub fail-spec : {M : Type 1} → statement M
-fail-spec = tie.close (tie.spec errno-requires returns fail-requires returns-2)
+fail-spec = tie.close (tie.spec (λ c κs. search needs) (λ c. search needs) (λ c κs. search needs) returns-2)

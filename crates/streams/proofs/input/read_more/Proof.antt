@@ -5,23 +5,8 @@ use Rattle.streams.specs.Reads.{kept, over}
 use Rattle.streams.proofs.input.read_more.Statement.{statement}
 use Rattle.streams.proofs.input.read_more.Tie as tie
 
-returns : tie.Need-returns
-returns c = search needs
-
 returns-2 : tie.Need-returns-2
 returns-2 c = over _ _ (c .before .if1 .left) refl refl
-
-read-requires : tie.Need-read-requires
-read-requires c κs = search needs
-
-fail-requires : tie.Need-fail-requires
-fail-requires c κs = search needs
-
-returns-3 : tie.Need-returns-3
-returns-3 c = search needs
-
-count-requires : tie.Need-count-requires
-count-requires c κs = search needs
 
 returns-4 : tie.Need-returns-4
 returns-4 c = over _ _ (c .before .before .before .before .before .before .before .before .if1 .left) refl refl
@@ -31,13 +16,5 @@ returns-5 c = kept _ _ (c .before .before .before .before .before .before .befor
 
 pub read-more-spec : {M : Type 1} → statement M
 read-more-spec =
-    tie.close
-    (tie.spec
-    returns
-    returns-2
-    read-requires
-    fail-requires
-    returns-3
-    count-requires
-    returns-4
-    returns-5)
+    tie.close (tie.spec (λ c. search needs) returns-2 (λ c κs. search needs) (λ c κs. search needs) (λ c. search needs)
+    (λ c κs. search needs) returns-4 returns-5)

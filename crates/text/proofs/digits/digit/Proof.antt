@@ -17,9 +17,6 @@ returns-3 : tie.Need-returns-3
 unfolding digitValue
 returns-3 c = simp (le-ltb _ _ (c .before .before .if1 .left), le-ltb _ _ (c .before .if2 .left), lt-ltb _ _ (c .if3 .taken))
 
-sub-result : tie.Need-sub-result
-sub-result c = search needs
-
 returns-4 : tie.Need-returns-4
 unfolding digitValue
 returns-4 c =
@@ -40,9 +37,6 @@ returns-5 c =
       le-ltb _ _ (c .before .if4 .left),
       lt-ltb _ _ (c .if5 .taken),
     )
-
-sub-result-2 : tie.Need-sub-result-2
-sub-result-2 c = search needs
 
 returns-6 : tie.Need-returns-6
 unfolding digitValue
@@ -69,4 +63,6 @@ returns-7 c =
     )
 
 pub digit-spec : {M : Type 1} → statement M
-digit-spec = tie.close (tie.spec returns returns-2 returns-3 sub-result returns-4 returns-5 sub-result-2 returns-6 returns-7)
+digit-spec =
+    tie.close (tie.spec returns returns-2 returns-3 (λ c. search needs) returns-4 returns-5 (λ c. search needs)
+    returns-6 returns-7)

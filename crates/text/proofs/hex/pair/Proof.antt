@@ -19,15 +19,9 @@ returns-2 : tie.Need-returns-2
 unfolding pairValue
 returns-2 c = rw (← c .before .before .before .digit .ensures, ← c .before .before .digit2 .ensures, le-ltb _ _ (c .before .if1 .left), lt-ltb _ _ (c .if2 .taken))
 
-mul-result : tie.Need-mul-result
-mul-result c = search needs
-
-add-result : tie.Need-add-result
-add-result c = search needs
-
 returns-3 : tie.Need-returns-3
 unfolding pairValue
 returns-3 c = rw (← c .before .before .before .digit .ensures, ← c .before .before .digit2 .ensures, le-ltb _ _ (c .before .if1 .left), le-ltb _ _ (c .if2 .left))
 
 pub pair-spec : {M : Type 1} → statement M
-pair-spec = tie.close (tie.spec digit-requires digit-requires-2 returns returns-2 mul-result add-result returns-3)
+pair-spec = tie.close (tie.spec digit-requires digit-requires-2 returns returns-2 (λ c. search needs) (λ c. search needs) returns-3)

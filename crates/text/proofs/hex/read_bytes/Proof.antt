@@ -6,9 +6,6 @@ use borrow.Author.Needs.{needs}
 use Rattle.text.proofs.hex.read_bytes.Statement.{statement}
 use Rattle.text.proofs.hex.read_bytes.Tie as tie
 
-slice-aggregate-same : tie.Need-slice-aggregate-same
-slice-aggregate-same c = search needs
-
 same-requires : tie.Need-same-requires
 same-requires c κs = tt
 
@@ -20,12 +17,6 @@ returns-2 c =
     let e = sym (c .before .before .same .ensures) ∙ c .before .if1 .left in
     (simp (e, lt-ltb _ _ (c .if2 .taken)), simp (e, lt-ltb _ _ (c .if2 .taken)))
 
-read-pairs-requires : tie.Need-read-pairs-requires
-read-pairs-requires c κs = search needs
-
-same-length : tie.Need-same-length
-same-length c = search needs
-
 returns-3 : tie.Need-returns-3
 returns-3 c =
     let e = sym (c .before .before .before .before .before .before .same .ensures) ∙ c .before .before .before .before .before .if1 .left in
@@ -33,4 +24,6 @@ returns-3 c =
     (p .0 ∙ simp (e, le-ltb _ _ (c .before .before .before .before .if2 .left)), p .1 ∙ simp (e, le-ltb _ _ (c .before .before .before .before .if2 .left)))
 
 pub read-bytes-spec : {M : Type 1} → statement M
-read-bytes-spec = tie.close (tie.spec slice-aggregate-same same-requires returns returns-2 read-pairs-requires same-length returns-3)
+read-bytes-spec =
+    tie.close (tie.spec (λ c. search needs) same-requires returns returns-2 (λ c κs. search needs) (λ c. search needs)
+    returns-3)

@@ -20,21 +20,6 @@ abbrev μ-loop : tie.MeasureT-loop
 loop-holds : tie.Need-loop-holds Inv-loop μ-loop
 loop-holds c = (omega arith, refl, refl, refl)
 
-mul-pair : tie.Need-mul-pair Inv-loop μ-loop
-mul-pair c = search needs
-
-shared-slice-read-pair : tie.Need-shared-slice-read-pair Inv-loop μ-loop
-shared-slice-read-pair c = search needs
-
-mul-pair-2 : tie.Need-mul-pair-2 Inv-loop μ-loop
-mul-pair-2 c = search needs
-
-add-pair : tie.Need-add-pair Inv-loop μ-loop
-add-pair c = search needs
-
-shared-slice-read-pair-2 : tie.Need-shared-slice-read-pair-2 Inv-loop μ-loop
-shared-slice-read-pair-2 c = search needs
-
 pair-requires : tie.Need-pair-requires Inv-loop μ-loop
 pair-requires c κs = tt
 
@@ -50,18 +35,6 @@ returns c =
       count-fault (a .s .now) (w .to) (a .to .now) (w .n) rest (omega arith) (w .inv .2) none (λ e. omega arith),
       stored-front (a .s .now) (w .to) (a .to .now) (w .n) rest (omega arith) (w .inv .2) none (w .inv .3),
     )
-
-cast-to : tie.Need-cast-to Inv-loop μ-loop
-cast-to c = search needs
-
-slice-write-to : tie.Need-slice-write-to Inv-loop μ-loop
-slice-write-to c = search needs
-
-add-n : tie.Need-add-n Inv-loop μ-loop
-add-n c = search needs
-
-loop-less : tie.Need-loop-less Inv-loop μ-loop
-loop-less c = search needs
 
 loop-again : tie.Need-loop-again Inv-loop μ-loop
 loop-again c =
@@ -103,7 +76,6 @@ returns-3 c =
 
 pub read-pairs-spec : {M : Type 1} → statement M
 read-pairs-spec =
-    tie.close
-    (tie.spec Inv-loop μ-loop loop-holds mul-pair shared-slice-read-pair mul-pair-2 add-pair shared-slice-read-pair-2
-    pair-requires same-length returns cast-to slice-write-to add-n loop-less loop-again same-length-2 returns-2
-    same-length-3 returns-3)
+    tie.close (tie.spec Inv-loop μ-loop loop-holds (λ c. search needs) (λ c. search needs) (λ c. search needs)
+    (λ c. search needs) (λ c. search needs) pair-requires same-length returns (λ c. search needs) (λ c. search needs)
+    (λ c. search needs) (λ c. search needs) loop-again same-length-2 returns-2 same-length-3 returns-3)

@@ -6,12 +6,6 @@ use Rattle.text.specs.Input.{is-gathered, is-line}
 use Rattle.text.proofs.input.add_piece.Statement.{statement}
 use Rattle.text.proofs.input.add_piece.Tie as tie
 
-within-requires : tie.Need-within-requires
-within-requires c κs = search needs
-
-piece-at-requires : tie.Need-piece-at-requires
-piece-at-requires c κs = search needs
-
 sub-part : tie.Need-sub-part
 sub-part c = omega (arith, piece-after _ _ _ (c .piece-at .ensures))
 
@@ -20,15 +14,6 @@ part-part-start c = omega (arith, piece-after _ _ _ (c .piece-at .ensures))
 
 part-part-end : tie.Need-part-part-end
 part-part-end c = omega (arith, piece-within _ _ _ (c .piece-at .ensures) (omega arith))
-
-too-long-requires : tie.Need-too-long-requires
-too-long-requires c κs = search needs
-
-put-requires : tie.Need-put-requires
-put-requires c κs = search needs
-
-same-length : tie.Need-same-length
-same-length c = search needs
 
 returns : tie.Need-returns
 returns c =
@@ -42,14 +27,5 @@ returns c =
 
 pub add-piece-spec : {M : Type 1} → statement M
 add-piece-spec =
-    tie.close
-    (tie.spec
-    within-requires
-    piece-at-requires
-    sub-part
-    part-part-start
-    part-part-end
-    too-long-requires
-    put-requires
-    same-length
-    returns)
+    tie.close (tie.spec (λ c κs. search needs) (λ c κs. search needs) sub-part part-part-start part-part-end
+    (λ c κs. search needs) (λ c κs. search needs) (λ c. search needs) returns)

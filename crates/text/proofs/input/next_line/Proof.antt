@@ -3,14 +3,8 @@ use borrow.Author.Needs.{needs}
 use Rattle.text.proofs.input.next_line.Statement.{statement}
 use Rattle.text.proofs.input.next_line.Tie as tie
 
-gather-requires : tie.Need-gather-requires
-gather-requires c κs = search needs
-
 returns : tie.Need-returns
 returns c = let e = c .before .before .before .if1 .taken in (rw e (c .gather .ensures .0), rw e (c .gather .ensures .1))
-
-gather-requires-2 : tie.Need-gather-requires-2
-gather-requires-2 c κs = search needs
 
 returns-2 : tie.Need-returns-2
 returns-2 c =
@@ -18,4 +12,4 @@ returns-2 c =
     (rw e (rw e at (c .gather2 .ensures .0)), rw e (rw e at (c .gather2 .ensures .1)))
 
 pub next-line-spec : {M : Type 1} → statement M
-next-line-spec = tie.close (tie.spec gather-requires returns gather-requires-2 returns-2)
+next-line-spec = tie.close (tie.spec (λ c κs. search needs) returns (λ c κs. search needs) returns-2)

@@ -10,9 +10,6 @@ use Rattle.text.proofs.lines.piece_at.Tie as tie
 seek-requires : tie.Need-seek-requires
 seek-requires c κs = tt
 
-add-t7 : tie.Need-add-t7
-add-t7 c = search needs
-
 returns : tie.Need-returns
 returns c =
     let a = c .before .before .before .args in
@@ -26,4 +23,4 @@ returns-2 c =
     rw (← e, le-ltb _ _ (c .if1 .left))
 
 pub piece-at-spec : {M : Type 1} → statement M
-piece-at-spec = tie.close (tie.spec seek-requires add-t7 returns returns-2)
+piece-at-spec = tie.close (tie.spec seek-requires (λ c. search needs) returns returns-2)

@@ -22,9 +22,6 @@ returns c =
     let a = c .before .before .args in
     sym (no-digits (a .base) (a .limit) (drop (a .from) (a .s .now)) (omega (arith, length-drop (a .from) (a .s .now))))
 
-div-most : tie.Need-div-most Inv-loop μ-loop
-div-most c = search needs
-
 loop-holds : tie.Need-loop-holds Inv-loop μ-loop
 loop-holds c =
     let a = c .before .before .args in (
@@ -33,9 +30,6 @@ loop-holds c =
       refl,
       some-number (a .base) (a .limit) (drop (a .from) (a .s .now)) (omega (arith, length-drop (a .from) (a .s .now))),
     )
-
-shared-slice-read-digit : tie.Need-shared-slice-read-digit Inv-loop μ-loop
-shared-slice-read-digit c = search needs
 
 digit-requires : tie.Need-digit-requires Inv-loop μ-loop
 digit-requires c κs = tt
@@ -84,12 +78,6 @@ add-value c =
     let w = c .before .before .before .before .before .before .loop in
     omega (arith, shifted-low (a .base) (a .limit) (w .value) (entry .pre) (omega arith))
 
-add-i : tie.Need-add-i Inv-loop μ-loop
-add-i c = search needs
-
-loop-less : tie.Need-loop-less Inv-loop μ-loop
-loop-less c = search needs
-
 loop-again : tie.Need-loop-again Inv-loop μ-loop
 loop-again c =
     let entry = c .before .before .before .before .before .before .before .before .before in
@@ -107,6 +95,6 @@ returns-5 c = let w = c .before .loop in sym (w .inv .3 ∙ number-end _ _ _ _ (
 
 pub digits-from-spec : {M : Type 1} → statement M
 digits-from-spec =
-    tie.close
-    (tie.spec Inv-loop μ-loop returns div-most loop-holds shared-slice-read-digit digit-requires returns-2 returns-3
-    mul-shifted sub-if4 returns-4 add-value add-i loop-less loop-again returns-5)
+    tie.close (tie.spec Inv-loop μ-loop returns (λ c. search needs) loop-holds (λ c. search needs) digit-requires
+    returns-2 returns-3 mul-shifted sub-if4 returns-4 add-value (λ c. search needs) (λ c. search needs) loop-again
+    returns-5)

@@ -7,18 +7,9 @@ use Rattle.text.specs.Numbers.{numberOf, prefix-short, prefix-long}
 use Rattle.text.proofs.numbers.read_number.Statement.{statement}
 use Rattle.text.proofs.numbers.read_number.Tie as tie
 
-digits-from-requires : tie.Need-digits-from-requires
-digits-from-requires c κs = search needs
-
 returns : tie.Need-returns
 unfolding numberOf
 returns c = c .digits-from .ensures ∙ simp (prefix-short (c .before .before .before .args .s .now) (c .before .if1 .taken))
-
-shared-slice-read-if2 : tie.Need-shared-slice-read-if2
-shared-slice-read-if2 c = search needs
-
-digits-from-requires-2 : tie.Need-digits-from-requires-2
-digits-from-requires-2 c κs = search needs
 
 returns-2 : tie.Need-returns-2
 unfolding numberOf
@@ -29,12 +20,6 @@ returns-2 c =
       ne-eqb _ _ (c .before .if2 .taken),
     )
 
-shared-slice-read-if3 : tie.Need-shared-slice-read-if3
-shared-slice-read-if3 c = search needs
-
-digits-from-requires-3 : tie.Need-digits-from-requires-3
-digits-from-requires-3 c κs = search needs
-
 returns-3 : tie.Need-returns-3
 unfolding numberOf
 returns-3 c =
@@ -44,9 +29,6 @@ returns-3 c =
       eq-eqb _ _ (c .before .before .before .if2 .left),
       ne-eqb _ _ (c .before .if3 .taken),
     )
-
-digits-from-requires-4 : tie.Need-digits-from-requires-4
-digits-from-requires-4 c κs = search needs
 
 returns-4 : tie.Need-returns-4
 unfolding numberOf
@@ -60,6 +42,5 @@ returns-4 c =
 
 pub read-number-spec : {M : Type 1} → statement M
 read-number-spec =
-    tie.close
-    (tie.spec digits-from-requires returns shared-slice-read-if2 digits-from-requires-2 returns-2 shared-slice-read-if3
-    digits-from-requires-3 returns-3 digits-from-requires-4 returns-4)
+    tie.close (tie.spec (λ c κs. search needs) returns (λ c. search needs) (λ c κs. search needs) returns-2
+    (λ c. search needs) (λ c κs. search needs) returns-3 (λ c κs. search needs) returns-4)

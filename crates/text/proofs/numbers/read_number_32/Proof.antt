@@ -9,16 +9,10 @@ use Rattle.text.proofs.numbers.read_number_32.Tie as tie
 read-number-requires : tie.Need-read-number-requires
 read-number-requires c κs = tt
 
-enum-known-number : tie.Need-enum-known-number
-enum-known-number c = search needs
-
 cast-t5 : tie.Need-cast-t5
 cast-t5 c =
     let e = sym (c .before .before .before .read-number .ensures) ∙ c .before .number .given .1 in
     omega (arith, number-low limit32 _ _ e)
-
-enum-told : tie.Need-enum-told
-enum-told c = search needs
 
 returns : tie.Need-returns
 returns c = sym (ap narrow (sym (c .before .before .before .read-number .ensures) ∙ c .before .number .given .1))
@@ -27,4 +21,4 @@ returns-2 : tie.Need-returns-2
 returns-2 c = sym (ap narrow (sym (c .before .before .read-number .ensures) ∙ c .enum-told .given .1))
 
 pub read-number-32-spec : {M : Type 1} → statement M
-read-number-32-spec = tie.close (tie.spec read-number-requires enum-known-number cast-t5 enum-told returns returns-2)
+read-number-32-spec = tie.close (tie.spec read-number-requires (λ c. search needs) cast-t5 (λ c. search needs) returns returns-2)

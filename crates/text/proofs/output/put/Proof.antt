@@ -12,17 +12,8 @@ room-requires c κs = tt
 returns : tie.Need-returns
 returns c = put-none _ _ _ (omega arith)
 
-copy-requires : tie.Need-copy-requires
-copy-requires c κs = search needs
-
-add-result : tie.Need-add-result
-add-result c = search needs
-
-same-length : tie.Need-same-length
-same-length c = search needs
-
 returns-2 : tie.Need-returns-2
 returns-2 c = put-all _ _ _ _ _ (omega arith) (c .before .before .copy .ensures) refl
 
 pub put-spec : {M : Type 1} → statement M
-put-spec = tie.close (tie.spec room-requires returns copy-requires add-result same-length returns-2)
+put-spec = tie.close (tie.spec room-requires returns (λ c κs. search needs) (λ c. search needs) (λ c. search needs) returns-2)

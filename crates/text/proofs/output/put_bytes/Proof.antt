@@ -10,14 +10,8 @@ use Rattle.text.specs.HexText.{hexText, pairs-length, text-some, text-no
 use Rattle.text.proofs.output.put_bytes.Statement.{statement}
 use Rattle.text.proofs.output.put_bytes.Tie as tie
 
-slice-aggregate-put : tie.Need-slice-aggregate-put
-slice-aggregate-put c = search needs
-
 put-requires : tie.Need-put-requires
 put-requires c κs = tt
-
-same-length : tie.Need-same-length
-same-length c = search needs
 
 returns : tie.Need-returns
 returns c = rw (text-none _ (c .before .before .before .before .before .if1 .taken)) (c .before .before .put .ensures)
@@ -28,18 +22,6 @@ room-requires c κs = tt
 returns-2 : tie.Need-returns-2
 returns-2 c = let s = c .before .before .before .before .before .args .s .now in rw (text-some s (omega arith)) (put-none _ _ _ (omega (arith, pairs-length s)))
 
-spell-pairs-requires : tie.Need-spell-pairs-requires
-spell-pairs-requires c κs = search needs
-
-mul-result : tie.Need-mul-result
-mul-result c = search needs
-
-add-result : tie.Need-add-result
-add-result c = search needs
-
-same-length-2 : tie.Need-same-length-2
-same-length-2 c = search needs
-
 returns-3 : tie.Need-returns-3
 returns-3 c =
     let s = c .before .before .before .before .before .before .before .before .before .args .s .now in
@@ -47,6 +29,5 @@ returns-3 c =
 
 pub put-bytes-spec : {M : Type 1} → statement M
 put-bytes-spec =
-    tie.close
-    (tie.spec slice-aggregate-put put-requires same-length returns room-requires returns-2 spell-pairs-requires
-    mul-result add-result same-length-2 returns-3)
+    tie.close (tie.spec (λ c. search needs) put-requires (λ c. search needs) returns room-requires returns-2
+    (λ c κs. search needs) (λ c. search needs) (λ c. search needs) (λ c. search needs) returns-3)

@@ -20,44 +20,17 @@ abbrev μ-loop : tie.MeasureT-loop
 loop-holds : tie.Need-loop-holds Inv-loop μ-loop
 loop-holds c = let a = c .before .before .args in (omega arith, paste-zero (a .out .now) (a .at) (hexPairs (a .s .now)), refl)
 
-shared-slice-read-high-letter : tie.Need-shared-slice-read-high-letter Inv-loop μ-loop
-shared-slice-read-high-letter c = search needs
-
 high-letter-requires : tie.Need-high-letter-requires Inv-loop μ-loop
 high-letter-requires c κs = tt
-
-mul-out : tie.Need-mul-out Inv-loop μ-loop
-mul-out c = search needs
-
-add-out : tie.Need-add-out Inv-loop μ-loop
-add-out c = search needs
 
 slice-write-out : tie.Need-slice-write-out Inv-loop μ-loop
 slice-write-out c = omega arith
 
-shared-slice-read-low-letter : tie.Need-shared-slice-read-low-letter Inv-loop μ-loop
-shared-slice-read-low-letter c = search needs
-
 low-letter-requires : tie.Need-low-letter-requires Inv-loop μ-loop
 low-letter-requires c κs = tt
 
-mul-out-2 : tie.Need-mul-out-2 Inv-loop μ-loop
-mul-out-2 c = search needs
-
-add-out-2 : tie.Need-add-out-2 Inv-loop μ-loop
-add-out-2 c = search needs
-
-add-out-3 : tie.Need-add-out-3 Inv-loop μ-loop
-add-out-3 c = search needs
-
 slice-write-out-2 : tie.Need-slice-write-out-2 Inv-loop μ-loop
 slice-write-out-2 c = simp length-set (omega arith)
-
-add-i : tie.Need-add-i Inv-loop μ-loop
-add-i c = search needs
-
-loop-less : tie.Need-loop-less Inv-loop μ-loop
-loop-less c = search needs
 
 loop-again : tie.Need-loop-again Inv-loop μ-loop
 loop-again c =
@@ -83,7 +56,6 @@ returns c =
 
 pub spell-pairs-spec : {M : Type 1} → statement M
 spell-pairs-spec =
-    tie.close
-    (tie.spec Inv-loop μ-loop loop-holds shared-slice-read-high-letter high-letter-requires mul-out add-out
-    slice-write-out shared-slice-read-low-letter low-letter-requires mul-out-2 add-out-2 add-out-3 slice-write-out-2
-    add-i loop-less loop-again same-length returns)
+    tie.close (tie.spec Inv-loop μ-loop loop-holds (λ c. search needs) high-letter-requires (λ c. search needs)
+    (λ c. search needs) slice-write-out (λ c. search needs) low-letter-requires (λ c. search needs) (λ c. search needs)
+    (λ c. search needs) slice-write-out-2 (λ c. search needs) (λ c. search needs) loop-again same-length returns)

@@ -7,26 +7,8 @@ use lib.Seq.{take-all}
 use Rattle.text.proofs.spelling.put_decimal.Statement.{statement}
 use Rattle.text.proofs.spelling.put_decimal.Tie as tie
 
-slice-aggregate-spell-decimal : tie.Need-slice-aggregate-spell-decimal
-slice-aggregate-spell-decimal c = search needs
-
-spell-decimal-requires : tie.Need-spell-decimal-requires
-spell-decimal-requires c κs = search needs
-
-sub-put : tie.Need-sub-put
-sub-put c = search needs
-
-part-put-start : tie.Need-part-put-start
-part-put-start c = search needs
-
-part-put-end : tie.Need-part-put-end
-part-put-end c = search needs
-
 put-requires : tie.Need-put-requires
 put-requires c κs = tt
-
-same-length : tie.Need-same-length
-same-length c = search needs
 
 returns : tie.Need-returns
 returns c =
@@ -36,6 +18,5 @@ returns c =
 
 pub put-decimal-spec : {M : Type 1} → statement M
 put-decimal-spec =
-    tie.close
-    (tie.spec slice-aggregate-spell-decimal spell-decimal-requires sub-put part-put-start part-put-end put-requires
-    same-length returns)
+    tie.close (tie.spec (λ c. search needs) (λ c κs. search needs) (λ c. search needs) (λ c. search needs)
+    (λ c. search needs) put-requires (λ c. search needs) returns)

@@ -3,38 +3,8 @@ use borrow.Author.Needs.{needs}
 use Rattle.text.proofs.spelling.put_word.Statement.{statement}
 use Rattle.text.proofs.spelling.put_word.Tie as tie
 
-hex-letter-requires : tie.Need-hex-letter-requires
-hex-letter-requires c κs = search needs
-
-hex-letter-requires-2 : tie.Need-hex-letter-requires-2
-hex-letter-requires-2 c κs = search needs
-
-hex-letter-requires-3 : tie.Need-hex-letter-requires-3
-hex-letter-requires-3 c κs = search needs
-
-hex-letter-requires-4 : tie.Need-hex-letter-requires-4
-hex-letter-requires-4 c κs = search needs
-
-hex-letter-requires-5 : tie.Need-hex-letter-requires-5
-hex-letter-requires-5 c κs = search needs
-
-hex-letter-requires-6 : tie.Need-hex-letter-requires-6
-hex-letter-requires-6 c κs = search needs
-
-hex-letter-requires-7 : tie.Need-hex-letter-requires-7
-hex-letter-requires-7 c κs = search needs
-
-hex-letter-requires-8 : tie.Need-hex-letter-requires-8
-hex-letter-requires-8 c κs = search needs
-
-slice-aggregate-put : tie.Need-slice-aggregate-put
-slice-aggregate-put c = search needs
-
 put-requires : tie.Need-put-requires
 put-requires c κs = tt
-
-same-length : tie.Need-same-length
-same-length c = search needs
 
 returns : tie.Need-returns
 returns c =
@@ -52,7 +22,6 @@ returns c =
 
 pub put-word-spec : {M : Type 1} → statement M
 put-word-spec =
-    tie.close
-    (tie.spec hex-letter-requires hex-letter-requires-2 hex-letter-requires-3 hex-letter-requires-4
-    hex-letter-requires-5 hex-letter-requires-6 hex-letter-requires-7 hex-letter-requires-8 slice-aggregate-put
-    put-requires same-length returns)
+    tie.close (tie.spec (λ c κs. search needs) (λ c κs. search needs) (λ c κs. search needs) (λ c κs. search needs)
+    (λ c κs. search needs) (λ c κs. search needs) (λ c κs. search needs) (λ c κs. search needs) (λ c. search needs)
+    put-requires (λ c. search needs) returns)

@@ -32,9 +32,6 @@ slice-write-to c = omega arith
 sub-start : tie.Need-sub-start Inv-loop μ-loop
 sub-start c = let w = c .before .before .loop in omega (arith, more-left (w .start) (w .rest) (c .before .loop-test .taken) (w .inv .2))
 
-loop-less : tie.Need-loop-less Inv-loop μ-loop
-loop-less c = search needs
-
 loop-again : tie.Need-loop-again Inv-loop μ-loop
 loop-again c =
     let w = c .before .before .loop in
@@ -62,6 +59,5 @@ returns c =
 
 pub spell-decimal-spec : {M : Type 1} → statement M
 spell-decimal-spec =
-    tie.close
-    (tie.spec Inv-loop μ-loop loop-holds last-letter-requires slice-write-to sub-start loop-less loop-again
-    last-letter-requires-2 slice-write-to-2 same-length returns)
+    tie.close (tie.spec Inv-loop μ-loop loop-holds last-letter-requires slice-write-to sub-start (λ c. search needs)
+    loop-again last-letter-requires-2 slice-write-to-2 same-length returns)

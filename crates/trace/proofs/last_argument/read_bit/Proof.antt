@@ -69,19 +69,6 @@ returns-4 c =
 
 pub read-bit-spec : {M : Type 1} → statement M
 read-bit-spec =
-    tie.close
-    (tie.spec
-    next-word-requires
-    missing-requires
-    returns
-    sub-part
-    part-part-start
-    part-part-end
-    slice-aggregate-same
-    same-requires
-    returns-2
-    slice-aggregate-same-2
-    same-requires-2
-    returns-3
-    wrong-requires
+    tie.close (tie.spec next-word-requires missing-requires returns sub-part part-part-start part-part-end
+    slice-aggregate-same same-requires returns-2 slice-aggregate-same-2 same-requires-2 returns-3 wrong-requires
     returns-4)

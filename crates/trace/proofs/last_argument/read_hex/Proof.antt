@@ -93,23 +93,6 @@ returns-4 c =
 
 pub read-hex-spec : {M : Type 1} → statement M
 read-hex-spec =
-    tie.close
-    (tie.spec
-    next-word-requires
-    missing-requires
-    returns
-    sub-read-bytes
-    part-read-bytes-start
-    part-read-bytes-end
-    read-bytes-requires
-    enum-known-read
-    enum-told
-    wrong-requires
-    enum-told-2
-    wrong-requires-2
-    same-length
-    returns-2
-    same-length-2
-    returns-3
-    same-length-3
-    returns-4)
+    tie.close (tie.spec next-word-requires missing-requires returns sub-read-bytes part-read-bytes-start
+    part-read-bytes-end read-bytes-requires enum-known-read enum-told wrong-requires enum-told-2 wrong-requires-2
+    same-length returns-2 same-length-2 returns-3 same-length-3 returns-4)

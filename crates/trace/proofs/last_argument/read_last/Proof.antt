@@ -59,18 +59,5 @@ returns-4 c =
 
 pub read-last-spec : {M : Type 1} → statement M
 read-last-spec =
-    tie.close
-    (tie.spec
-    form-of-requires
-    enum-told
-    enum-told-2
-    read-bit-requires
-    enum-told-3
-    read-one-requires
-    enum-told-4
-    read-hex-requires
-    returns
-    returns-2
-    returns-3
-    same-length
-    returns-4)
+    tie.close (tie.spec form-of-requires enum-told enum-told-2 read-bit-requires enum-told-3 read-one-requires
+    enum-told-4 read-hex-requires returns returns-2 returns-3 same-length returns-4)

@@ -26,9 +26,6 @@ returns c =
       ),
     )
 
-shared-slice-read-if2 : tie.Need-shared-slice-read-if2
-shared-slice-read-if2 c = search needs
-
 returns-2 : tie.Need-returns-2
 unfolding storedFrom
 returns-2 c =
@@ -98,19 +95,5 @@ returns-4 c =
 
 pub read-line-spec : {M : Type 1} → statement M
 read-line-spec =
-    tie.close
-    (tie.spec
-    next-word-requires
-    returns
-    shared-slice-read-if2
-    returns-2
-    sub-name-of
-    part-name-of-start
-    part-name-of-end
-    name-of-requires
-    enum-known-named
-    enum-told
-    returns-3
-    read-words-requires
-    same-length
-    returns-4)
+    tie.close (tie.spec next-word-requires returns (λ c. search needs) returns-2 sub-name-of part-name-of-start
+    part-name-of-end name-of-requires enum-known-named enum-told returns-3 read-words-requires same-length returns-4)

@@ -39,13 +39,5 @@ returns-2 c =
 
 pub read-rest-spec : {M : Type 1} → statement M
 read-rest-spec =
-    tie.close
-    (tie.spec
-    read-last-requires
-    enum-known-read
-    read-end-requires
-    enum-known-read-2
-    same-length
-    returns
-    same-length-2
-    returns-2)
+    tie.close (tie.spec read-last-requires enum-known-read read-end-requires enum-known-read-2 same-length returns
+    same-length-2 returns-2)

@@ -41,12 +41,5 @@ returns-2 c =
 
 pub read-words-spec : {M : Type 1} → statement M
 read-words-spec =
-    tie.close
-    (tie.spec
-    read-numbers-requires
-    enum-known-read
-    read-rest-requires
-    enum-known-read-2
-    same-length
-    returns
+    tie.close (tie.spec read-numbers-requires enum-known-read read-rest-requires enum-known-read-2 same-length returns
     returns-2)

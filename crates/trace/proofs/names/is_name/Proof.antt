@@ -162,57 +162,11 @@ returns-13 c = is-spelled _ _ _ (c .before .before .enum-told13 .given .1) _ (c 
 
 pub is-name-spec : {M : Type 1} → statement M
 is-name-spec =
-    tie.close
-    (tie.spec
-    enum-told
-    slice-aggregate-same
-    same-requires
-    enum-told-2
-    slice-aggregate-same-2
-    same-requires-2
-    enum-told-3
-    slice-aggregate-same-3
-    same-requires-3
-    enum-told-4
-    slice-aggregate-same-4
-    same-requires-4
-    enum-told-5
-    slice-aggregate-same-5
-    same-requires-5
-    enum-told-6
-    slice-aggregate-same-6
-    same-requires-6
-    enum-told-7
-    slice-aggregate-same-7
-    same-requires-7
-    enum-told-8
-    slice-aggregate-same-8
-    same-requires-8
-    enum-told-9
-    slice-aggregate-same-9
-    same-requires-9
-    enum-told-10
-    slice-aggregate-same-10
-    same-requires-10
-    enum-told-11
-    slice-aggregate-same-11
-    same-requires-11
-    enum-told-12
-    slice-aggregate-same-12
-    same-requires-12
-    enum-told-13
-    slice-aggregate-same-13
-    same-requires-13
-    returns
-    returns-2
-    returns-3
-    returns-4
-    returns-5
-    returns-6
-    returns-7
-    returns-8
-    returns-9
-    returns-10
-    returns-11
-    returns-12
-    returns-13)
+    tie.close (tie.spec enum-told slice-aggregate-same same-requires enum-told-2 slice-aggregate-same-2 same-requires-2
+    enum-told-3 slice-aggregate-same-3 same-requires-3 enum-told-4 slice-aggregate-same-4 same-requires-4 enum-told-5
+    slice-aggregate-same-5 same-requires-5 enum-told-6 slice-aggregate-same-6 same-requires-6 enum-told-7
+    slice-aggregate-same-7 same-requires-7 enum-told-8 slice-aggregate-same-8 same-requires-8 enum-told-9
+    slice-aggregate-same-9 same-requires-9 enum-told-10 slice-aggregate-same-10 same-requires-10 enum-told-11
+    slice-aggregate-same-11 same-requires-11 enum-told-12 slice-aggregate-same-12 same-requires-12 enum-told-13
+    slice-aggregate-same-13 same-requires-13 returns returns-2 returns-3 returns-4 returns-5 returns-6 returns-7
+    returns-8 returns-9 returns-10 returns-11 returns-12 returns-13)

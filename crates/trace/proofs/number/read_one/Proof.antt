@@ -70,19 +70,6 @@ returns-3 c =
 
 pub read-one-spec : {M : Type 1} → statement M
 read-one-spec =
-    tie.close
-    (tie.spec
-    next-word-requires
-    missing-requires
-    returns
-    sub-read-number
-    part-read-number-start
-    part-read-number-end
-    limit-of-requires
-    read-number-requires
-    enum-known-number
-    enum-told
-    reason-of-requires
-    wrong-requires
-    returns-2
-    returns-3)
+    tie.close (tie.spec next-word-requires missing-requires returns sub-read-number part-read-number-start
+    part-read-number-end limit-of-requires read-number-requires enum-known-number enum-told reason-of-requires
+    wrong-requires returns-2 returns-3)

@@ -86,19 +86,5 @@ returns-2 c =
 
 pub read-each-spec : {M : Type 1} → statement M
 read-each-spec =
-    tie.close
-    (tie.spec
-    Inv-loop
-    μ-loop
-    loop-holds
-    kind-at-requires
-    read-one-requires
-    enum-known-one
-    enum-told
-    returns
-    mul-to
-    element-write-to
-    add-i
-    loop-less
-    loop-again
-    returns-2)
+    tie.close (tie.spec Inv-loop μ-loop loop-holds kind-at-requires read-one-requires enum-known-one enum-told returns
+    mul-to element-write-to add-i loop-less loop-again returns-2)

@@ -3,9 +3,6 @@ use borrow.Author.Needs.{needs}
 use Rattle.uart.proofs.Uart.clock_change.Statement.{statement}
 use Rattle.uart.proofs.Uart.clock_change.Tie as tie
 
-clock-change-requires : tie.Need-clock-change-requires
-clock-change-requires c κs = search needs
-
 after-done-requires : tie.Need-after-done-requires
 after-done-requires c κs = tt
 
@@ -13,4 +10,4 @@ returns : tie.Need-returns
 returns c = rw (c .after-done .ensures) (c .before .clock-change .ensures)
 
 pub clock-change-spec : {M : Type 1} → statement M
-clock-change-spec = tie.close (tie.spec clock-change-requires after-done-requires returns)
+clock-change-spec = tie.close (tie.spec (λ c κs. search needs) after-done-requires returns)

@@ -3,11 +3,8 @@ use borrow.Author.Needs.{needs}
 use Rattle.uart.proofs.Uart.has_left.Statement.{statement}
 use Rattle.uart.proofs.Uart.has_left.Tie as tie
 
-has-left-requires : tie.Need-has-left-requires
-has-left-requires c κs = search needs
-
 returns : tie.Need-returns
 returns c = c .has-left .ensures _ (c .before .pre)
 
 pub has-left-spec : {M : Type 1} → statement M
-has-left-spec = tie.close (tie.spec has-left-requires returns)
+has-left-spec = tie.close (tie.spec (λ c κs. search needs) returns)

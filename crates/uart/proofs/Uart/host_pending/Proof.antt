@@ -3,11 +3,8 @@ use borrow.Author.Needs.{needs}
 use Rattle.uart.proofs.Uart.host_pending.Statement.{statement}
 use Rattle.uart.proofs.Uart.host_pending.Tie as tie
 
-host-pending-requires : tie.Need-host-pending-requires
-host-pending-requires c κs = search needs
-
 returns : tie.Need-returns
 returns c = c .host-pending .ensures _ (c .before .pre)
 
 pub host-pending-spec : {M : Type 1} → statement M
-host-pending-spec = tie.close (tie.spec host-pending-requires returns)
+host-pending-spec = tie.close (tie.spec (λ c κs. search needs) returns)

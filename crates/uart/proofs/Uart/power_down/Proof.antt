@@ -3,9 +3,6 @@ use borrow.Author.Needs.{needs}
 use Rattle.uart.proofs.Uart.power_down.Statement.{statement}
 use Rattle.uart.proofs.Uart.power_down.Tie as tie
 
-power-down-requires : tie.Need-power-down-requires
-power-down-requires c κs = search needs
-
 after-done-requires : tie.Need-after-done-requires
 after-done-requires c κs = tt
 
@@ -13,4 +10,4 @@ returns : tie.Need-returns
 returns c = rw (c .after-done .ensures) (c .before .power-down .ensures _ (c .before .before .pre))
 
 pub power-down-spec : {M : Type 1} → statement M
-power-down-spec = tie.close (tie.spec power-down-requires after-done-requires returns)
+power-down-spec = tie.close (tie.spec (λ c κs. search needs) after-done-requires returns)

@@ -3,11 +3,8 @@ use borrow.Author.Needs.{needs}
 use Rattle.uart.proofs.Uart.read.Statement.{statement}
 use Rattle.uart.proofs.Uart.read.Tie as tie
 
-read-requires : tie.Need-read-requires
-read-requires c κs = search needs
-
 returns : tie.Need-returns
 returns c = c .before .before .read .ensures
 
 pub read-spec : {M : Type 1} → statement M
-read-spec = tie.close (tie.spec read-requires returns)
+read-spec = tie.close (tie.spec (λ c κs. search needs) returns)

@@ -3,9 +3,6 @@ use borrow.Author.Needs.{needs}
 use Rattle.uart.proofs.Uart.receive.Statement.{statement}
 use Rattle.uart.proofs.Uart.receive.Tie as tie
 
-receive-requires : tie.Need-receive-requires
-receive-requires c κs = search needs
-
 after-done-requires : tie.Need-after-done-requires
 after-done-requires c κs = tt
 
@@ -13,4 +10,4 @@ returns : tie.Need-returns
 returns c = rw (c .after-done .ensures) (c .before .receive .ensures)
 
 pub receive-spec : {M : Type 1} → statement M
-receive-spec = tie.close (tie.spec receive-requires after-done-requires returns)
+receive-spec = tie.close (tie.spec (λ c κs. search needs) after-done-requires returns)

@@ -3,9 +3,6 @@ use borrow.Author.Needs.{needs}
 use Rattle.uart.proofs.Uart.reset.Statement.{statement}
 use Rattle.uart.proofs.Uart.reset.Tie as tie
 
-reset-requires : tie.Need-reset-requires
-reset-requires c κs = search needs
-
 after-done-requires : tie.Need-after-done-requires
 after-done-requires c κs = tt
 
@@ -13,4 +10,4 @@ returns : tie.Need-returns
 returns c = rw (c .after-done .ensures) (c .before .reset .ensures)
 
 pub reset-spec : {M : Type 1} → statement M
-reset-spec = tie.close (tie.spec reset-requires after-done-requires returns)
+reset-spec = tie.close (tie.spec (λ c κs. search needs) after-done-requires returns)

@@ -3,11 +3,8 @@ use borrow.Author.Needs.{needs}
 use Rattle.uart.proofs.Uart.settle.Statement.{statement}
 use Rattle.uart.proofs.Uart.settle.Tie as tie
 
-settle-requires : tie.Need-settle-requires
-settle-requires c κs = search needs
-
 returns : tie.Need-returns
 returns c = c .before .settle .ensures
 
 pub settle-spec : {M : Type 1} → statement M
-settle-spec = tie.close (tie.spec settle-requires returns)
+settle-spec = tie.close (tie.spec (λ c κs. search needs) returns)

@@ -3,17 +3,11 @@ use borrow.Author.Needs.{needs}
 use Rattle.uart.proofs.Uart.take_tx.Statement.{statement}
 use Rattle.uart.proofs.Uart.take_tx.Tie as tie
 
-take-tx-requires : tie.Need-take-tx-requires
-take-tx-requires c κs = search needs
-
 after-take-requires : tie.Need-after-take-requires
 after-take-requires c κs = tt
-
-same-length : tie.Need-same-length
-same-length c = search needs
 
 returns : tie.Need-returns
 returns c = rw (c .after-take .ensures) (c .before .before .before .take-tx .ensures)
 
 pub take-tx-spec : {M : Type 1} → statement M
-take-tx-spec = tie.close (tie.spec take-tx-requires after-take-requires same-length returns)
+take-tx-spec = tie.close (tie.spec (λ c κs. search needs) after-take-requires (λ c. search needs) returns)

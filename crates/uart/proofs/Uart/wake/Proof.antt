@@ -3,9 +3,6 @@ use borrow.Author.Needs.{needs}
 use Rattle.uart.proofs.Uart.wake.Statement.{statement}
 use Rattle.uart.proofs.Uart.wake.Tie as tie
 
-wake-requires : tie.Need-wake-requires
-wake-requires c κs = search needs
-
 after-done-requires : tie.Need-after-done-requires
 after-done-requires c κs = tt
 
@@ -13,4 +10,4 @@ returns : tie.Need-returns
 returns c = rw (c .after-done .ensures) (c .before .wake .ensures)
 
 pub wake-spec : {M : Type 1} → statement M
-wake-spec = tie.close (tie.spec wake-requires after-done-requires returns)
+wake-spec = tie.close (tie.spec (λ c κs. search needs) after-done-requires returns)

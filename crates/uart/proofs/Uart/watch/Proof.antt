@@ -4,9 +4,6 @@ use borrow.Author.Needs.{needs}
 use Rattle.uart.proofs.Uart.watch.Statement.{statement}
 use Rattle.uart.proofs.Uart.watch.Tie as tie
 
-watch-requires : tie.Need-watch-requires
-watch-requires c κs = search needs
-
 after-done-requires : tie.Need-after-done-requires
 after-done-requires c κs = tt
 
@@ -14,4 +11,4 @@ returns : tie.Need-returns
 returns c = rw (c .after-done .ensures) (c .before .watch .ensures _ refl refl (c .before .before .before .before .before .before .pre))
 
 pub watch-spec : {M : Type 1} → statement M
-watch-spec = tie.close (tie.spec watch-requires after-done-requires returns)
+watch-spec = tie.close (tie.spec (λ c κs. search needs) after-done-requires returns)

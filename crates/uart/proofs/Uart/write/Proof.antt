@@ -3,11 +3,8 @@ use borrow.Author.Needs.{needs}
 use Rattle.uart.proofs.Uart.write.Statement.{statement}
 use Rattle.uart.proofs.Uart.write.Tie as tie
 
-write-requires : tie.Need-write-requires
-write-requires c κs = search needs
-
 returns : tie.Need-returns
 returns c = c .before .before .write .ensures
 
 pub write-spec : {M : Type 1} → statement M
-write-spec = tie.close (tie.spec write-requires returns)
+write-spec = tie.close (tie.spec (λ c κs. search needs) returns)

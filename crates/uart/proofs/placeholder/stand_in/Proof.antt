@@ -6,12 +6,9 @@ use Rattle.model.specs.Numbers.{choose}
 use Rattle.uart.proofs.placeholder.stand_in.Statement.{statement}
 use Rattle.uart.proofs.placeholder.stand_in.Tie as tie
 
-new-requires : tie.Need-new-requires
-new-requires c κs = search needs
-
 returns : tie.Need-returns
 unfolding setUpReply repeated among choose
 returns c = record { state = c .before .new .ensures .state; good = c .before .new .ensures .good (c .before .new .ensures .replies) }
 
 pub stand-in-spec : {M : Type 1} → statement M
-stand-in-spec = tie.close (tie.spec new-requires returns)
+stand-in-spec = tie.close (tie.spec (λ c κs. search needs) returns)

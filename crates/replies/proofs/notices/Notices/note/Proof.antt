@@ -9,15 +9,6 @@ use Rattle.replies.specs.Notices.{added}
 use Rattle.replies.proofs.notices.Notices.note.Statement.{statement}
 use Rattle.replies.proofs.notices.Notices.note.Tie as tie
 
-mul-t8 : tie.Need-mul-t8
-mul-t8 c = search needs
-
-element-set-from-self : tie.Need-element-set-from-self
-element-set-from-self c = search needs
-
-add-self : tie.Need-add-self
-add-self c = search needs
-
 returns : tie.Need-returns
 unfolding added
 returns c = sym (choose-true _ _ (lt-ltb (c .before .args .t1 .count) noticePlaces (omega arith)))
@@ -27,4 +18,4 @@ unfolding added
 returns-2 c = sym (choose-false _ _ (le-ltb (c .before .args .t1 .count) noticePlaces (omega arith)))
 
 pub note-spec : {M : Type 1} → statement M
-note-spec = tie.close (tie.spec mul-t8 element-set-from-self add-self returns returns-2)
+note-spec = tie.close (tie.spec (λ c. search needs) (λ c. search needs) (λ c. search needs) returns returns-2)

@@ -6,9 +6,6 @@ use Rattle.replies.specs.Notices.{addedIf}
 use Rattle.replies.proofs.notices.Notices.note_if.Statement.{statement}
 use Rattle.replies.proofs.notices.Notices.note_if.Tie as tie
 
-note-requires : tie.Need-note-requires
-note-requires c κs = search needs
-
 returns : tie.Need-returns
 unfolding addedIf
 returns c = c .note .ensures ∙ sym (choose-true _ _ (c .before .if1 .taken))
@@ -18,4 +15,4 @@ unfolding addedIf
 returns-2 c = sym (choose-false _ _ (c .if1 .left))
 
 pub note-if-spec : {M : Type 1} → statement M
-note-if-spec = tie.close (tie.spec note-requires returns returns-2)
+note-if-spec = tie.close (tie.spec (λ c κs. search needs) returns returns-2)
