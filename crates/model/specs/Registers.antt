@@ -81,22 +81,35 @@ holds MemConf = true
 holds MemRxStatus = false
 holds Unknown = false
 
+abbrev pub wordsFrom : ℕ → ℕ → ℕ → ℕ → ℕ → ℕ → ℕ → ℕ → ℕ → Words
+wordsFrom intEna clkdiv conf0 conf1 clkConf idleConf rs485Conf atCmdChar memConf = record {
+  «int_ena» = intEna;
+  clkdiv = clkdiv;
+  conf0 = conf0;
+  conf1 = conf1;
+  «clk_conf» = clkConf;
+  «idle_conf» = idleConf;
+  «rs485_conf» = rs485Conf;
+  «at_cmd_char» = atCmdChar;
+  «mem_conf» = memConf;
+}
+
 unfoldable pub stored : Place → ℕ → Words → Words
 stored Fifo v w = w
 stored IntRaw v w = w
 stored IntSt v w = w
-stored IntEna v w = record { «int_ena» = v; clkdiv = w .clkdiv; conf0 = w .conf0; conf1 = w .conf1; «clk_conf» = w .«clk_conf»; «idle_conf» = w .«idle_conf»; «rs485_conf» = w .«rs485_conf»; «at_cmd_char» = w .«at_cmd_char»; «mem_conf» = w .«mem_conf» }
+stored IntEna v w = wordsFrom v (w .clkdiv) (w .conf0) (w .conf1) (w .«clk_conf») (w .«idle_conf») (w .«rs485_conf») (w .«at_cmd_char») (w .«mem_conf»)
 stored IntClr v w = w
-stored Clkdiv v w = record { «int_ena» = w .«int_ena»; clkdiv = v; conf0 = w .conf0; conf1 = w .conf1; «clk_conf» = w .«clk_conf»; «idle_conf» = w .«idle_conf»; «rs485_conf» = w .«rs485_conf»; «at_cmd_char» = w .«at_cmd_char»; «mem_conf» = w .«mem_conf» }
+stored Clkdiv v w = wordsFrom (w .«int_ena») v (w .conf0) (w .conf1) (w .«clk_conf») (w .«idle_conf») (w .«rs485_conf») (w .«at_cmd_char») (w .«mem_conf»)
 stored Status v w = w
 stored FsmStatus v w = w
-stored Conf0 v w = record { «int_ena» = w .«int_ena»; clkdiv = w .clkdiv; conf0 = v; conf1 = w .conf1; «clk_conf» = w .«clk_conf»; «idle_conf» = w .«idle_conf»; «rs485_conf» = w .«rs485_conf»; «at_cmd_char» = w .«at_cmd_char»; «mem_conf» = w .«mem_conf» }
-stored Conf1 v w = record { «int_ena» = w .«int_ena»; clkdiv = w .clkdiv; conf0 = w .conf0; conf1 = v; «clk_conf» = w .«clk_conf»; «idle_conf» = w .«idle_conf»; «rs485_conf» = w .«rs485_conf»; «at_cmd_char» = w .«at_cmd_char»; «mem_conf» = w .«mem_conf» }
-stored ClkConf v w = record { «int_ena» = w .«int_ena»; clkdiv = w .clkdiv; conf0 = w .conf0; conf1 = w .conf1; «clk_conf» = v; «idle_conf» = w .«idle_conf»; «rs485_conf» = w .«rs485_conf»; «at_cmd_char» = w .«at_cmd_char»; «mem_conf» = w .«mem_conf» }
-stored IdleConf v w = record { «int_ena» = w .«int_ena»; clkdiv = w .clkdiv; conf0 = w .conf0; conf1 = w .conf1; «clk_conf» = w .«clk_conf»; «idle_conf» = v; «rs485_conf» = w .«rs485_conf»; «at_cmd_char» = w .«at_cmd_char»; «mem_conf» = w .«mem_conf» }
-stored Rs485Conf v w = record { «int_ena» = w .«int_ena»; clkdiv = w .clkdiv; conf0 = w .conf0; conf1 = w .conf1; «clk_conf» = w .«clk_conf»; «idle_conf» = w .«idle_conf»; «rs485_conf» = v; «at_cmd_char» = w .«at_cmd_char»; «mem_conf» = w .«mem_conf» }
-stored AtCmdChar v w = record { «int_ena» = w .«int_ena»; clkdiv = w .clkdiv; conf0 = w .conf0; conf1 = w .conf1; «clk_conf» = w .«clk_conf»; «idle_conf» = w .«idle_conf»; «rs485_conf» = w .«rs485_conf»; «at_cmd_char» = v; «mem_conf» = w .«mem_conf» }
-stored MemConf v w = record { «int_ena» = w .«int_ena»; clkdiv = w .clkdiv; conf0 = w .conf0; conf1 = w .conf1; «clk_conf» = w .«clk_conf»; «idle_conf» = w .«idle_conf»; «rs485_conf» = w .«rs485_conf»; «at_cmd_char» = w .«at_cmd_char»; «mem_conf» = v }
+stored Conf0 v w = wordsFrom (w .«int_ena») (w .clkdiv) v (w .conf1) (w .«clk_conf») (w .«idle_conf») (w .«rs485_conf») (w .«at_cmd_char») (w .«mem_conf»)
+stored Conf1 v w = wordsFrom (w .«int_ena») (w .clkdiv) (w .conf0) v (w .«clk_conf») (w .«idle_conf») (w .«rs485_conf») (w .«at_cmd_char») (w .«mem_conf»)
+stored ClkConf v w = wordsFrom (w .«int_ena») (w .clkdiv) (w .conf0) (w .conf1) v (w .«idle_conf») (w .«rs485_conf») (w .«at_cmd_char») (w .«mem_conf»)
+stored IdleConf v w = wordsFrom (w .«int_ena») (w .clkdiv) (w .conf0) (w .conf1) (w .«clk_conf») v (w .«rs485_conf») (w .«at_cmd_char») (w .«mem_conf»)
+stored Rs485Conf v w = wordsFrom (w .«int_ena») (w .clkdiv) (w .conf0) (w .conf1) (w .«clk_conf») (w .«idle_conf») v (w .«at_cmd_char») (w .«mem_conf»)
+stored AtCmdChar v w = wordsFrom (w .«int_ena») (w .clkdiv) (w .conf0) (w .conf1) (w .«clk_conf») (w .«idle_conf») (w .«rs485_conf») v (w .«mem_conf»)
+stored MemConf v w = wordsFrom (w .«int_ena») (w .clkdiv) (w .conf0) (w .conf1) (w .«clk_conf») (w .«idle_conf») (w .«rs485_conf») (w .«at_cmd_char») v
 stored MemRxStatus v w = w
 stored Unknown v w = w
 

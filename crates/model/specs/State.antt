@@ -55,48 +55,72 @@ withIdleSince v l = record { «int_raw» = l .«int_raw»; «rx_mistimed» = l .
 abbrev pub withLineFreeAt : ℕ → Line → Line
 withLineFreeAt v l = record { «int_raw» = l .«int_raw»; «rx_mistimed» = l .«rx_mistimed»; «idle_since» = l .«idle_since»; «line_free_at» = v }
 
+abbrev pub controlFrom : Words → Line → ℕ → ℕ → Date → Bool → Date → Bool → Control
+controlFrom words line period last wake watched poweredDownAt level = record {
+  words = words;
+  line = line;
+  period = period;
+  last = last;
+  wake = wake;
+  watched = watched;
+  «powered_down_at» = poweredDownAt;
+  level = level;
+}
+
 abbrev pub withWords : Words → Control → Control
-withWords v c = record { words = v; line = c .line; period = c .period; last = c .last; wake = c .wake; watched = c .watched; «powered_down_at» = c .«powered_down_at»; level = c .level }
+withWords v c = controlFrom v (c .line) (c .period) (c .last) (c .wake) (c .watched) (c .«powered_down_at») (c .level)
 
 abbrev pub withLine : Line → Control → Control
-withLine v c = record { words = c .words; line = v; period = c .period; last = c .last; wake = c .wake; watched = c .watched; «powered_down_at» = c .«powered_down_at»; level = c .level }
+withLine v c = controlFrom (c .words) v (c .period) (c .last) (c .wake) (c .watched) (c .«powered_down_at») (c .level)
 
 abbrev pub withPeriod : ℕ → Control → Control
-withPeriod v c = record { words = c .words; line = c .line; period = v; last = c .last; wake = c .wake; watched = c .watched; «powered_down_at» = c .«powered_down_at»; level = c .level }
+withPeriod v c = controlFrom (c .words) (c .line) v (c .last) (c .wake) (c .watched) (c .«powered_down_at») (c .level)
 
 abbrev pub withLast : ℕ → Control → Control
-withLast v c = record { words = c .words; line = c .line; period = c .period; last = v; wake = c .wake; watched = c .watched; «powered_down_at» = c .«powered_down_at»; level = c .level }
+withLast v c = controlFrom (c .words) (c .line) (c .period) v (c .wake) (c .watched) (c .«powered_down_at») (c .level)
 
 abbrev pub withWake : Date → Control → Control
-withWake v c = record { words = c .words; line = c .line; period = c .period; last = c .last; wake = v; watched = c .watched; «powered_down_at» = c .«powered_down_at»; level = c .level }
+withWake v c = controlFrom (c .words) (c .line) (c .period) (c .last) v (c .watched) (c .«powered_down_at») (c .level)
 
 abbrev pub withWatched : Bool → Control → Control
-withWatched v c = record { words = c .words; line = c .line; period = c .period; last = c .last; wake = c .wake; watched = v; «powered_down_at» = c .«powered_down_at»; level = c .level }
+withWatched v c = controlFrom (c .words) (c .line) (c .period) (c .last) (c .wake) v (c .«powered_down_at») (c .level)
 
 abbrev pub withPoweredDownAt : Date → Control → Control
-withPoweredDownAt v c = record { words = c .words; line = c .line; period = c .period; last = c .last; wake = c .wake; watched = c .watched; «powered_down_at» = v; level = c .level }
+withPoweredDownAt v c = controlFrom (c .words) (c .line) (c .period) (c .last) (c .wake) (c .watched) v (c .level)
 
 abbrev pub withLevel : Bool → Control → Control
-withLevel v c = record { words = c .words; line = c .line; period = c .period; last = c .last; wake = c .wake; watched = c .watched; «powered_down_at» = c .«powered_down_at»; level = v }
+withLevel v c = controlFrom (c .words) (c .line) (c .period) (c .last) (c .wake) (c .watched) (c .«powered_down_at») v
 
 module _ {H W : Type 0} where
+  abbrev pub uartFrom : RegisterMap → Control → List (Sent W) → List W → List H → List Run → Option (OnTheLine H) → List H → Uart H W
+  uartFrom map control inFlight tx host hostRuns receiving rx = record {
+    map = map;
+    control = control;
+    inFlight = inFlight;
+    tx = tx;
+    host = host;
+    hostRuns = hostRuns;
+    receiving = receiving;
+    rx = rx;
+  }
+
   abbrev pub withControl : Control → Uart H W → Uart H W
-  withControl v u = record { map = u .map; control = v; inFlight = u .inFlight; tx = u .tx; host = u .host; hostRuns = u .hostRuns; receiving = u .receiving; rx = u .rx }
+  withControl v u = uartFrom (u .map) v (u .inFlight) (u .tx) (u .host) (u .hostRuns) (u .receiving) (u .rx)
 
   abbrev pub withInFlight : List (Sent W) → Uart H W → Uart H W
-  withInFlight v u = record { map = u .map; control = u .control; inFlight = v; tx = u .tx; host = u .host; hostRuns = u .hostRuns; receiving = u .receiving; rx = u .rx }
+  withInFlight v u = uartFrom (u .map) (u .control) v (u .tx) (u .host) (u .hostRuns) (u .receiving) (u .rx)
 
   abbrev pub withTx : List W → Uart H W → Uart H W
-  withTx v u = record { map = u .map; control = u .control; inFlight = u .inFlight; tx = v; host = u .host; hostRuns = u .hostRuns; receiving = u .receiving; rx = u .rx }
+  withTx v u = uartFrom (u .map) (u .control) (u .inFlight) v (u .host) (u .hostRuns) (u .receiving) (u .rx)
 
   abbrev pub withHost : List H → List Run → Uart H W → Uart H W
-  withHost v r u = record { map = u .map; control = u .control; inFlight = u .inFlight; tx = u .tx; host = v; hostRuns = r; receiving = u .receiving; rx = u .rx }
+  withHost v r u = uartFrom (u .map) (u .control) (u .inFlight) (u .tx) v r (u .receiving) (u .rx)
 
   abbrev pub withReceiving : Option (OnTheLine H) → Uart H W → Uart H W
-  withReceiving v u = record { map = u .map; control = u .control; inFlight = u .inFlight; tx = u .tx; host = u .host; hostRuns = u .hostRuns; receiving = v; rx = u .rx }
+  withReceiving v u = uartFrom (u .map) (u .control) (u .inFlight) (u .tx) (u .host) (u .hostRuns) v (u .rx)
 
   abbrev pub withRx : List H → Uart H W → Uart H W
-  withRx v u = record { map = u .map; control = u .control; inFlight = u .inFlight; tx = u .tx; host = u .host; hostRuns = u .hostRuns; receiving = u .receiving; rx = v }
+  withRx v u = uartFrom (u .map) (u .control) (u .inFlight) (u .tx) (u .host) (u .hostRuns) (u .receiving) v
 
   -- the line's part of the control
   abbrev pub lineOf : Uart H W → Line
