@@ -16,7 +16,8 @@ use Rattle.model.specs.declared.Refusal.{Refusal}
 use Rattle.model.specs.declared.Report.{Report}
 use Rattle.model.specs.declared.Write.{Write}
 use Rattle.model.specs.declared.Place.{Place}
-use Rattle.model.specs.declared.Place.the-variants.{Fifo, IntRaw, IntSt, IntEna, IntClr, Clkdiv, Status, FsmStatus, Conf0, Conf1, ClkConf, IdleConf, Rs485Conf, AtCmdChar, MemConf, MemRxStatus, Unknown}
+use Rattle.model.specs.declared.Place.the-variants.{Fifo, IntRaw, IntSt, IntEna, IntClr, Clkdiv, Status, FsmStatus, Conf0, Conf1, ClkConf}
+use Rattle.model.specs.declared.Place.the-variants.{IdleConf, Rs485Conf, AtCmdChar, MemConf, MemRxStatus, Unknown}
 use Rattle.model.specs.Refuses.Conditions.{isFifo}
 use Rattle.replies.specs.declared.notices.Notices.{Notices}
 use Rattle.replies.specs.Calls.{write-tests}
@@ -56,17 +57,20 @@ module _ (cycle b : ℕ) (p : Place) (v : ℕ) where
   access-zero false u = write-proper p v u .zero
 
   module _ {f : Bool} (u : State.Uart ℕ ℕ) {c′ : Core} {a′ : Arrays} {reply : Write} {m : Notices} where
-    pub sent-access : f ≡ true → Accesses (λ x. x) (sendByte cycle b u) c′ a′ reply m → Accesses (λ x. x) (accessAt f cycle b p v u) c′ a′ reply m
+    pub sent-access : f ≡ true → Accesses (λ x. x) (sendByte cycle b u) c′ a′ reply m
+        → Accesses (λ x. x) (accessAt f cycle b p v u) c′ a′ reply m
     unfolding accessAt
     sent-access e k = subst (λ (x : Bool). Accesses (λ w. w) (accessAt x cycle b p v u) c′ a′ reply m) (sym e) k
 
-    pub placed-access : f ≡ false → Accesses (λ x. x) (writePlace p v u) c′ a′ reply m → Accesses (λ x. x) (accessAt f cycle b p v u) c′ a′ reply m
+    pub placed-access : f ≡ false → Accesses (λ x. x) (writePlace p v u) c′ a′ reply m
+        → Accesses (λ x. x) (accessAt f cycle b p v u) c′ a′ reply m
     unfolding accessAt
     placed-access e k = subst (λ (x : Bool). Accesses (λ w. w) (accessAt x cycle b p v u) c′ a′ reply m) (sym e) k
 
 -- ---- the laws of the call
 
-by-kind : (cycle v : ℕ) (u : State.Uart ℕ ℕ) (p : Place) → writeAt cycle p v u ≡ choose (isFifo p) (send cycle (v % 256) u) (writePlaced cycle p v u)
+by-kind : (cycle v : ℕ) (u : State.Uart ℕ ℕ) (p : Place)
+    → writeAt cycle p v u ≡ choose (isFifo p) (send cycle (v % 256) u) (writePlaced cycle p v u)
 unfolding writeAt isFifo choose
 by-kind cycle v u Fifo = refl
 by-kind cycle v u IntRaw = refl
@@ -92,7 +96,8 @@ unfolding testsAt sending datesOnly
 tests-in-time true cycle last left flying e = in-time cycle last _ e .0
 tests-in-time false cycle last left flying e = in-time cycle last none e .0
 
-module _ (cycle offset v : ℕ) {c : Core} {a : Arrays} (ok : Ok c a) {p : Place} {f : Bool} {b : ℕ} (at : p ≡ placeOf (c .map .offsets) offset) (kind : f ≡ isFifo p)
+module _ (cycle offset v : ℕ) {c : Core} {a : Arrays} (ok : Ok c a) {p : Place} {f : Bool} {b : ℕ}
+    (at : p ≡ placeOf (c .map .offsets) offset) (kind : f ≡ isFifo p)
     (low : b ≡ v % 256) where
   checks : (x : Bool)
       → choose x (send cycle b (abs c a)) (writePlaced cycle p v (abs c a))
@@ -108,14 +113,19 @@ module _ (cycle offset v : ℕ) {c : Core} {a : Arrays} (ok : Ok c a) {p : Place
       ap (λ (q : Place). writeAt cycle q v (abs c a)) (sym at) ∙ by-kind cycle v (abs c a) p
       ∙ ap₂ (λ (x : Bool) (n : ℕ). choose x (send cycle n (abs c a)) (writePlaced cycle p v (abs c a))) (sym kind) (sym low) ∙ checks f
 
-  pub write-carried : {c′ : Core} {a′ : Arrays} {reply : Write} {report : Report} → testsAt f cycle (c .control .last) (c .tx .count) (c .flight .count) ≡ none
-      → Works (λ x. x) (workAt f cycle b p v (abs c a)) c′ a′ reply report → Answers (λ x. x) writeNumber (Calls.write cycle offset v (abs c a)) c a c′ a′ reply report
+  pub write-carried : {c′ : Core} {a′ : Arrays} {reply : Write} {report : Report}
+      → testsAt f cycle (c .control .last) (c .tx .count) (c .flight .count) ≡ none
+      → Works (λ x. x) (workAt f cycle b p v (abs c a)) c′ a′ reply report
+      → Answers (λ x. x) writeNumber (Calls.write cycle offset v (abs c a)) c a c′ a′ reply report
   unfolding afterSettling concluded
   write-carried t k =
-      carried (λ x. x) writeNumber Write.Refused (workAt f cycle b p v) c a write-checks t (write-within cycle offset v (abs c a) (ok .within)) (access-zero cycle b p v f _) k
+      carried (λ x. x) writeNumber Write.Refused (workAt f cycle b p v) c a write-checks t
+      (write-within cycle offset v (abs c a) (ok .within)) (access-zero cycle b p v f _) k
 
-  pub write-refused : {q : Refusal} {r : WriteCore} → testsAt f cycle (c .control .last) (c .tx .count) (c .flight .count) ≡ some q → r ≡ refusedWrite c q
+  pub write-refused : {q : Refusal} {r : WriteCore} → testsAt f cycle (c .control .last) (c .tx .count) (c .flight .count) ≡ some q
+      → r ≡ refusedWrite c q
       → Answers (λ x. x) writeNumber (Calls.write cycle offset v (abs c a)) c a (r .core) a (r .reply) (r .report)
   write-refused t same =
-      subst (λ (x : WriteCore). Answers (λ w. w) writeNumber (Calls.write cycle offset v (abs c a)) c a (x .core) a (x .reply) (x .report)) (sym same)
+      subst (λ (x : WriteCore). Answers (λ w. w) writeNumber (Calls.write cycle offset v (abs c a)) c a (x .core) a (x .reply)
+      (x .report)) (sym same)
       (turned-away (λ x. x) writeNumber Write.Refused (workAt f cycle b p v) c a write-checks t ok)

@@ -35,11 +35,13 @@ abbrev pub ConcludesAny : PlaceWrite → List ℕ → List ℕ → ℕ → ℕ �
 ConcludesAny p goneAt runAt passes overflows r =
     (a : Arrays) → a .goneAt ≡ goneAt → a .runAt ≡ runAt → Shape (p .core) a → Concluded p a passes overflows r
 
-pub concludes-any : (p : PlaceWrite) {goneAt runAt : List ℕ} {passes overflows : ℕ} {c : Core} {r : WriteCore} → Concluding.ConcludesAny (p .core) goneAt runAt c
+pub concludes-any : (p : PlaceWrite) {goneAt runAt : List ℕ} {passes overflows : ℕ} {c : Core} {r : WriteCore}
+    → Concluding.ConcludesAny (p .core) goneAt runAt c
     → r ≡ writeCore c (p .reply) passes overflows (p .notices) → ConcludesAny p goneAt runAt passes overflows r
 concludes-any p {passes = passes} {overflows = overflows} concludes e a eg er k =
     let x = concludes a eg er k in
-    subst (λ (w : WriteCore). Concluded p a passes overflows w) (sym e) (record { shape = x .shape; same = x .same; replies = refl; reports = refl })
+    subst (λ (w : WriteCore). Concluded p a passes overflows w) (sym e)
+    (record { shape = x .shape; same = x .same; replies = refl; reports = refl })
 
 module _ {t : Settle.Settled ℕ ℕ} {c₁ : Core} {a₁ : Arrays} {n o : ℕ} (s : Settles t c₁ a₁ n o) (work : State.Uart ℕ ℕ → Access Write ℕ ℕ)
     {p : PlaceWrite} {a₂ : Arrays} (x : Accesses (λ r. r) (work (abs c₁ a₁)) (p .core) a₂ (p .reply) (p .notices)) where
@@ -50,13 +52,16 @@ module _ {t : Settle.Settled ℕ ℕ} {c₁ : Core} {a₁ : Arrays} {n o : ℕ} 
     record {
       flight = x .shape .flight;
       slots = x .shape .goneAtSlots;
-      period = subst (λ (m : ℕ). m ≤ periodLimit) (sym (ap (λ (u : State.Uart ℕ ℕ). u .control .period) (x .state) ∙ same)) (s .ok .within .periodHigh);
+      period =
+          subst (λ (m : ℕ). m ≤ periodLimit) (sym (ap (λ (u : State.Uart ℕ ℕ). u .control .period) (x .state) ∙ same))
+          (s .ok .within .periodHigh);
     },
     x .shape .runs,
     x .shape .runDateSlots,
   )
 
-  pub concluded-works : {r : WriteCore} → Concluded p a₂ n o r → Works (λ w. w) (afterSettling t (λ u. concluded (work u))) (r .core) a₂ (r .reply) (r .report)
+  pub concluded-works : {r : WriteCore} → Concluded p a₂ n o r
+      → Works (λ w. w) (afterSettling t (λ u. concluded (work u))) (r .core) a₂ (r .reply) (r .report)
   unfolding concluded
   concluded-works {r} k =
       subst (λ (q : Report). Works (λ w. w) (afterSettling t (λ u. concluded (work u))) (r .core) a₂ (r .reply) q) (sym (k .reports))

@@ -15,7 +15,8 @@ use Rattle.model.specs.Laws.Choose.{choose-true, choose-false, choose-ind}
 use Rattle.model.specs.declared.Read.{Read}
 use Rattle.model.specs.declared.Source.{Source}
 use Rattle.model.specs.declared.Place.{Place}
-use Rattle.model.specs.declared.Place.the-variants.{Fifo, IntRaw, IntSt, IntEna, IntClr, Clkdiv, Status, FsmStatus, Conf0, Conf1, ClkConf, IdleConf, Rs485Conf, AtCmdChar, MemConf, MemRxStatus, Unknown}
+use Rattle.model.specs.declared.Place.the-variants.{Fifo, IntRaw, IntSt, IntEna, IntClr, Clkdiv, Status, FsmStatus, Conf0, Conf1, ClkConf}
+use Rattle.model.specs.declared.Place.the-variants.{IdleConf, Rs485Conf, AtCmdChar, MemConf, MemRxStatus, Unknown}
 use Rattle.model.specs.declared.Unsupported.{Unsupported}
 use Rattle.model.specs.declared.Unsupported.the-variants.{UartEmptyRead, UartReceiveClock}
 use Rattle.queue.specs.Cursors
@@ -65,17 +66,20 @@ flying c a = elems-length (sentAt (a .goneAt) (a .flight)) 129 (c .flight)
 pub status-words : Words Status
 unfolding readPlace wordAt
 status-words ns c a =
-    ap₂ (λ (n m : ℕ). gives ns (abs c a) (word (statusWord (c .map .«idle_status») n m))) (flying c a) (elems-length (slotOf (a .rx) 0) 128 (c .rx))
+    ap₂ (λ (n m : ℕ). gives ns (abs c a) (word (statusWord (c .map .«idle_status») n m))) (flying c a)
+    (elems-length (slotOf (a .rx) 0) 128 (c .rx))
 
 pub fsm-words : Words FsmStatus
 unfolding readPlace wordAt
 fsm-words ns c a = ap (λ (n : ℕ). gives ns (abs c a) (word (fsmStatus n))) (flying c a)
 
-word-accesses : (p : Place) → Words p → (ns : List Unsupported) (c : Core) (a : Arrays) → Shape c a → {reply : Read} → reply ≡ asRead (wordAt c p)
+word-accesses : (p : Place) → Words p → (ns : List Unsupported) (c : Core) (a : Arrays) → Shape c a → {reply : Read}
+    → reply ≡ asRead (wordAt c p)
     → Accesses asRead (readPlace ns p (abs c a)) c a reply (noted ns)
 unfolding gives
 word-accesses p same ns c a k {reply} r =
-    subst (λ (x : Access (ReadOf ℕ) ℕ ℕ). Accesses asRead x c a reply (noted ns)) (sym (same ns c a)) (record { shape = k; replies = r; notes = refl; state = refl })
+    subst (λ (x : Access (ReadOf ℕ) ℕ ℕ). Accesses asRead x c a reply (noted ns)) (sym (same ns c a))
+    (record { shape = k; replies = r; notes = refl; state = refl })
 
 -- ---- a mistimed reception is told of once
 
@@ -102,7 +106,8 @@ seen-shape looks c a k = choose-ind (λ (x : Core). Shape x a) looks (λ _. shap
 
 -- the oldest byte and the core without it
 abbrev pub taken : Core → List ℕ → Notices → PlaceRead
-taken c rx m = record { core = withQueuesOf (c .flight) (Cursors.popped 128 (c .rx)) c; reply = Read.Value (getD rx (c .rx .start) 0); notices = m }
+taken c rx m =
+    record { core = withQueuesOf (c .flight) (Cursors.popped 128 (c .rx)) c; reply = Read.Value (getD rx (c .rx .start) 0); notices = m }
 
 -- from an empty FIFO 0, with a notice behind the others
 abbrev pub nothing : Core → Notices → PlaceRead
@@ -156,7 +161,8 @@ module _ (s : Source) (c : Core) (a : Arrays) (k : Shape c a) where
 
 -- ---- a read, from what the code finds on the way: whether the firmware looks, what it is told of, and the core seen
 
-module _ (p : Place) (c : Core) (a : Arrays) (k : Shape c a) {yes : Bool} {s : Source} {m : Notices} {seen : Core} (el : yes ≡ looks p) (es : s ≡ toldOf yes c)
+module _ (p : Place) (c : Core) (a : Arrays) (k : Shape c a) {yes : Bool} {s : Source} {m : Notices} {seen : Core} (el : yes ≡ looks p)
+    (es : s ≡ toldOf yes c)
     (em : m ≡ noted (sourceNotes UartReceiveClock s)) (ec : seen ≡ seenOf yes c) where
   seen-read : readAt p (abs c a) ≡ readPlace (sourceNotes UartReceiveClock s) p (abs seen a)
   unfolding readAt
@@ -167,7 +173,8 @@ module _ (p : Place) (c : Core) (a : Arrays) (k : Shape c a) {yes : Bool} {s : S
   held-in : Shape seen a
   held-in = subst (λ (v : Core). Shape v a) (sym ec) (seen-shape yes c a k)
 
-  pub reads-fifo : p ≡ Fifo → {slots : List ℕ} → a .rx ≡ slots → {g : PlaceRead} → g ≡ popped seen slots m → Accesses asRead (readAt p (abs c a)) (g .core) a (g .reply) (g .notices)
+  pub reads-fifo : p ≡ Fifo → {slots : List ℕ} → a .rx ≡ slots → {g : PlaceRead} → g ≡ popped seen slots m
+      → Accesses asRead (readAt p (abs c a)) (g .core) a (g .reply) (g .notices)
   reads-fifo ep ea {g} eg =
       subst (λ (x : Access (ReadOf ℕ) ℕ ℕ). Accesses asRead x (g .core) a (g .reply) (g .notices))
       (sym (seen-read ∙ ap (λ (q : Place). readPlace (sourceNotes UartReceiveClock s) q (abs seen a)) ep))

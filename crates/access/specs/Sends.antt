@@ -62,7 +62,8 @@ module _ (cycle b : ℕ) (c : Core) (a : Arrays) (k : Shape c a) where
       (record { shape = k; replies = refl; notes = e; state = refl })
 
   -- else it stands at the back, with its date
-  module _ {date slot : ℕ} (dated : date ≡ goneAt cycle (abs c a)) (back : slot ≡ backOf 129 (c .flight)) (room : c .flight .count < 129) where
+  module _ {date slot : ℕ} (dated : date ≡ goneAt cycle (abs c a)) (back : slot ≡ backOf 129 (c .flight))
+      (room : c .flight .count < 129) where
     -- the slots with the new byte and its date
     abbrev dates : List ℕ
     dates = set (a .goneAt) slot date
@@ -84,14 +85,18 @@ module _ (cycle b : ℕ) (c : Core) (a : Arrays) (k : Shape c a) where
         (subst (λ (n : ℕ). Stored n (record { goneAt = date; byte = b }) (sentAt (a .goneAt) (a .flight)) (sentAt dates bytes)) back at)
         ∙ ap (λ (d : ℕ). abs c a .inFlight ++ (record { goneAt = d; byte = b } ∷ [])) dated
 
-    sent-accesses : ltb fifoBytes (c .flight .count) ≡ false → {m : Notices} → m ≡ noted (sourceNotes UartClock (unmodelledSource (c .control .words .«clk_conf»)))
+    sent-accesses : ltb fifoBytes (c .flight .count) ≡ false → {m : Notices}
+        → m ≡ noted (sourceNotes UartClock (unmodelledSource (c .control .words .«clk_conf»)))
         → Accesses (λ x. x) (sendByte cycle b (abs c a)) (withFlightOf (pushed (c .flight)) c) (flyingIn dates bytes a) Write.Accepted m
     unfolding sendByte sent
     sent-accesses some {m} e =
-        subst (λ (x : Access Write ℕ ℕ). Accesses (λ w. w) x (withFlightOf (pushed (c .flight)) c) (flyingIn dates bytes a) Write.Accepted m)
+        subst (λ (x : Access Write ℕ ℕ). Accesses (λ w. w) x (withFlightOf (pushed (c .flight)) c) (flyingIn dates bytes a)
+        Write.Accepted m)
         (sym (choose-false (dropped (abs c a)) (sent cycle b (abs c a)) (ap (ltb fifoBytes) flying ∙ some)))
         (record {
-          shape = queues-shape c a k (push-held 129 (c .flight) (k .flight) 1 (omega arith)) (k .rx) (simp length-set (k .goneAtSlots)) (simp length-set (k .flightSlots));
+          shape =
+              queues-shape c a k (push-held 129 (c .flight) (k .flight) 1 (omega arith)) (k .rx) (simp length-set (k .goneAtSlots))
+              (simp length-set (k .flightSlots));
           replies = refl;
           notes = e;
           state = ap (λ (l : List (Sent ℕ)). withInFlight l (abs c a)) longer;
@@ -99,23 +104,28 @@ module _ (cycle b : ℕ) (c : Core) (a : Arrays) (k : Shape c a) where
 
 -- ---- for whatever stands in the other arrays
 
-module _ (cycle b : ℕ) (c : Core) (dates bytes : List ℕ) {full : Bool} (tested : full ≡ ltb fifoBytes (c .flight .count)) {m : Notices} where
+module _ (cycle b : ℕ) (c : Core) (dates bytes : List ℕ) {full : Bool} (tested : full ≡ ltb fifoBytes (c .flight .count))
+    {m : Notices} where
   pub drops-any : full ≡ true → m ≡ noted (UartOverflow ∷ []) → SendsAny cycle b c dates bytes c dates bytes Write.Accepted m
   drops-any over e = λ a ed eb k. rw (← ed, ← eb) (dropped-accesses cycle b c a k (sym tested ∙ over) e)
 
-  pub sends-any : full ≡ false → {date slot : ℕ} → ((w : List ℕ) → date ≡ goneAtOf cycle (c .control) (flightOf dates w (c .flight))) → slot ≡ backOf 129 (c .flight)
-      → m ≡ noted (sourceNotes UartClock (unmodelledSource (c .control .words .«clk_conf»))) → {flight : Cursor} → flight ≡ pushed (c .flight)
+  pub sends-any : full ≡ false → {date slot : ℕ} → ((w : List ℕ) → date ≡ goneAtOf cycle (c .control) (flightOf dates w (c .flight)))
+      → slot ≡ backOf 129 (c .flight)
+      → m ≡ noted (sourceNotes UartClock (unmodelledSource (c .control .words .«clk_conf»))) → {flight : Cursor}
+      → flight ≡ pushed (c .flight)
       → SendsAny cycle b c dates bytes (withFlightOf flight c) (set dates slot date) (set bytes slot b) Write.Accepted m
   unfolding goneAt
   sends-any some {date} {slot} dated back e {flight} next = λ a ed eb k.
       let free : ltb fifoBytes (c .flight .count) ≡ false = sym tested ∙ some in
-      let gone : date ≡ goneAt cycle (abs c a) = dated (a .flight) ∙ ap (λ (d : List ℕ). goneAtOf cycle (c .control) (flightOf d (a .flight) (c .flight))) (sym ed) in
+      let gone : date ≡ goneAt cycle (abs c a) = dated (a .flight)
+      ∙ ap (λ (d : List ℕ). goneAtOf cycle (c .control) (flightOf d (a .flight) (c .flight))) (sym ed) in
       rw (next, ← ed, ← eb) (sent-accesses cycle b c a k gone back (omega (arith, ltb-false fifoBytes (c .flight .count) free)) free e)
 
 -- ---- the tests of a FIFO write, from the numbers of the queues
 
 pub send-checks : (cycle b : ℕ) {c : Core} {a : Arrays} → Ok c a
-    → Calls.send cycle b (abs c a) ≡ unless (sending cycle (c .control .last) (c .tx .count) (c .flight .count)) Write.Refused (sendWork cycle b) (abs c a)
+    → Calls.send cycle b (abs c a) ≡ unless (sending cycle (c .control .last) (c .tx .count) (c .flight .count)) Write.Refused
+    (sendWork cycle b) (abs c a)
 send-checks cycle b {c} {a} ok =
     send-tests cycle (abs c a) b
     ∙ ap₂ (λ (n k : ℕ). unless (sending cycle (c .control .last) n k) Write.Refused (sendWork cycle b) (abs c a))

@@ -47,11 +47,13 @@ Puts x a r = Accesses (λ w. w) x (r .core) a (r .reply) (r .notices)
 module _ (c : Core) (a : Arrays) (k : Shape c a) (v : ℕ) where
   pub stored-puts : (p : Place) → {r : PlaceWrite} → r ≡ storedIn p v c → Puts (storing p v (abs c a)) a r
   unfolding storing
-  stored-puts p e = subst (Puts (storing p v (abs c a)) a) (sym e) (record { shape = shape-of c a _ k; replies = refl; notes = refl; state = refl })
+  stored-puts p e =
+      subst (Puts (storing p v (abs c a)) a) (sym e) (record { shape = shape-of c a _ k; replies = refl; notes = refl; state = refl })
 
   pub cleared-puts : {r : PlaceWrite} → r ≡ clearedIn v c → Puts (clearing v (abs c a)) a r
   unfolding clearing
-  cleared-puts e = subst (Puts (clearing v (abs c a)) a) (sym e) (record { shape = shape-of c a _ k; replies = refl; notes = refl; state = refl })
+  cleared-puts e =
+      subst (Puts (clearing v (abs c a)) a) (sym e) (record { shape = shape-of c a _ k; replies = refl; notes = refl; state = refl })
 
 -- ---- the FIFO resets of CONF0
 
@@ -59,7 +61,8 @@ abbrev pub resetFifosOf : ℕ → Core → Core
 resetFifosOf v c = withQueuesOf (choose (bit 18 v) (cutToOne (c .flight)) (c .flight)) (choose (bit 17 v) empty (c .rx)) c
 
 -- the two cursors as the code finds them
-pub resets : (v : ℕ) (c : Core) {tx rx : Bool} {f r : Cursor} → f ≡ choose tx (cutToOne (c .flight)) (c .flight) → tx ≡ bit 18 v → r ≡ choose rx empty (c .rx) → rx ≡ bit 17 v
+pub resets : (v : ℕ) (c : Core) {tx rx : Bool} {f r : Cursor} → f ≡ choose tx (cutToOne (c .flight)) (c .flight) → tx ≡ bit 18 v
+    → r ≡ choose rx empty (c .rx) → rx ≡ bit 17 v
     → withQueuesOf f r c ≡ resetFifosOf v c
 resets v c ef et er ex = rw (ef, et, er, ex)
 
@@ -74,7 +77,8 @@ module _ (v : ℕ) (c : Core) (a : Arrays) where
   reset-abs : abs (resetFifosOf v c) a ≡ resetFifos v (abs c a)
   unfolding resetFifos
   reset-abs =
-      let flight : flightOf (a .goneAt) (a .flight) (choose (bit 18 v) (cutToOne (c .flight)) (c .flight)) ≡ choose (bit 18 v) (take 1 (abs c a .inFlight)) (abs c a .inFlight) =
+      let flight : flightOf (a .goneAt) (a .flight) (choose (bit 18 v) (cutToOne (c .flight)) (c .flight))
+      ≡ choose (bit 18 v) (take 1 (abs c a .inFlight)) (abs c a .inFlight) =
       sym (choose-nat (flightOf (a .goneAt) (a .flight)) (bit 18 v) (sym (cut-elems (sentAt (a .goneAt) (a .flight)) 129 (c .flight))) refl)
       in
       let rx : rxOf (a .rx) (choose (bit 17 v) empty (c .rx)) ≡ choose (bit 17 v) [] (abs c a .rx) =
@@ -83,7 +87,8 @@ module _ (v : ℕ) (c : Core) (a : Arrays) where
       ap₂ (λ (f : List (Sent ℕ)) (l : List ℕ). withInFlight f (withRx l (abs c a))) flight rx
 
 -- CONF0 resets first, and then the word is stored
-pub conf0-puts : (c : Core) (a : Arrays) → Shape c a → (v : ℕ) {c′ : Core} → c′ ≡ resetFifosOf v c → {r : PlaceWrite} → r ≡ storedIn Place.Conf0 v c′
+pub conf0-puts : (c : Core) (a : Arrays) → Shape c a → (v : ℕ) {c′ : Core} → c′ ≡ resetFifosOf v c → {r : PlaceWrite}
+    → r ≡ storedIn Place.Conf0 v c′
     → Puts (storing Place.Conf0 v (resetFifos v (abs c a))) a r
 conf0-puts c a k v ec {r} er =
     subst (λ (u : State.Uart ℕ ℕ). Puts (storing Place.Conf0 v u) a r) (reset-abs v c a)
@@ -95,7 +100,8 @@ conf0-puts c a k v ec {r} er =
 abbrev pub Stores : ℕ → Place → Type 0
 Stores v p = (u : State.Uart ℕ ℕ) → writePlace p v u ≡ storing p v u
 
-pub other-puts : (c : Core) (a : Arrays) → Shape c a → (v : ℕ) (p : Place) → Stores v p → {r : PlaceWrite} → r ≡ storedIn p v c → Puts (writePlace p v (abs c a)) a r
+pub other-puts : (c : Core) (a : Arrays) → Shape c a → (v : ℕ) (p : Place) → Stores v p → {r : PlaceWrite} → r ≡ storedIn p v c
+    → Puts (writePlace p v (abs c a)) a r
 other-puts c a k v p same {r} e = subst (λ (x : Access Write ℕ ℕ). Puts x a r) (sym (same (abs c a))) (stored-puts c a k v p e)
 
 -- ---- the period stays, so that the wake can be armed

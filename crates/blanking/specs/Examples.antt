@@ -6,7 +6,9 @@ use Rattle.model.specs.Numbers.{choose}
 use Rattle.model.specs.Call.{Call}
 use Rattle.blanking.specs.Blanked.{blankByte, blankWord, blankWritten, blanked, blankedList}
 
-row : blankedList 0 (Call.write 100 (record { offset = 0; value = 82 }) ∷ Call.write 100 (record { offset = 12; value = 256 }) ∷ Call.receive 100 520 (114 ∷ 111 ∷ []) ∷ [])
-    ≡ Call.write 100 (record { offset = 0; value = 0 }) ∷ Call.write 100 (record { offset = 12; value = 256 }) ∷ Call.receive 100 520 (0 ∷ 0 ∷ []) ∷ []
+row : blankedList 0 (Call.write 100 (record { offset = 0; value = 82 }) ∷ Call.write 100 (record { offset = 12; value = 256 })
+    ∷ Call.receive 100 520 (114 ∷ 111 ∷ []) ∷ [])
+    ≡ Call.write 100 (record { offset = 0; value = 0 }) ∷ Call.write 100 (record { offset = 12; value = 256 })
+    ∷ Call.receive 100 520 (0 ∷ 0 ∷ []) ∷ []
 unfolding blanked blankWritten blankWord blankByte choose
 row = refl

@@ -30,7 +30,8 @@ write-alike fifo now x = by-test (eqb (x .offset) fifo) refl
     by-test : (t : Bool) → eqb (x .offset) fifo ≡ t
         → Alike fifo (Call.write now x) (Call.write now (record { offset = x .offset; value = choose t (blankByte (x .value)) (x .value) }))
     by-test true e =
-        subst (λ o. Alike fifo (Call.write now (record { offset = o; value = x .value })) (Call.write now (record { offset = o; value = blankByte (x .value) })))
+        subst (λ o. Alike fifo (Call.write now (record { offset = o; value = x .value }))
+        (Call.write now (record { offset = o; value = blankByte (x .value) })))
         (sym (eqb-true _ _ e)) Alike.fifoWord
     by-test false e = Alike.same
 
@@ -77,7 +78,8 @@ blank-same : (fifo : ℕ) {c d : Request} → Alike fifo c d → blanked fifo c 
 unfolding blanked blankWritten
 blank-same fifo Alike.same = refl
 blank-same fifo (Alike.hostBytes {now = now} {at = at} {bs = bs} {bs′ = bs′} e) = ap (λ l. Call.receive now at l) (same-blank bs bs′ e)
-blank-same fifo (Alike.fifoWord {now = now} {v = v} {v′ = v′}) = ap (λ w. Call.write now (record { offset = fifo; value = w })) (same-word fifo v v′)
+blank-same fifo (Alike.fifoWord {now = now} {v = v} {v′ = v′}) =
+    ap (λ w. Call.write now (record { offset = fifo; value = w })) (same-word fifo v v′)
 blank-same fifo (Alike.lentToTakeTx {now = now} {lent = l} {lent′ = m} e) = ap (λ k. Call.takeTx now k) (same-blank l m e)
 blank-same fifo (Alike.lentToTakeWritten {lent = l} {lent′ = m} e) = ap Call.takeWritten (same-blank l m e)
 

@@ -54,7 +54,8 @@ pub record Works {X R : Type 0} (view : X → R) (o : Outcome X ℕ ℕ) (c′ :
   pub state : abs c′ a′ ≡ o .state
 
 -- the same of what is done between settling and report
-pub record Accesses {X R : Type 0} (view : X → R) (x : Access X ℕ ℕ) (c′ : Core) (a′ : Arrays) (reply : R) (notices : Notices) : Type 0 where
+pub record Accesses {X R : Type 0} (view : X → R) (x : Access X ℕ ℕ) (c′ : Core) (a′ : Arrays) (reply : R)
+    (notices : Notices) : Type 0 where
   pub shape : Shape c′ a′
   pub replies : reply ≡ view (x .reply)
   pub notes : notices ≡ noted (x .notes)
@@ -95,7 +96,8 @@ module _ {X R : Type 0} (view : X → R) where
 module _ {X R : Type 0} (view : X → R) (number : X → ℕ) {o : Outcome X ℕ ℕ} {tests : Option Refusal} (refuse : Refusal → X)
     (work : State.Uart ℕ ℕ → Outcome X ℕ ℕ) (c : Core) (a : Arrays) (e : o ≡ unless tests refuse work (abs c a)) where
   -- no test refuses
-  pub carried : {c′ : Core} {a′ : Arrays} {reply : R} {report : Report} → tests ≡ none → Within (o .state) → number (work (abs c a) .reply) ≡ 0
+  pub carried : {c′ : Core} {a′ : Arrays} {reply : R} {report : Report} → tests ≡ none → Within (o .state)
+      → number (work (abs c a) .reply) ≡ 0
       → Works view (work (abs c a)) c′ a′ reply report → Answers view number o c a c′ a′ reply report
   unfolding unless
   carried {c′} {a′} {reply} {report} t w z k =

@@ -55,7 +55,8 @@ abbrev pub leveledLine : Core → Line
 leveledLine c = Levels.levels (c .control .words .conf1) (c .rx .count) (c .flight .count) (c .control .line)
 
 abbrev pub leveledCore : Core → Core
-leveledCore c = withControlOf (withLevel (Levels.level (c .control .words .«int_ena») (leveledLine c)) (withLine (leveledLine c) (c .control))) c
+leveledCore c =
+    withControlOf (withLevel (Levels.level (c .control .words .«int_ena») (leveledLine c)) (withLine (leveledLine c) (c .control))) c
 
 -- words as at reset, the line cleared, nothing in flight or received
 abbrev pub clearedCore : Core → Core
@@ -101,12 +102,18 @@ module _ (cycle : ℕ) (c : Core) (a : Arrays) (ok : Ok c a) where
     shape = shape-of c a _ (ok .shape);
     within =
         through (abs c a) (abs (calledCore cycle c) a)
-        (λ p. putClock p (record { low = p .clock .low; high = p .clock .high; last = p .clock .last; wake = called-within cycle (c .control .wake) (p .clock .wake) }))
+        (λ p. putClock p (record {
+          low = p .clock .low;
+          high = p .clock .high;
+          last = p .clock .last;
+          wake = called-within cycle (c .control .wake) (p .clock .wake);
+        }))
         (ok .within);
   }
 
 -- what arming asks
-pub ready : (c : Core) (a : Arrays) → Shape c a → c .control .period ≤ periodLimit → Ready c (a .goneAt) × Held 64 (c .runs) × (length (a .runAt) ≡ 64)
+pub ready : (c : Core) (a : Arrays) → Shape c a → c .control .period ≤ periodLimit
+    → Ready c (a .goneAt) × Held 64 (c .runs) × (length (a .runAt) ≡ 64)
 ready c a k h = (record { flight = k .flight; slots = k .goneAtSlots; period = h }, k .runs, k .runDateSlots)
 
 -- ---- what they stand for
@@ -115,7 +122,8 @@ pub leveled-abs : (c : Core) (a : Arrays) → abs (leveledCore c) a ≡ Settle.l
 unfolding Settle.levels
 leveled-abs c a =
     sym (ap (λ (x : Control). withControl x (abs c a))
-    (control-after (c .control) (elems-length (slotOf (a .rx) 0) 128 (c .rx)) (elems-length (sentAt (a .goneAt) (a .flight)) 129 (c .flight)) refl refl))
+    (control-after (c .control) (elems-length (slotOf (a .rx) 0) 128 (c .rx))
+    (elems-length (sentAt (a .goneAt) (a .flight)) 129 (c .flight)) refl refl))
 
 pub cleared-abs : (c : Core) (a : Arrays) → abs (clearedCore c) a ≡ cleared (abs c a)
 unfolding cleared

@@ -20,11 +20,13 @@ abbrev pub ConcludesAny : Core → List ℕ → List ℕ → Core → Type 0
 ConcludesAny c goneAt runAt c′ = (a : Arrays) → a .goneAt ≡ goneAt → a .runAt ≡ runAt → Shape c a → Concludes c a c′
 
 -- what arming asks is not changed by the levels
-pub leveled-ready : (c : Core) {c′ : Core} {goneAt : List ℕ} {slots : Type 0} → c′ ≡ leveledCore c → Ready c goneAt × Held 64 (c .runs) × slots
+pub leveled-ready : (c : Core) {c′ : Core} {goneAt : List ℕ} {slots : Type 0} → c′ ≡ leveledCore c
+    → Ready c goneAt × Held 64 (c .runs) × slots
     → Ready c′ goneAt × Held 64 (c′ .runs) × slots
 leveled-ready c e k = rw e (record { flight = k .0 .flight; slots = k .0 .slots; period = k .0 .period }, k .1, k .2)
 
-pub concludes-any : (c : Core) {goneAt runAt : List ℕ} {c₁ c₂ : Core} → c₁ ≡ leveledCore c → ArmsAny c₁ goneAt runAt c₂ → ConcludesAny c goneAt runAt c₂
+pub concludes-any : (c : Core) {goneAt runAt : List ℕ} {c₁ c₂ : Core} → c₁ ≡ leveledCore c → ArmsAny c₁ goneAt runAt c₂
+    → ConcludesAny c goneAt runAt c₂
 concludes-any c {goneAt} {runAt} {c₁} {c₂} el arms a eg er k =
     let all : ArmsAny (leveledCore c) goneAt runAt c₂ = subst (λ (x : Core). ArmsAny x goneAt runAt c₂) el arms in
     let x = all a eg er (shape-of c a _ k) in

@@ -25,13 +25,15 @@ module _ (call work : State.Uart ℕ ℕ → Outcome Done ℕ ℕ) {tests : Opti
       → doneNumber (work (abs c a) .reply) ≡ 0 → Works (λ x. x) (work (abs c a)) c′ a′ reply report → DoneWith call c a c′ a′ reply report
   done-carried t w z k = carried (λ x. x) doneNumber Done.Refused work c a e t w z k
 
-  pub done-refused : {q : Refusal} {r : DoneCore} → tests ≡ some q → r ≡ refusedCore c q → DoneWith call c a (r .core) a (r .reply) (r .report)
+  pub done-refused : {q : Refusal} {r : DoneCore} → tests ≡ some q → r ≡ refusedCore c q
+      → DoneWith call c a (r .core) a (r .reply) (r .report)
   done-refused t same =
       subst (λ (x : DoneCore). DoneWith call c a (x .core) a (x .reply) (x .report)) (sym same)
       (turned-away (λ x. x) doneNumber Done.Refused work c a e t ok)
 
 -- settled and armed
-pub armed-done : {t : Settle.Settled ℕ ℕ} {c₁ : Core} {a₁ : Arrays} {n o : ℕ} {c₂ : Core} {r : DoneCore} → Settles t c₁ a₁ n o → ArmsAny c₁ (a₁ .goneAt) (a₁ .runAt) c₂
+pub armed-done : {t : Settle.Settled ℕ ℕ} {c₁ : Core} {a₁ : Arrays} {n o : ℕ} {c₂ : Core} {r : DoneCore} → Settles t c₁ a₁ n o
+    → ArmsAny c₁ (a₁ .goneAt) (a₁ .runAt) c₂
     → r ≡ doneCore c₂ n o → Works (λ x. x) (afterSettling t (λ s. quiet Done.Done (arm s))) (r .core) a₁ (r .reply) (r .report)
 armed-done {t} {a₁ = a₁} s arms same =
     subst (λ (x : DoneCore). Works (λ w. w) (afterSettling t (λ s. quiet Done.Done (arm s))) (x .core) a₁ (x .reply) (x .report)) (sym same)

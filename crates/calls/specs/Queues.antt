@@ -23,7 +23,8 @@ withQueuesOf flight rx c = record {
 }
 
 abbrev pub flyingIn : List ℕ → List ℕ → Arrays → Arrays
-flyingIn dates bytes a = record { goneAt = dates; flight = bytes; tx = a .tx; host = a .host; runAt = a .runAt; runLen = a .runLen; rx = a .rx }
+flyingIn dates bytes a =
+    record { goneAt = dates; flight = bytes; tx = a .tx; host = a .host; runAt = a .runAt; runLen = a .runLen; rx = a .rx }
 
 -- the queues stand in their slots again
 pub queues-shape : (c : Core) (a : Arrays) → Shape c a → {flight rx : Cursor} → Held 129 flight → Held 128 rx → {dates bytes : List ℕ}

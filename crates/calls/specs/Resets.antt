@@ -18,21 +18,26 @@ use Rattle.calls.specs.declared.answers.DoneCore.{DoneCore}
 use Rattle.calls.specs.Concludes.{ConcludesAny}
 
 -- what arming asks, of the cleared core
-pub cleared-ready : {c : Core} {a : Arrays} {c′ : Core} → Ok c a → c′ ≡ clearedCore c → Ready c′ (a .goneAt) × Held 64 (c′ .runs) × (length (a .runAt) ≡ 64)
+pub cleared-ready : {c : Core} {a : Arrays} {c′ : Core} → Ok c a → c′ ≡ clearedCore c
+    → Ready c′ (a .goneAt) × Held 64 (c′ .runs) × (length (a .runAt) ≡ 64)
 cleared-ready {c} {a} ok e =
     subst (λ (x : Core). Ready x (a .goneAt) × Held 64 (x .runs) × (length (a .runAt) ≡ 64)) (sym e)
     (ready (clearedCore c) a (cleared-shape c a (ok .shape)) (ok .within .periodHigh))
 
-module _ (cycle : ℕ) {c : Core} {a : Arrays} (ok : Ok c a) {from : Core} (up : from ≡ withControlOf (withPoweredDownAt Date.None (c .control)) c) where
+module _ (cycle : ℕ) {c : Core} {a : Arrays} (ok : Ok c a) {from : Core}
+    (up : from ≡ withControlOf (withPoweredDownAt Date.None (c .control)) c) where
   pub from-ok : Ok from a
   from-ok = subst (λ (x : Core). Ok x a) (sym up) (put-down-ok cycle c a ok Date.None)
 
-  pub restarted : {c₁ : Core} {a₁ : Arrays} {n o : ℕ} {c₂ c₃ : Core} {r : DoneCore} → Settles (settleAt cycle (abs from a)) c₁ a₁ n o → c₂ ≡ clearedCore c₁
-      → ConcludesAny c₂ (a₁ .goneAt) (a₁ .runAt) c₃ → r ≡ doneCore c₃ n o → Works (λ x. x) (resetWork cycle (abs c a)) (r .core) a₁ (r .reply) (r .report)
+  pub restarted : {c₁ : Core} {a₁ : Arrays} {n o : ℕ} {c₂ c₃ : Core} {r : DoneCore} → Settles (settleAt cycle (abs from a)) c₁ a₁ n o
+      → c₂ ≡ clearedCore c₁
+      → ConcludesAny c₂ (a₁ .goneAt) (a₁ .runAt) c₃ → r ≡ doneCore c₃ n o
+      → Works (λ x. x) (resetWork cycle (abs c a)) (r .core) a₁ (r .reply) (r .report)
   unfolding resetWork quiet
   restarted {c₁} {a₁} {n} {o} {c₃ = c₃} s ec concludes same =
       let settled = subst (λ (x : Core). Settles (settleAt cycle (abs x a)) c₁ a₁ n o) up s in
-      let k = subst (λ (x : Core). ConcludesAny x (a₁ .goneAt) (a₁ .runAt) c₃) ec concludes a₁ refl refl (cleared-shape c₁ a₁ (s .ok .shape)) in
+      let k =
+      subst (λ (x : Core). ConcludesAny x (a₁ .goneAt) (a₁ .runAt) c₃) ec concludes a₁ refl refl (cleared-shape c₁ a₁ (s .ok .shape)) in
       subst (λ (x : DoneCore). Works (λ w. w) (resetWork cycle (abs c a)) (x .core) a₁ (x .reply) (x .report)) (sym same)
       (after (λ x. x) settled _
       (record {

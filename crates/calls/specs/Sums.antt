@@ -54,7 +54,8 @@ few now u w s =
     (omega (arith, p, few-passes now u w), omega (arith, o, fewer-overflows now u, few-passes now u w))
 
 -- the same of one that moves the last date first
-pub few-at : (now : ℕ) (u : Uart ℕ ℕ) {c : Core} {a : Arrays} {n o : ℕ} → Within u → now < dateEnd → Settles (settleAt now u) c a n o → (n ≤ 2052) × (o ≤ 2052)
+pub few-at : (now : ℕ) (u : Uart ℕ ℕ) {c : Core} {a : Arrays} {n o : ℕ} → Within u → now < dateEnd → Settles (settleAt now u) c a n o
+    → (n ≤ 2052) × (o ≤ 2052)
 unfolding settleAt
 few-at now u w h s = few now (dated now u) (through u (dated now u) (moved-parts now u h) w) s
 
@@ -72,11 +73,13 @@ twice now u {n₁ = n₁} {o₁ = o₁} period first second = record {
 
 -- ---- over parts, from the core with the period set
 
-module _ (now period : ℕ) (low : period ≤ periodLimit) {c₁ : Core} {a₁ : Arrays} (ok : Ok c₁ a₁) {from : Core} (set : from ≡ clockedCore period c₁) where
+module _ (now period : ℕ) (low : period ≤ periodLimit) {c₁ : Core} {a₁ : Arrays} (ok : Ok c₁ a₁) {from : Core}
+    (set : from ≡ clockedCore period c₁) where
   pub from-ok : Ok from a₁
   from-ok = subst (λ (x : Core). Ok x a₁) (sym set) (clocked-ok now c₁ a₁ ok period low)
 
-  second-of : {c₂ : Core} {a₂ : Arrays} {n₂ o₂ : ℕ} → Settles (settle now (abs from a₁)) c₂ a₂ n₂ o₂ → Settles (settle now (abs (clockedCore period c₁) a₁)) c₂ a₂ n₂ o₂
+  second-of : {c₂ : Core} {a₂ : Arrays} {n₂ o₂ : ℕ} → Settles (settle now (abs from a₁)) c₂ a₂ n₂ o₂
+      → Settles (settle now (abs (clockedCore period c₁) a₁)) c₂ a₂ n₂ o₂
   second-of {c₂} {a₂} {n₂} {o₂} s = subst (λ (x : Core). Settles (settle now (abs x a₁)) c₂ a₂ n₂ o₂) set s
 
   -- the sums fit
@@ -88,7 +91,8 @@ module _ (now period : ℕ) (low : period ≤ periodLimit) {c₁ : Core} {a₁ :
       (omega (arith, one .0, two .0), omega (arith, one .1, two .1))
 
   pub reclocks : {c : Core} {a : Arrays} {n₁ o₁ : ℕ} {c₂ : Core} {a₂ : Arrays} {n₂ o₂ : ℕ} {c₃ : Core} {r : DoneCore} → Ok c a
-      → Settles (settleAt now (abs c a)) c₁ a₁ n₁ o₁ → Settles (settle now (abs from a₁)) c₂ a₂ n₂ o₂ → ArmsAny c₂ (a₂ .goneAt) (a₂ .runAt) c₃
+      → Settles (settleAt now (abs c a)) c₁ a₁ n₁ o₁ → Settles (settle now (abs from a₁)) c₂ a₂ n₂ o₂
+      → ArmsAny c₂ (a₂ .goneAt) (a₂ .runAt) c₃
       → r ≡ doneCore c₃ (n₁ + n₂) (o₁ + o₂) → Works (λ x. x) (clockWork now period (abs c a)) (r .core) a₂ (r .reply) (r .report)
   unfolding clockWork
   reclocks {c} {a} _ first second arms same = armed-done (twice now (abs c a) period first (second-of second)) arms same

@@ -18,16 +18,19 @@ unfolding hasLeft undated
 has-left-of c a = ap (ltb 0) (sym (elems-length (slotOf (a .tx) 0) 1152 (c .tx)))
 
 -- the bytes that wait, and none or one on the line
-pending-of : (c : Core) (a : Arrays) (n : ℕ) → onTheLine (Holds.onTheLine (c .receiving) (c .byte)) ≡ n → c .host .count + n ≡ hostPending (abs c a) .reply
+pending-of : (c : Core) (a : Arrays) (n : ℕ) → onTheLine (Holds.onTheLine (c .receiving) (c .byte)) ≡ n
+    → c .host .count + n ≡ hostPending (abs c a) .reply
 unfolding hostPending undated pending
 pending-of c a n e = omega (arith, elems-length (slotOf (a .host) 0) 1024 (c .host), e)
 
 pub pending-free : (c : Core) (a : Arrays) → c .receiving ≡ Receiving.None → c .host .count ≡ hostPending (abs c a) .reply
 unfolding onTheLine Holds.onTheLine
 pending-free c a e =
-    let more : c .host .count + 0 ≡ hostPending (abs c a) .reply = pending-of c a 0 (ap (λ (r : Receiving). onTheLine (Holds.onTheLine r (c .byte))) e) in
+    let more : c .host .count + 0 ≡ hostPending (abs c a) .reply =
+    pending-of c a 0 (ap (λ (r : Receiving). onTheLine (Holds.onTheLine r (c .byte))) e) in
     omega (arith, more)
 
-pub pending-on : (c : Core) (a : Arrays) (f : Frame) → c .receiving ≡ Receiving.OnTheLine f → c .host .count + 1 ≡ hostPending (abs c a) .reply
+pub pending-on : (c : Core) (a : Arrays) (f : Frame) → c .receiving ≡ Receiving.OnTheLine f
+    → c .host .count + 1 ≡ hostPending (abs c a) .reply
 unfolding onTheLine Holds.onTheLine
 pending-on c a f e = pending-of c a 1 (ap (λ (r : Receiving). onTheLine (Holds.onTheLine r (c .byte))) e)

@@ -16,6 +16,7 @@ module _ (cycle : ℕ) {c : Core} {a : Arrays} (ok : Ok c a) {from : Core} (call
   from-ok = subst (λ (x : Core). Ok x a) (sym called) (called-ok cycle c a ok)
 
   pub woken : {c₁ : Core} {a₁ : Arrays} {n o : ℕ} {c₂ : Core} {r : DoneCore} → Settles (settleAt cycle (abs from a)) c₁ a₁ n o
-      → ArmsAny c₁ (a₁ .goneAt) (a₁ .runAt) c₂ → r ≡ doneCore c₂ n o → Works (λ x. x) (wakeWork cycle (abs c a)) (r .core) a₁ (r .reply) (r .report)
+      → ArmsAny c₁ (a₁ .goneAt) (a₁ .runAt) c₂ → r ≡ doneCore c₂ n o
+      → Works (λ x. x) (wakeWork cycle (abs c a)) (r .core) a₁ (r .reply) (r .report)
   unfolding wakeWork
   woken {c₁} {a₁} {n} {o} s arms same = armed-done (subst (λ (x : Core). Settles (settleAt cycle (abs x a)) c₁ a₁ n o) called s) arms same

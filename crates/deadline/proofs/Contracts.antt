@@ -48,10 +48,20 @@ module _ {M : Type 1} (𝓤 : URA M) (H : Heap 𝓤) (A : Atoms 𝓤) (f : Deadl
   takenClauses = λ κs a. record { ghost = Unit {0}; requires = λ g. ⊤ₛ; ensures = λ g r e. ⌜ r ≡ f (a .0) (a .1 .0) ⌝ }
 
   abbrev pub lentSpec : Spec 𝓤 lentSignature
-  lentSpec = λ κs a. record { ghost = Unit {0}; requires = λ g. ⊤ₛ; ensures = λ g r. exits 𝓤 H A lentSignature (lent .kept) κs a (λ e. lentClauses κs a .ensures g r e) }
+  lentSpec =
+      λ κs a. record {
+        ghost = Unit {0};
+        requires = λ g. ⊤ₛ;
+        ensures = λ g r. exits 𝓤 H A lentSignature (lent .kept) κs a (λ e. lentClauses κs a .ensures g r e);
+      }
 
   abbrev pub takenSpec : Spec 𝓤 takenSignature
-  takenSpec = λ κs a. record { ghost = Unit {0}; requires = λ g. ⊤ₛ; ensures = λ g r. exits 𝓤 H A takenSignature (taken .kept) κs a (λ e. takenClauses κs a .ensures g r e) }
+  takenSpec =
+      λ κs a. record {
+        ghost = Unit {0};
+        requires = λ g. ⊤ₛ;
+        ensures = λ g r. exits 𝓤 H A takenSignature (taken .kept) κs a (λ e. takenClauses κs a .ensures g r e);
+      }
 
   abbrev pub Lends : Contract 𝓤
   Lends = tripleOf 𝓤 H A lentSignature lentSpec

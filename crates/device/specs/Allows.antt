@@ -39,7 +39,8 @@ stored-room : (s : Settings) (held : ℕ) (f : Frame) → isStored (Found.Landed
 unfolding fate
 stored-room s held f =
     choose-ind Room _
-    (λ _. choose-ind Room _ (λ _. choose-ind Room _ (λ _ e. never e) (λ _. choose-ind Room _ (λ t _. ltb-true _ _ t) (λ _ e. never e))) (λ _ e. never e))
+    (λ _. choose-ind Room _ (λ _. choose-ind Room _ (λ _ e. never e) (λ _. choose-ind Room _ (λ t _. ltb-true _ _ t) (λ _ e. never e)))
+    (λ _ e. never e))
     (λ _ e. never e)
   where
     Room : Fate → Type 0
@@ -47,7 +48,8 @@ stored-room s held f =
 
 module _ (s : Settings) (held : ℕ) (waits : Date) (on : Receiving) where
   -- nothing moves into the receive FIFO
-  still : (started : Bool) (r : Receiving) (l : Line) → (started ≡ true → isSet waits ≡ true) → (started ≡ false → isOn r ≡ true → isOn on ≡ true)
+  still : (started : Bool) (r : Receiving) (l : Line) → (started ≡ true → isSet waits ≡ true)
+      → (started ≡ false → isOn r ≡ true → isOn on ≡ true)
       → Allows held waits on (resting started r l) × Allows held waits on (timingOut s held started r l)
   unfolding resting timingOut
   still started r l w k = (
@@ -65,7 +67,8 @@ module _ (s : Settings) (held : ℕ) (waits : Date) (on : Receiving) where
   unfolding inFrame
   in-frame date started f l w k =
       choose-ind (Allows held waits on) _ (λ _. still started (Receiving.OnTheLine f) l w (λ e _. k e) .1)
-      (λ _. choose-ind (Allows held waits on) _ (λ _. still started (Receiving.OnTheLine f) l w (λ e _. k e) .0) (λ _. lands started f l w k))
+      (λ _. choose-ind (Allows held waits on) _ (λ _. still started (Receiving.OnTheLine f) l w (λ e _. k e) .0)
+      (λ _. lands started f l w k))
 
   -- no byte is on the line, and none started
   free : (l : Line) → Allows held waits on (resting false Receiving.None l) × Allows held waits on (timingOut s held false Receiving.None l)

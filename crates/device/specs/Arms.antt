@@ -83,7 +83,8 @@ module _ (dates bytes : List ℕ) (c : Cursor) where
   pub gone-in : (n : ℕ) → n < c .count → Date.At (getD dates (nthOf 129 n c) 0) ≡ nthGone n (flightOf dates bytes c)
   gone-in n h =
       let d : Sent ℕ = sentAt dates bytes 0 in
-      sym (nth-in d n (flightOf dates bytes c) (omega (arith, count)) ∙ ap (λ (s : Sent ℕ). Date.At (s .goneAt)) (elems-nth (sentAt dates bytes) 129 c n d h))
+      sym (nth-in d n (flightOf dates bytes c) (omega (arith, count))
+      ∙ ap (λ (s : Sent ℕ). Date.At (s .goneAt)) (elems-nth (sentAt dates bytes) 129 c n d h))
 
   pub gone-out : (n : ℕ) → c .count ≤ n → Date.None ≡ nthGone n (flightOf dates bytes c)
   gone-out n h = sym (nth-out n (flightOf dates bytes c) (omega (arith, count)))
@@ -102,13 +103,16 @@ pub armed-by : (c : Core) (a : Arrays) (goneAt : List ℕ) (runDate : ℕ) → a
     → Held 1024 (c .host) → Held 64 (c .runs)
     → {s : Settings} {last waits landing comes timeout below gone first w : Date} {which : Below}
     → s ≡ Timing.settings (c .control .words) (c .control .period) → last ≡ lastGone (flightOf goneAt (a .flight) (c .flight))
-    → waits ≡ waitingAt (c .host .count) (c .runs .count) runDate → landing ≡ nextLanding (s .«byte_time») (c .receiving) waits (c .control .line)
+    → waits ≡ waitingAt (c .host .count) (c .runs .count) runDate
+    → landing ≡ nextLanding (s .«byte_time») (c .receiving) waits (c .control .line)
     → comes ≡ timeoutAt s (c .control .line) → timeout ≡ onlyIf (s .«rx_tout_en») comes
-    → which ≡ belowThreshold (emptyThreshold (c .control .words .conf1)) (c .flight .count) → below ≡ goneBelow which (flightOf goneAt (a .flight) (c .flight))
+    → which ≡ belowThreshold (emptyThreshold (c .control .words .conf1)) (c .flight .count)
+    → below ≡ goneBelow which (flightOf goneAt (a .flight) (c .flight))
     → gone ≡ nthGone 0 (flightOf goneAt (a .flight) (c .flight)) → first ≡ onlyIf (c .control .watched) gone
     → w ≡ armAll (last ∷ landing ∷ timeout ∷ below ∷ first ∷ []) (c .control .wake) → w ≡ armAll (instants (abs c a)) (c .control .wake)
 unfolding settingsOf firstGone
-armed-by c a goneAt runDate ea er hh rh {s} {last} {waits} {landing} {comes} {timeout} {below} {gone} {first} {w} {which} es el ew eg ec et ek eb en ef e =
+armed-by c a goneAt runDate ea er hh rh {s} {last} {waits} {landing} {comes} {timeout} {below} {gone} {first} {w} {which} es el ew eg ec et
+    ek eb en ef e =
     let u : State.Uart ℕ ℕ = abs c a in
     let flying : flightOf goneAt (a .flight) (c .flight) ≡ u .inFlight = ap (λ (l : List ℕ). flightOf l (a .flight) (c .flight)) (sym ea) in
     let mine : last ∷ landing ∷ timeout ∷ below ∷ first ∷ [] ≡ instants u =

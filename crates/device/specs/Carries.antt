@@ -58,12 +58,15 @@ waiting-of hosts dates counts h r hh rh =
     (λ (p : 0 < h .count).
     ⊎-elim
     (λ (q : 0 < r .count).
-    rw (lt-ltb 0 (h .count) p, lt-ltb 0 (r .count) q) (ap₂ waiting (first-elems (runIn dates counts) 64 r rh q) (first-elems (slotOf hosts 0) 1024 h hh p)))
+    rw (lt-ltb 0 (h .count) p, lt-ltb 0 (r .count) q)
+    (ap₂ waiting (first-elems (runIn dates counts) 64 r rh q) (first-elems (slotOf hosts 0) 1024 h hh p)))
     (λ (q : r .count ≤ 0).
-    rw (lt-ltb 0 (h .count) p, le-ltb 0 (r .count) q) (ap (λ (l : List Run). waiting l (hostOf hosts h)) (elems-none (runIn dates counts) 64 r (omega arith))))
+    rw (lt-ltb 0 (h .count) p, le-ltb 0 (r .count) q)
+    (ap (λ (l : List Run). waiting l (hostOf hosts h)) (elems-none (runIn dates counts) 64 r (omega arith))))
     (side 0 (r .count)))
     (λ (p : h .count ≤ 0).
-    rw (le-ltb 0 (h .count) p) (ap (waiting (runsOf dates counts r)) (elems-none (slotOf hosts 0) 1024 h (omega arith)) ∙ waiting-nil (runsOf dates counts r)))
+    rw (le-ltb 0 (h .count) p) (ap (waiting (runsOf dates counts r)) (elems-none (slotOf hosts 0) 1024 h (omega arith))
+    ∙ waiting-nil (runsOf dates counts r)))
     (side 0 (h .count))
 
 waits-yes : (host runs date : ℕ) → isSet (waitingAt host runs date) ≡ true → (0 < host) × (0 < runs)
@@ -77,7 +80,8 @@ waits-yes host runs date e =
 
 -- ---- the byte that a pass is about
 
-subject-of : (t : Bool) (hosts : List ℕ) (h : Cursor) (r : Receiving) (b : ℕ) → Held 1024 h → (t ≡ true → 0 < h .count) → (t ≡ false → isOn r ≡ true)
+subject-of : (t : Bool) (hosts : List ℕ) (h : Cursor) (r : Receiving) (b : ℕ) → Held 1024 h → (t ≡ true → 0 < h .count)
+    → (t ≡ false → isOn r ≡ true)
     → subject t (hostOf hosts h) (onTheLine r b) ≡ choose t (getD hosts (h .start) 0) b ∷ []
 unfolding subject lineByte onTheLine isOn choose
 subject-of true hosts h r b hh w k = ap (take 1) (first-elems (slotOf hosts 0) 1024 h hh (w refl))
@@ -103,7 +107,8 @@ drop-same false l = refl
 
 module _ (dates counts : List ℕ) (c : Cursor) (h : Held 64 c) (long : length counts ≡ 64) where
   -- a store at the first run's count, in the slots of the runs
-  lowered : (n : ℕ) → Stored (c .start) (record { date = getD dates (c .start) 0; count = n }) (runIn dates counts) (runIn dates (set counts (c .start) n))
+  lowered : (n : ℕ) → Stored (c .start) (record { date = getD dates (c .start) 0; count = n }) (runIn dates counts)
+      (runIn dates (set counts (c .start) n))
   lowered n =
       both {C = Run} (λ d k. record { date = d; count = k }) (c .start) (Stores.kept (c .start) (slotOf dates 0))
       (set-stored counts 0 (c .start) n (rw long (h .low)))
@@ -119,22 +124,26 @@ module _ (dates counts : List ℕ) (c : Cursor) (h : Held 64 c) (long : length c
       ∙ sym (ap popRun (first-elems (runIn dates counts) 64 c h pos) ∙ rw (popRun, e))
   first-run pos false e =
       first-stored (runIn dates counts) _ 64 c h _ pos (lowered (getD counts (c .start) 0 - 1))
-      ∙ ap (λ (l : List Run). record { date = getD dates (c .start) 0; count = getD counts (c .start) 0 - 1 } ∷ drop 1 l) (first-elems (runIn dates counts) 64 c h pos)
+      ∙ ap (λ (l : List Run). record { date = getD dates (c .start) 0; count = getD counts (c .start) 0 - 1 } ∷ drop 1 l)
+      (first-elems (runIn dates counts) 64 c h pos)
       ∙ sym (ap popRun (first-elems (runIn dates counts) 64 c h pos) ∙ rw (popRun, e))
 
   runs-of : (t : Bool) → (t ≡ true → 0 < c .count)
-      → runsOf dates (set counts (c .start) (getD counts (c .start) 0 - num t)) (poppedIf 64 (spent t (getD counts (c .start) 0)) c) ≡ popRunIf t (runsOf dates counts c)
+      → runsOf dates (set counts (c .start) (getD counts (c .start) 0 - num t)) (poppedIf 64 (spent t (getD counts (c .start) 0)) c)
+      ≡ popRunIf t (runsOf dates counts c)
   unfolding spent popRunIf poppedIf
   runs-of true w = first-run (w refl) (leb (getD counts (c .start) 0) 1) refl
   runs-of false w =
       let z : getD counts (c .start) 0 - 0 ≡ getD counts (c .start) 0 = omega arith in
-      rw z (same-stored (runIn dates counts) (runIn dates (set counts (c .start) (getD counts (c .start) 0))) 64 c (c .start) (lowered (getD counts (c .start) 0)))
+      rw z (same-stored (runIn dates counts) (runIn dates (set counts (c .start) (getD counts (c .start) 0))) 64 c (c .start)
+      (lowered (getD counts (c .start) 0)))
 
 -- ---- one pass
 
 -- what the control decides
 abbrev pub moveOf : Settings → ℕ → Reception → List ℕ → Move
-moveOf s date at dates = move s (at .rx .count) date (waitingAt (at .host .count) (at .runs .count) (getD dates (at .runs .start) 0)) (at .receiving) (at .line)
+moveOf s date at dates =
+    move s (at .rx .count) date (waitingAt (at .host .count) (at .runs .count) (getD dates (at .runs .start) 0)) (at .receiving) (at .line)
 
 -- the byte that a pass is about
 abbrev pub byteOf : Move → Reception → List ℕ → ℕ
@@ -176,7 +185,8 @@ module _ (s : Settings) (date : ℕ) (at : Reception) (hosts dates counts rxs : 
 
   -- where a byte is on the line after the pass, or is stored in it, there was one
   about : (t : Bool) → m .started ≡ t → (t ≡ false → isOn (at .receiving) ≡ true)
-      → subject t (hostOf hosts (at .host)) (onTheLine (at .receiving) (at .byte)) ≡ choose t (getD hosts (at .host .start) 0) (at .byte) ∷ []
+      → subject t (hostOf hosts (at .host)) (onTheLine (at .receiving) (at .byte))
+      ≡ choose t (getD hosts (at .host .start) 0) (at .byte) ∷ []
   about t e k = subject-of t hosts (at .host) (at .receiving) (at .byte) (fit .host) (λ y. starts (e ∙ y) .0) k
 
   fit-after : Fit (carried m at hosts counts) hosts dates (countsOf m at counts) (rxsOf m at hosts rxs)
@@ -190,11 +200,13 @@ module _ (s : Settings) (date : ℕ) (at : Reception) (hosts dates counts rxs : 
     rxSlots = length-set rxs _ _ ∙ fit .rxSlots;
   }
 
-  rx-after : storedInto (isStored (m .found)) (subject (m .started) (hostOf hosts (at .host)) (onTheLine (at .receiving) (at .byte))) (rxOf rxs (at .rx))
+  rx-after : storedInto (isStored (m .found)) (subject (m .started) (hostOf hosts (at .host)) (onTheLine (at .receiving) (at .byte)))
+      (rxOf rxs (at .rx))
       ≡ rxOf (rxsOf m at hosts rxs) (pushedIf (isStored (m .found)) (at .rx))
   rx-after =
       stored-of (isStored (m .found)) _ (rxOf rxs (at .rx)) (byteOf m at hosts) (λ e. about (m .started) refl (λ k. allowed .holds k e))
-      ∙ sym (push-if-elems (slotOf rxs 0) 128 (at .rx) (fit .rx) (isStored (m .found)) (slotOf (rxsOf m at hosts rxs) 0) (byteOf m at hosts) _
+      ∙ sym (push-if-elems (slotOf rxs 0) 128 (at .rx) (fit .rx) (isStored (m .found)) (slotOf (rxsOf m at hosts rxs) 0)
+      (byteOf m at hosts) _
       (λ e. (allowed .stores e, choose-true _ _ e)) (λ e. choose-false _ _ e)
       (set-stored rxs 0 (backOf 128 (at .rx)) _ (rw (fit .rxSlots) (back-low 128 (at .rx) (fit .rx)))))
 
@@ -207,7 +219,8 @@ module _ (s : Settings) (date : ℕ) (at : Reception) (hosts dates counts rxs : 
       (sym (pop-if-elems (slotOf hosts 0) 1024 (at .host) (fit .host) (m .started) ∙ drop-same (m .started) (hostOf hosts (at .host))))
       (sym (runs-of dates counts (at .runs) (fit .runs) (fit .runCountSlots) (m .started) (λ e. starts e .1)))
 
-  pass-law : Passes s date at hosts dates counts rxs (carried (moveOf s date at dates) at hosts counts) (countsOf (moveOf s date at dates) at counts)
+  pass-law : Passes s date at hosts dates counts rxs (carried (moveOf s date at dates) at hosts counts)
+      (countsOf (moveOf s date at dates) at counts)
       (rxsOf (moveOf s date at dates) at hosts rxs) (moveOf s date at dates .found)
   unfolding m
   pass-law = record {
@@ -215,7 +228,8 @@ module _ (s : Settings) (date : ℕ) (at : Reception) (hosts dates counts rxs : 
     one = λ u.
         pass-applied s date (with at hosts dates counts rxs u)
         ∙ ap (applied (with at hosts dates counts rxs u))
-        (given (elems-length (slotOf rxs 0) 128 (at .rx)) (waiting-of hosts dates counts (at .host) (at .runs) (fit .host) (fit .runs)) (mark-of (at .receiving) (at .byte)))
+        (given (elems-length (slotOf rxs 0) 128 (at .rx)) (waiting-of hosts dates counts (at .host) (at .runs) (fit .host) (fit .runs))
+        (mark-of (at .receiving) (at .byte)))
         ∙ applied-law u;
   }
     where
@@ -229,7 +243,8 @@ module _ (s : Settings) (date : ℕ) (at : Reception) (hosts dates counts rxs : 
       → m ≡ move s (at .rx .count) date w (at .receiving) (at .line)
       → st ≡ isStored (m .found) → b ≡ choose (m .started) (getD hosts (at .host .start) 0) (at .byte)
       → i ≡ backOf 128 (at .rx) → y ≡ choose st b (getD rxs i 0) → k ≡ getD counts (at .runs .start) 0 - num (m .started)
-      → h ≡ poppedIf 1024 (m .started) (at .host) → sp ≡ spent (m .started) (getD counts (at .runs .start) 0) → r ≡ poppedIf 64 sp (at .runs)
+      → h ≡ poppedIf 1024 (m .started) (at .host) → sp ≡ spent (m .started) (getD counts (at .runs .start) 0)
+      → r ≡ poppedIf 64 sp (at .runs)
       → x ≡ pushedIf st (at .rx)
       → Passes s date at hosts dates counts rxs (record { line = m .line; receiving = m .receiving; byte = b; host = h; runs = r; rx = x })
       (set counts (at .runs .start) k) (set rxs i y) (m .found)

@@ -28,13 +28,15 @@ last-date (s ∷ []) r = refl
 last-date (s ∷ t ∷ front) r = last-date (t ∷ front) r
 
 module _ (date n : ℕ) where
-  joins-last : (front : List Run) (r : Run) → date ≤ r .date → joined date n (front ++ (r ∷ [])) ≡ front ++ (record { date = r .date; count = r .count + n } ∷ [])
+  joins-last : (front : List Run) (r : Run) → date ≤ r .date
+      → joined date n (front ++ (r ∷ [])) ≡ front ++ (record { date = r .date; count = r .count + n } ∷ [])
   unfolding joined choose
   joins-last [] r h = rw (le-leb _ _ h)
   joins-last (s ∷ []) r h = ap (λ (l : List Run). s ∷ l) (joins-last [] r h)
   joins-last (s ∷ t ∷ front) r h = ap (λ (l : List Run). s ∷ l) (joins-last (t ∷ front) r h)
 
-  adds-last : (front : List Run) (r : Run) → r .date < date → joined date n (front ++ (r ∷ [])) ≡ (front ++ (r ∷ [])) ++ (record { date = date; count = n } ∷ [])
+  adds-last : (front : List Run) (r : Run) → r .date < date
+      → joined date n (front ++ (r ∷ [])) ≡ (front ++ (r ∷ [])) ++ (record { date = date; count = n } ∷ [])
   unfolding joined choose
   adds-last [] r h = rw (lt-leb _ _ h)
   adds-last (s ∷ []) r h = ap (λ (l : List Run). s ∷ l) (adds-last [] r h)
@@ -49,7 +51,8 @@ joins runs last date = choose (ltb 0 runs) (leb date last) false
 pub joins-true : (runs last date : ℕ) → joins runs last date ≡ true → (0 < runs) × (date ≤ last)
 unfolding joins choose
 joins-true runs last date e =
-    ⊎-elim (λ (pos : 0 < runs). (pos, leb-true _ _ (rw (lt-ltb 0 _ pos) at e))) (λ (z : runs ≤ 0). absurd (false≢true (rw (le-ltb 0 _ z) at e))) (side 0 runs)
+    ⊎-elim (λ (pos : 0 < runs). (pos, leb-true _ _ (rw (lt-ltb 0 _ pos) at e)))
+    (λ (z : runs ≤ 0). absurd (false≢true (rw (le-ltb 0 _ z) at e))) (side 0 runs)
 
 pub joins-false : (runs last date : ℕ) → joins runs last date ≡ false → 0 < runs → last < date
 unfolding joins choose
@@ -72,7 +75,9 @@ module _ (dates counts : List ℕ) (runs : Cursor) where
   last-none z = sym (ap lastDate (elems-none (runIn dates counts) 64 runs (omega arith)))
 
   pub last-some : 0 < runs .count → getD dates (lastOf 64 runs) 0 ≡ lastDate (runsOf dates counts runs)
-  last-some pos = sym (ap lastDate (elems-last (runIn dates counts) 64 runs pos) ∙ last-date (take (runs .count - 1) (runsOf dates counts runs)) (runIn dates counts (lastOf 64 runs)))
+  last-some pos =
+      sym (ap lastDate (elems-last (runIn dates counts) 64 runs pos)
+      ∙ last-date (take (runs .count - 1) (runsOf dates counts runs)) (runIn dates counts (lastOf 64 runs)))
 
 module _ (date n : ℕ) (runs : Cursor) (dates counts : List ℕ) (h : Held 64 runs) (ds : length dates ≡ 64) (cs : length counts ≡ 64) where
   -- the last run's count grows
@@ -83,10 +88,12 @@ module _ (date n : ℕ) (runs : Cursor) (dates counts : List ℕ) (h : Held 64 r
     dateSlots = ds;
     countSlots = length-set counts _ _ ∙ cs;
     same =
-        last-stored (runIn dates counts) (runIn dates (set counts (lastOf 64 runs) (getD counts (lastOf 64 runs) 0 + n))) 64 runs h (record { date = getD dates (lastOf 64 runs) 0; count = getD counts (lastOf 64 runs) 0 + n }) pos
+        last-stored (runIn dates counts) (runIn dates (set counts (lastOf 64 runs) (getD counts (lastOf 64 runs) 0 + n))) 64 runs h
+        (record { date = getD dates (lastOf 64 runs) 0; count = getD counts (lastOf 64 runs) 0 + n }) pos
         (both (λ (d c : ℕ). record { date = d; count = c }) (lastOf 64 runs) (kept (lastOf 64 runs) (slotOf dates 0))
         (set-stored counts 0 (lastOf 64 runs) _ (rw cs (last-low 64 runs h))))
-        ∙ sym (ap (joined date n) (elems-last (runIn dates counts) 64 runs pos) ∙ joins-last date n (take (runs .count - 1) (runsOf dates counts runs)) (runIn dates counts (lastOf 64 runs)) early);
+        ∙ sym (ap (joined date n) (elems-last (runIn dates counts) 64 runs pos)
+        ∙ joins-last date n (take (runs .count - 1) (runsOf dates counts runs)) (runIn dates counts (lastOf 64 runs)) early);
   }
 
   -- where none waits or the last date is earlier, the definition adds a run
@@ -97,7 +104,8 @@ module _ (date n : ℕ) (runs : Cursor) (dates counts : List ℕ) (h : Held 64 r
       ⊎-elim
       (λ (pos : 0 < runs .count).
       let e = elems-last (runIn dates counts) 64 runs pos in
-      ap (joined date n) e ∙ adds-last date n (take (runs .count - 1) (runsOf dates counts runs)) (runIn dates counts (lastOf 64 runs)) (late pos)
+      ap (joined date n) e ∙ adds-last date n (take (runs .count - 1) (runsOf dates counts runs))
+      (runIn dates counts (lastOf 64 runs)) (late pos)
       ∙ ap (λ (l : List Run). l ++ (record { date = date; count = n } ∷ [])) (sym e))
       (λ (z : runs .count ≤ 0). rw (elems-none (runIn dates counts) 64 runs (omega arith)))
       (side 0 (runs .count))
@@ -110,8 +118,10 @@ module _ (date n : ℕ) (runs : Cursor) (dates counts : List ℕ) (h : Held 64 r
     dateSlots = length-set dates _ _ ∙ ds;
     countSlots = length-set counts _ _ ∙ cs;
     same =
-        push-elems (runIn dates counts) (runIn (set dates (backOf 64 runs) date) (set counts (backOf 64 runs) n)) 64 runs h (record { date = date; count = n }) room
-        (both (λ (d c : ℕ). record { date = d; count = c }) (backOf 64 runs) (set-stored dates 0 (backOf 64 runs) date (rw ds (back-low 64 runs h)))
+        push-elems (runIn dates counts) (runIn (set dates (backOf 64 runs) date) (set counts (backOf 64 runs) n)) 64 runs h
+        (record { date = date; count = n }) room
+        (both (λ (d c : ℕ). record { date = d; count = c }) (backOf 64 runs)
+        (set-stored dates 0 (backOf 64 runs) date (rw ds (back-low 64 runs h)))
         (set-stored counts 0 (backOf 64 runs) n (rw cs (back-low 64 runs h))))
         ∙ sym (new-run late);
   }

@@ -26,7 +26,8 @@ module _ (date : ℕ) (dates bytes : List ℕ) (c : Cursor) where
     unfolding gone
     gone-later l = ap (gone date) (first-elems (sentAt dates bytes) 129 c h pos) ∙ rw (gone, lt-leb _ _ l)
 
-    pub gone-first : getD dates (c .start) 0 ≤ date → gone date (flightOf dates bytes c) ≡ suc (gone date (flightOf dates bytes (popped 129 c)))
+    pub gone-first : getD dates (c .start) 0 ≤ date
+        → gone date (flightOf dates bytes c) ≡ suc (gone date (flightOf dates bytes (popped 129 c)))
     unfolding gone
     gone-first l = ap (gone date) (first-elems (sentAt dates bytes) 129 c h pos) ∙ rw (gone, le-leb _ _ l)
 
@@ -57,9 +58,11 @@ leaves-none bytes flight tx left f t l = record {
 -- the first has left, and its byte stands behind those that left before
 first-leaves : (bytes dates : List ℕ) (flight tx : Cursor) (left : List ℕ) → Held 129 flight → Held 1152 tx
     → length left ≡ 1152 → 0 < flight .count → tx .count < 1152
-    → txOf (set left (backOf 1152 tx) (getD bytes (flight .start) 0)) (pushed tx) ≡ txOf left tx ++ map (λ s. s .byte) (take 1 (flightOf dates bytes flight))
+    → txOf (set left (backOf 1152 tx) (getD bytes (flight .start) 0)) (pushed tx)
+    ≡ txOf left tx ++ map (λ s. s .byte) (take 1 (flightOf dates bytes flight))
 first-leaves bytes dates flight tx left f t l pos room =
-    push-elems (slotOf left 0) _ 1152 tx t (getD bytes (flight .start) 0) room (set-stored left 0 (backOf 1152 tx) _ (rw l (back-low 1152 tx t)))
+    push-elems (slotOf left 0) _ 1152 tx t (getD bytes (flight .start) 0) room
+    (set-stored left 0 (backOf 1152 tx) _ (rw l (back-low 1152 tx t)))
     ∙ ap (λ (ss : List (Sent ℕ)). txOf left tx ++ map (λ s. s .byte) (take 1 ss)) (sym (first-elems (sentAt dates bytes) 129 flight f pos))
 
 map-append : {A B : Type 0} (f : A → B) (s t : List A) → map f (s ++ t) ≡ map f s ++ map f t
@@ -76,7 +79,9 @@ leaves-more {n} {bytes} {flight} {tx} {left} {flight′} {tx′} {left′} k pos
   slots = length-set left′ _ _ ∙ k .slots;
   fewer = omega (arith, k .fewer);
   more = omega (arith, k .more);
-  rest = λ dates. pop-elems (sentAt dates bytes) 129 flight′ (k .flightHeld) ∙ ap (drop 1) (k .rest dates) ∙ drop-drop 1 n (flightOf dates bytes flight);
+  rest =
+      λ dates. pop-elems (sentAt dates bytes) 129 flight′ (k .flightHeld) ∙ ap (drop 1) (k .rest dates)
+      ∙ drop-drop 1 n (flightOf dates bytes flight);
   out = λ dates.
       first-leaves bytes dates flight′ tx′ left′ (k .flightHeld) (k .txHeld) (k .slots) pos room
       ∙ rw (k .out dates, k .rest dates, take-add n 1 (flightOf dates bytes flight), map-append, append-assoc);

@@ -46,7 +46,8 @@ module _ (s : Settings) (held : ℕ) (l : Line) (closed : l .«idle_since» ≡ 
   unfolding timeoutAt afterDate dueBy
   not-due date = rw closed
 
-  rests : (date : ℕ) (waits : Date) (r : Receiving) → comesLater r waits (l .«line_free_at») date ≡ true → move s held date waits r l ≡ resting false r l
+  rests : (date : ℕ) (waits : Date) (r : Receiving) → comesLater r waits (l .«line_free_at») date ≡ true
+      → move s held date waits r l ≡ resting false r l
   unfolding comesLater startsLater move lineFree idle beforeStart inFrame
   rests date Date.None Receiving.None e = choose-false _ _ (not-due date)
   rests date (Date.At run) Receiving.None e = choose-false _ _ (not-due (earlier date (later run (l .«line_free_at»)))) ∙ choose-true _ _ e
@@ -76,7 +77,8 @@ module _ (s : Settings) (date : ℕ) (at : Reception) (hosts dates counts rxs : 
 
   module _ (e : quiet (at .line .«idle_since») (at .receiving) waits (at .line .«line_free_at») date ≡ true) where
     quiet-pass : (u : State.Uart ℕ ℕ)
-        → _≡_ {A = Pass ℕ ℕ} (pass s date (with at hosts dates counts rxs u)) (record { found = Found.NothingDue; state = with at hosts dates counts rxs u })
+        → _≡_ {A = Pass ℕ ℕ} (pass s date (with at hosts dates counts rxs u))
+        (record { found = Found.NothingDue; state = with at hosts dates counts rxs u })
     quiet-pass u =
         pass-applied s date (with at hosts dates counts rxs u)
         ∙ ap (applied (with at hosts dates counts rxs u))
@@ -85,4 +87,5 @@ module _ (s : Settings) (date : ℕ) (at : Reception) (hosts dates counts rxs : 
         ∙ rest-applied u
 
     pub quiet-ends : Ends s date at hosts dates counts rxs at counts rxs 1 0
-    quiet-ends = record { fit = fit; all = λ u. ran-end s date (ran-first s date (with at hosts dates counts rxs u)) (quiet-pass u) refl refl }
+    quiet-ends =
+        record { fit = fit; all = λ u. ran-end s date (ran-first s date (with at hosts dates counts rxs u)) (quiet-pass u) refl refl }

@@ -57,4 +57,5 @@ module _ (s : Settings) (date : ℕ) (at : Reception) (hosts dates counts rxs : 
   pub record Passes (found : Found) : Type 0 where
     pub fit : Fit at′ hosts dates counts′ rxs′
     pub one : (u : State.Uart ℕ ℕ)
-        → _≡_ {A = Pass ℕ ℕ} (Settle.pass s date (with at hosts dates counts rxs u)) (record { found = found; state = with at′ hosts dates counts′ rxs′ u })
+        → _≡_ {A = Pass ℕ ℕ} (Settle.pass s date (with at hosts dates counts rxs u))
+        (record { found = found; state = with at′ hosts dates counts′ rxs′ u })

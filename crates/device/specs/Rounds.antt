@@ -46,23 +46,28 @@ module _ {H W : Type 0} (s : Settings) (date : ℕ) where
 
   -- a pass that found something: the rest runs from the state that it left
   through-more : {u v w : Uart H W} {f : Found} {fs : List Found} → pass s date u ≡ record { found = f; state = v } → goesOn f ≡ true
-      → Through s date u fs w → (p o : ℕ) (r : Settled H W) → w ≡ r .state → r .passes ≡ p + (1 + length fs) → r .overflows ≡ o + overflowsAmong fs
+      → Through s date u fs w → (p o : ℕ) (r : Settled H W) → w ≡ r .state → r .passes ≡ p + (1 + length fs)
+      → r .overflows ≡ o + overflowsAmong fs
       → Ran s date (behind v (p + 1) (o + lost f)) r
   through-more e g (ends e′) p o r er ep eo = never (ap (λ (x : Pass H W). goesOn (x .found)) (sym e′ ∙ e) ∙ g)
   through-more {v = v} e g (goes {w = w} {f = f′} {fs = fs} e′ x t) p o r er ep eo = record {
     finds = fs;
-    through = subst (λ (y : Uart H W). Through s date v fs y) er (subst (λ (y : Uart H W). Through s date y fs w) (ap (λ (y : Pass H W). y .state) (sym e′ ∙ e)) t);
+    through =
+        subst (λ (y : Uart H W). Through s date v fs y) er
+        (subst (λ (y : Uart H W). Through s date y fs w) (ap (λ (y : Pass H W). y .state) (sym e′ ∙ e)) t);
     passes = omega (arith, ep);
     overflows = omega (arith, eo, lost-adds f′ fs, ap (λ (y : Pass H W). lost (y .found)) (sym e′ ∙ e));
   }
 
-  pub ran-more : {u v : Uart H W} {f : Found} {p o n : ℕ} {r : Settled H W} → Ran s date (behind u p o) r → pass s date u ≡ record { found = f; state = v }
+  pub ran-more : {u v : Uart H W} {f : Found} {p o n : ℕ} {r : Settled H W} → Ran s date (behind u p o) r
+      → pass s date u ≡ record { found = f; state = v }
       → n ≡ lost f → goesOn f ≡ true → Ran s date (behind v (p + 1) (o + n)) r
   ran-more {p = p} {o = o} {r = r} k e en g = rw en (through-more e g (k .through) p o r refl (k .passes) (k .overflows))
 
   -- a pass that found nothing due is the last
   through-end : {u v w : Uart H W} {f : Found} {fs : List Found} → pass s date u ≡ record { found = f; state = v } → goesOn f ≡ false
-      → Through s date u fs w → (p o : ℕ) (r : Settled H W) → w ≡ r .state → r .passes ≡ p + (1 + length fs) → r .overflows ≡ o + overflowsAmong fs
+      → Through s date u fs w → (p o : ℕ) (r : Settled H W) → w ≡ r .state → r .passes ≡ p + (1 + length fs)
+      → r .overflows ≡ o + overflowsAmong fs
       → r ≡ behind v (p + 1) (o + lost f)
   unfolding overflowsAmong
   through-end {v = v} {f = f} e g (ends e′) p o r er ep eo =
@@ -70,9 +75,11 @@ module _ {H W : Type 0} (s : Settings) (date : ℕ) where
       let b : r .passes ≡ p + 1 = omega (arith, ep) in
       let c : r .overflows ≡ o + lost f = omega (arith, eo, ap (λ (y : Pass H W). lost (y .found)) (sym e′ ∙ e)) in
       rw (← a, ← b, ← c)
-  through-end e g (goes {f = f′} e′ x t) p o r er ep eo = never (sym g ∙ ap (λ (y : Pass H W). goesOn (y .found)) (sym e ∙ e′) ∙ something f′ x)
+  through-end e g (goes {f = f′} e′ x t) p o r er ep eo =
+      never (sym g ∙ ap (λ (y : Pass H W). goesOn (y .found)) (sym e ∙ e′) ∙ something f′ x)
 
-  pub ran-end : {u v : Uart H W} {f : Found} {p o n : ℕ} {r : Settled H W} → Ran s date (behind u p o) r → pass s date u ≡ record { found = f; state = v }
+  pub ran-end : {u v : Uart H W} {f : Found} {p o n : ℕ} {r : Settled H W} → Ran s date (behind u p o) r
+      → pass s date u ≡ record { found = f; state = v }
       → n ≡ lost f → goesOn f ≡ false → r ≡ behind v (p + 1) (o + n)
   ran-end {p = p} {o = o} {r = r} k e en g = rw en (through-end e g (k .through) p o r refl (k .passes) (k .overflows))
 
@@ -91,4 +98,10 @@ pub few-passes : (s : Settings) (date : ℕ) (at : Reception) (hosts dates count
     → passes s date (with at hosts dates counts rxs blank) .passes ≤ 2052
 unfolding pending
 few-passes s date at hosts dates counts rxs fit =
-    omega (arith, passes-bound s date (with at hosts dates counts rxs blank), one-on (at .receiving) (at .byte), elems-length (slotOf hosts 0) 1024 (at .host), fit .host .few)
+    omega (
+      arith,
+      passes-bound s date (with at hosts dates counts rxs blank),
+      one-on (at .receiving) (at .byte),
+      elems-length (slotOf hosts 0) 1024 (at .host),
+      fit .host .few,
+    )

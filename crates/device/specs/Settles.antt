@@ -53,14 +53,20 @@ together c flight tx at l level = record {
 
 -- the arrays that a settling writes, in their places
 abbrev pub written : Arrays → List ℕ → List ℕ → List ℕ → Arrays
-written a tx counts rx = record { goneAt = a .goneAt; flight = a .flight; tx = tx; host = a .host; runAt = a .runAt; runLen = counts; rx = rx }
+written a tx counts rx =
+    record { goneAt = a .goneAt; flight = a .flight; tx = tx; host = a .host; runAt = a .runAt; runLen = counts; rx = rx }
 
 -- ---- before the passes
 
 -- there is room for those that leave
 pub room : (c : Core) (a : Arrays) (n : ℕ) → Ok c a → n ≤ c .flight .count → c .tx .count + n ≤ 1152
 room c a n ok few =
-    omega (arith, ok .within .sent, elems-length (slotOf (a .tx) 0) 1152 (c .tx), elems-length (sentAt (a .goneAt) (a .flight)) 129 (c .flight))
+    omega (
+      arith,
+      ok .within .sent,
+      elems-length (slotOf (a .tx) 0) 1152 (c .tx),
+      elems-length (sentAt (a .goneAt) (a .flight)) 129 (c .flight),
+    )
 
 pub fit : (c : Core) (a : Arrays) (l : Line) → Ok c a → Fit (receptionOf c l) (a .host) (a .runAt) (a .runLen) (a .rx)
 fit c a l ok = search
@@ -68,7 +74,8 @@ fit c a l ok = search
 -- ---- two states that differ in a part
 
 same-sent : (u : State.Uart ℕ ℕ) {l l′ : Line} {f f′ : List (Sent ℕ)} {t t′ : List ℕ} → l ≡ l′ → f ≡ f′ → t ≡ t′
-    → withControl (withLine l (u .control)) (withInFlight f (withTx t u)) ≡ withControl (withLine l′ (u .control)) (withInFlight f′ (withTx t′ u))
+    → withControl (withLine l (u .control)) (withInFlight f (withTx t u))
+    ≡ withControl (withLine l′ (u .control)) (withInFlight f′ (withTx t′ u))
 same-sent u a b c = rw (a, b, c)
 
 -- the levels and the interrupt, from the numbers of the queues
@@ -76,12 +83,14 @@ pub control-after : (c : Control) {held held′ flying flying′ : ℕ} {l : Lin
     → l ≡ Levels.levels (c .words .conf1) held′ flying′ (c .line) → level ≡ Levels.level (c .words .«int_ena») l
     → drive (assertLevels held flying c) ≡ withLevel level (withLine l c)
 control-after c {held} {held′} {flying} {flying′} {l} a b el ed =
-    let line : Levels.levels (c .words .conf1) held flying (c .line) ≡ l = ap₂ (λ (x y : ℕ). Levels.levels (c .words .conf1) x y (c .line)) a b ∙ sym el in
+    let line : Levels.levels (c .words .conf1) held flying (c .line) ≡ l =
+    ap₂ (λ (x y : ℕ). Levels.levels (c .words .conf1) x y (c .line)) a b ∙ sym el in
     ap drive (levels-line held flying c) ∙ drive-line _ ∙ rw (line, ed)
 
 -- ---- the whole
 
-module _ (cycle : ℕ) (c : Core) (a : Arrays) (ok : Ok c a) {date n passes overflows : ℕ} {s : Settings} {flight′ tx′ : Cursor} {left′ counts′ rx′ : List ℕ}
+module _ (cycle : ℕ) (c : Core) (a : Arrays) (ok : Ok c a) {date n passes overflows : ℕ} {s : Settings} {flight′ tx′ : Cursor}
+    {left′ counts′ rx′ : List ℕ}
     {l l′ : Line} {at′ : Reception} {level : Bool}
     (dated : date ≡ noLaterThan (c .control .«powered_down_at») (subcycles cycle))
     (counted : (bytes : List ℕ) → n ≡ gone date (flightOf (a .goneAt) bytes (c .flight)))
@@ -108,10 +117,12 @@ module _ (cycle : ℕ) (c : Core) (a : Arrays) (ok : Ok c a) {date n passes over
   unfolding sent depart Settle.leave
   departs =
       let all : length (abs c a .inFlight) ≡ c .flight .count = elems-length (sentAt (a .goneAt) (a .flight)) 129 (c .flight) in
-      let rest : length (abs c a .inFlight) - gone date (abs c a .inFlight) ≡ flight′ .count = omega (arith, all, counted (a .flight), leaves .fewer) in
+      let rest : length (abs c a .inFlight) - gone date (abs c a .inFlight) ≡ flight′ .count =
+      omega (arith, all, counted (a .flight), leaves .fewer) in
       same-sent (abs c a) (ap₂ (λ (x y : ℕ). txDone x y (c .control .line)) all rest ∙ sym told)
       (ap (λ (k : ℕ). drop k (abs c a .inFlight)) (sym (counted (a .flight))) ∙ sym (leaves .rest (a .goneAt)))
-      (ap (λ (k : ℕ). abs c a .tx ++ map (λ b. b .byte) (take k (abs c a .inFlight))) (sym (counted (a .flight))) ∙ sym (leaves .out (a .goneAt)))
+      (ap (λ (k : ℕ). abs c a .tx ++ map (λ b. b .byte) (take k (abs c a .inFlight))) (sym (counted (a .flight)))
+      ∙ sym (leaves .out (a .goneAt)))
 
   -- the state once the passes are made
   passed : State.Uart ℕ ℕ
@@ -120,7 +131,8 @@ module _ (cycle : ℕ) (c : Core) (a : Arrays) (ok : Ok c a) {date n passes over
   settled : Settle.settle cycle (abs c a) ≡ Settle.leveled (record { state = passed; passes = passes; overflows = overflows })
   unfolding passed Settle.settle Settle.settleTo Settle.settlingDate Settle.settingsOf
   settled =
-      ap (λ (d : ℕ). Settle.leveled (Settle.passes (Timing.settings (c .control .words) (c .control .period)) d (depart d (abs c a)))) (sym dated)
+      ap (λ (d : ℕ). Settle.leveled (Settle.passes (Timing.settings (c .control .words) (c .control .period)) d (depart d (abs c a))))
+      (sym dated)
       ∙ ap₂ (λ (x : Settings) (u : State.Uart ℕ ℕ). Settle.leveled (Settle.passes x date u)) (sym reads) departs
       ∙ ap Settle.leveled (runs .all sent)
 
@@ -131,10 +143,16 @@ module _ (cycle : ℕ) (c : Core) (a : Arrays) (ok : Ok c a) {date n passes over
       (control-after (withLine (at′ .line) (c .control)) (elems-length (slotOf rx′ 0) 128 (at′ .rx))
       (elems-length (sentAt (a .goneAt) (a .flight)) 129 flight′) leveled driven)
 
-  same : _≡_ {A = Settle.Settled ℕ ℕ} (record { state = abs (together c flight′ tx′ at′ l′ level) (written a left′ counts′ rx′); passes = passes; overflows = overflows })
+  same : _≡_ {A = Settle.Settled ℕ ℕ} (record {
+    state = abs (together c flight′ tx′ at′ l′ level) (written a left′ counts′ rx′);
+    passes = passes;
+    overflows = overflows;
+  })
       (Settle.settle cycle (abs c a))
   unfolding Settle.leveled
-  same = sym (settled ∙ ap {B = Settle.Settled ℕ ℕ} (λ (u : State.Uart ℕ ℕ). record { state = u; passes = passes; overflows = overflows }) levels-after)
+  same =
+      sym (settled ∙ ap {B = Settle.Settled ℕ ℕ} (λ (u : State.Uart ℕ ℕ). record { state = u; passes = passes; overflows = overflows })
+      levels-after)
 
   pub settles : Settles (Settle.settle cycle (abs c a)) (together c flight′ tx′ at′ l′ level) (written a left′ counts′ rx′) passes overflows
   settles = record {

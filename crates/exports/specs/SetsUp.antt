@@ -22,7 +22,8 @@ pub record SetsUpPlainly (offsets resets : List ℕ) (core : PlainCore) (reply :
   pub plain : core ≡ plainCore (coreOf core)
   pub good : setUpReply offsets ≡ SetUp.Ready → (a : Arrays) → Slots offsets resets a → Ok (coreOf core) a
 
-pub sets-up : (offsets resets : List ℕ) {core : PlainCore} {reply : PlainReply} → length offsets ≡ 16 → core ≡ plainCore (newCore offsets resets)
+pub sets-up : (offsets resets : List ℕ) {core : PlainCore} {reply : PlainReply} → length offsets ≡ 16
+    → core ≡ plainCore (newCore offsets resets)
     → reply ≡ plainSetUp (setUpReply offsets) → SetsUpPlainly offsets resets core reply
 sets-up offsets resets {core} {reply} sixteen e r =
     let meant : coreOf core ≡ newCore offsets resets = ap coreOf e ∙ core-back (newCore offsets resets) in

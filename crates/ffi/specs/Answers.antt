@@ -15,7 +15,8 @@ abbrev pub plainAnswer : Core → PlainReply → Report → PlainAnswer
 plainAnswer c reply report = record { core = plainCore c; reply = reply; report = plainReport report }
 
 -- `Meets c c′ reply report`: the call over parts may answer so, from the core c
-pub record Plainly {R : Type 0} (plain : R → PlainReply) (Meets : Core → Core → R → Report → Type 0) (p : PlainCore) (r : PlainAnswer) : Type 0 where
+pub record Plainly {R : Type 0} (plain : R → PlainReply) (Meets : Core → Core → R → Report → Type 0) (p : PlainCore)
+    (r : PlainAnswer) : Type 0 where
   pub core : Core
   pub reply : R
   pub report : Report
@@ -26,7 +27,8 @@ pub record Plainly {R : Type 0} (plain : R → PlainReply) (Meets : Core → Cor
 pub ok-of : (p : PlainCore) {c : Core} {a : Arrays} → c ≡ coreOf p → Ok (coreOf p) a → Ok c a
 ok-of p {c} {a} e ok = subst (λ (x : Core). Ok x a) (sym e) ok
 
-pub plainly : {R : Type 0} {plain : R → PlainReply} (Meets : Core → Core → R → Report → Type 0) {p : PlainCore} {c c′ : Core} {reply : R} {report : Report}
+pub plainly : {R : Type 0} {plain : R → PlainReply} (Meets : Core → Core → R → Report → Type 0) {p : PlainCore} {c c′ : Core} {reply : R}
+    {report : Report}
     {r : PlainAnswer} → c ≡ coreOf p → Meets c c′ reply report → r ≡ plainAnswer c′ (plain reply) report → Plainly plain Meets p r
 plainly {R} {plain} Meets {p} {c} {c′} {reply} {report} {r} e m s = record {
   core = c′;

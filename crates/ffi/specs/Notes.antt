@@ -37,7 +37,8 @@ plainAt list i = plainUnsupported (getD list i unused .what)
 -- each of the eight places
 unfoldable pub plainAll : List Notice → List PlainNotice
 plainAll list =
-    plainAt list 0 ∷ plainAt list 1 ∷ plainAt list 2 ∷ plainAt list 3 ∷ plainAt list 4 ∷ plainAt list 5 ∷ plainAt list 6 ∷ plainAt list 7 ∷ []
+    plainAt list 0 ∷ plainAt list 1 ∷ plainAt list 2 ∷ plainAt list 3 ∷ plainAt list 4 ∷ plainAt list 5 ∷ plainAt list 6
+    ∷ plainAt list 7 ∷ []
 
 -- eight zeros where nothing was noted
 unfoldable pub plainNotices : List Notice → ℕ → List PlainNotice

@@ -162,8 +162,10 @@ core-back c =
     ap (λ (s : Source). with c s since wake down receiving) (source-back (line .«rx_mistimed»))
     ∙ ap (λ (d : Date). with c (line .«rx_mistimed») d wake down receiving) (date-back (line .«idle_since»))
     ∙ ap (λ (d : Date). with c (line .«rx_mistimed») (line .«idle_since») d down receiving) (date-back (control .wake))
-    ∙ ap (λ (d : Date). with c (line .«rx_mistimed») (line .«idle_since») (control .wake) d receiving) (date-back (control .«powered_down_at»))
-    ∙ ap (λ (r : Receiving). with c (line .«rx_mistimed») (line .«idle_since») (control .wake) (control .«powered_down_at») r) (receiving-back (c .receiving))
+    ∙ ap (λ (d : Date). with c (line .«rx_mistimed») (line .«idle_since») (control .wake) d receiving)
+    (date-back (control .«powered_down_at»))
+    ∙ ap (λ (r : Receiving). with c (line .«rx_mistimed») (line .«idle_since») (control .wake) (control .«powered_down_at») r)
+    (receiving-back (c .receiving))
 
 -- so plain numbers that a call gave stand for one core and are its plain form: a refusal gives them back number by number
 pub plain-back : (c : Core) → plainCore (coreOf (plainCore c)) ≡ plainCore c

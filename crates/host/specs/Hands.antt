@@ -34,7 +34,8 @@ abbrev pub waitingArrays : Arrays → List ℕ → List ℕ → List ℕ → Arr
 waitingArrays a host dates counts =
     record { goneAt = a .goneAt; flight = a .flight; tx = a .tx; host = host; runAt = dates; runLen = counts; rx = a .rx }
 
-handed : (date : ℕ) (bs : List ℕ) (u : State.Uart ℕ ℕ) → 1 ≤ length bs → handOver date bs u ≡ arm (withHost (u .host ++ bs) (joined date (length bs) (u .hostRuns)) u)
+handed : (date : ℕ) (bs : List ℕ) (u : State.Uart ℕ ℕ) → 1 ≤ length bs
+    → handOver date bs u ≡ arm (withHost (u .host ++ bs) (joined date (length bs) (u .hostRuns)) u)
 unfolding handOver
 handed date [] u h = absurd (omega arith)
 handed date (b ∷ bs) u h = refl
@@ -88,7 +89,8 @@ module _ (date : ℕ) (bs : List ℕ) (c : Core) (goneAt hosts dates counts : Li
   pub hands-none : length bs ≡ 0 → HandsAny date bs c goneAt hosts dates counts c hosts dates counts
   hands-none e = λ a eg eh ed ec k. rw (← eh, ← ed, ← ec) (record { shape = k; same = none-handed date bs (abs c a) e })
 
-  pub hands-some : 1 ≤ length bs → c .host .count + length bs ≤ 1024 → {hosts′ : List ℕ} → hosts′ ≡ storedFrom 1024 hosts (c .host .start + c .host .count) bs
+  pub hands-some : 1 ≤ length bs → c .host .count + length bs ≤ 1024 → {hosts′ : List ℕ}
+      → hosts′ ≡ storedFrom 1024 hosts (c .host .start + c .host .count) bs
       → {runs′ : Cursor} {dates′ counts′ : List ℕ} → Joins date (length bs) (c .runs) dates counts runs′ dates′ counts′
       → {waiting : Cursor} → waiting ≡ pushedBy (length bs) (c .host) → {c₂ : Core} → ArmsAny (waitingCore c waiting runs′) goneAt dates′ c₂
       → HandsAny date bs c goneAt hosts dates counts c₂ hosts′ dates′ counts′
@@ -104,4 +106,7 @@ module _ (date : ℕ) (bs : List ℕ) (c : Core) (goneAt hosts dates counts : Li
       subst (λ (w : Cursor). ArmsAny (waitingCore c w runs′) goneAt dates′ c₂) ew arms
       in
       let armed = next (nextArrays date bs c a k room stored′ j′) eg refl (waits-shape date bs c a k room stored′ j′) in
-      record { shape = armed .shape; same = armed .same ∙ ap arm (waits-abs date bs c a k room stored′ j′) ∙ sym (handed date bs (abs c a) some-byte) }
+      record {
+        shape = armed .shape;
+        same = armed .same ∙ ap arm (waits-abs date bs c a k room stored′ j′) ∙ sym (handed date bs (abs c a) some-byte);
+      }

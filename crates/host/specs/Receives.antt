@@ -55,17 +55,24 @@ count-low c a ok pos =
     in
     omega (arith, low, ok .within .runSum, ok .within .host)
 
-module _ (cycle date k : ℕ) (c : Core) (a : Arrays) {c₁ : Core} {a₁ : Arrays} {n o : ℕ} (s : Settles (settleAt cycle (abs c a)) c₁ a₁ n o) (room : Room c a date k)
+module _ (cycle date k : ℕ) (c : Core) (a : Arrays) {c₁ : Core} {a₁ : Arrays} {n o : ℕ} (s : Settles (settleAt cycle (abs c a)) c₁ a₁ n o)
+    (room : Room c a date k)
     (some-byte : 1 ≤ k) where
   keeps : Kept (dated cycle (abs c a)) (abs c₁ a₁)
   unfolding settleAt
   keeps =
-      subst (Kept (dated cycle (abs c a))) (sym (ap (λ (t : Settle.Settled ℕ ℕ). t .state) (s .same))) (settle-keeps cycle (dated cycle (abs c a)))
+      subst (Kept (dated cycle (abs c a))) (sym (ap (λ (t : Settle.Settled ℕ ℕ). t .state) (s .same)))
+      (settle-keeps cycle (dated cycle (abs c a)))
 
   pub host-room : c₁ .host .count + k ≤ 1024
   unfolding hostFull dated
   host-room =
-      omega (arith, fewer-waiting keeps, ltb-false 1024 (length (abs c a .host) + k) (room .host), elems-length (slotOf (a₁ .host) 0) 1024 (c₁ .host))
+      omega (
+        arith,
+        fewer-waiting keeps,
+        ltb-false 1024 (length (abs c a .host) + k) (room .host),
+        elems-length (slotOf (a₁ .host) 0) 1024 (c₁ .host),
+      )
 
   slot-left : (0 < c₁ .runs .count → getD (a₁ .runAt) (lastOf 64 (c₁ .runs)) 0 < date) → c₁ .runs .count < 64
   unfolding dated
@@ -106,28 +113,35 @@ takes cycle date bs {c} {a} room {c₁} {a₁} s e =
     })
 
 -- settled, and handed over
-pub received : (cycle at : ℕ) (bs : List ℕ) {c : Core} {a : Arrays} → Ok c a → {c₁ : Core} {a₁ : Arrays} {n o d : ℕ} {c₂ : Core} {hosts′ dates′ counts′ : List ℕ} {r : DoneCore}
+pub received : (cycle at : ℕ) (bs : List ℕ) {c : Core} {a : Arrays} → Ok c a
+    → {c₁ : Core} {a₁ : Arrays} {n o d : ℕ} {c₂ : Core} {hosts′ dates′ counts′ : List ℕ} {r : DoneCore}
     → Settles (settleAt cycle (abs c a)) c₁ a₁ n o → d ≡ hostDate cycle at
     → HandsAny d bs c₁ (a₁ .goneAt) (a₁ .host) (a₁ .runAt) (a₁ .runLen) c₂ hosts′ dates′ counts′ → r ≡ doneCore c₂ n o
     → Works (λ x. x) (receiveWork cycle at bs (abs c a)) (r .core) (waitingArrays a₁ hosts′ dates′ counts′) (r .reply) (r .report)
 unfolding receiveWork quiet
 received cycle at bs {c} {a} _ {c₁} {a₁} {c₂ = c₂} {hosts′} {dates′} {counts′} s e hands same =
     let k = hands a₁ refl refl refl refl (s .ok .shape) in
-    subst (λ (x : DoneCore). Works (λ w. w) (receiveWork cycle at bs (abs c a)) (x .core) (waitingArrays a₁ hosts′ dates′ counts′) (x .reply) (x .report)) (sym same)
+    subst (λ (x : DoneCore). Works (λ w. w) (receiveWork cycle at bs (abs c a)) (x .core) (waitingArrays a₁ hosts′ dates′ counts′)
+    (x .reply) (x .report)) (sym same)
     (after (λ x. x) s _
     (record { shape = k .shape; replies = refl; notes = refl; state = k .same ∙ ap (λ (x : ℕ). handOver x bs (abs c₁ a₁)) e }))
 
 -- ---- the tests, from the numbers that the code reads
 
-tested : (cycle at : ℕ) (bs : List ℕ) (c : Core) (a : Arrays) {last date : ℕ} → last ≡ lastDate (abs c a .hostRuns) → date ≡ hostDate cycle at
+tested : (cycle at : ℕ) (bs : List ℕ) (c : Core) (a : Arrays) {last date : ℕ} → last ≡ lastDate (abs c a .hostRuns)
+    → date ≡ hostDate cycle at
     → receiving cycle (c .control .last) (record { bytes = c .host .count; runs = c .runs .count; «last_date» = last }) (length bs) date
     ≡ receiving cycle (c .control .last)
-    (record { bytes = length (abs c a .host); runs = length (abs c a .hostRuns); «last_date» = lastDate (abs c a .hostRuns) }) (length bs) (hostDate cycle at)
-tested cycle at bs c a el ed = rw (el, ed, elems-length (slotOf (a .host) 0) 1024 (c .host), elems-length (runIn (a .runAt) (a .runLen)) 64 (c .runs))
+    (record { bytes = length (abs c a .host); runs = length (abs c a .hostRuns); «last_date» = lastDate (abs c a .hostRuns) }) (length bs)
+    (hostDate cycle at)
+tested cycle at bs c a el ed =
+    rw (el, ed, elems-length (slotOf (a .host) 0) 1024 (c .host), elems-length (runIn (a .runAt) (a .runLen)) 64 (c .runs))
 
-module _ (cycle at : ℕ) (bs : List ℕ) {c : Core} {a : Arrays} (ok : Ok c a) {last date : ℕ} (el : last ≡ lastDate (abs c a .hostRuns)) (ed : date ≡ hostDate cycle at) where
+module _ (cycle at : ℕ) (bs : List ℕ) {c : Core} {a : Arrays} (ok : Ok c a) {last date : ℕ} (el : last ≡ lastDate (abs c a .hostRuns))
+    (ed : date ≡ hostDate cycle at) where
   abbrev pub checked : Option Refusal
-  checked = receiving cycle (c .control .last) (record { bytes = c .host .count; runs = c .runs .count; «last_date» = last }) (length bs) date
+  checked =
+      receiving cycle (c .control .last) (record { bytes = c .host .count; runs = c .runs .count; «last_date» = last }) (length bs) date
 
   pub receive-checks : Calls.receive cycle at bs (abs c a) ≡ unless checked Done.Refused (receiveWork cycle at bs) (abs c a)
   receive-checks =

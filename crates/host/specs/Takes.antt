@@ -36,7 +36,18 @@ TakeWorks o c′ a′ reply report out = Works (λ t. t .taken) o c′ a′ repl
 -- ---- the laws
 
 pub emptied-shape : (c : Core) (a : Arrays) (flight : Cursor) → Held 129 flight → Shape c a
-    → Shape (record { map = c .map; control = c .control; receiving = c .receiving; byte = c .byte; flight = flight; tx = empty; host = c .host; runs = c .runs; rx = c .rx }) a
+    → Shape
+    (record {
+      map = c .map;
+      control = c .control;
+      receiving = c .receiving;
+      byte = c .byte;
+      flight = flight;
+      tx = empty;
+      host = c .host;
+      runs = c .runs;
+      rx = c .rx;
+    }) a
 emptied-shape c a flight f k = let tx = empty-held 1152 (omega arith) in search
 
 -- ---- the structs
@@ -52,7 +63,8 @@ refusedTake c q = record { core = c; reply = Taken.Refused q; report = noReport 
 
 -- ---- refused, or carried out
 
-module _ {call : Outcome (Take ℕ ℕ) ℕ ℕ} {tests : Option Refusal} (lent : List ℕ) (work : State.Uart ℕ ℕ → Outcome (Take ℕ ℕ) ℕ ℕ) (c : Core) (a : Arrays)
+module _ {call : Outcome (Take ℕ ℕ) ℕ ℕ} {tests : Option Refusal} (lent : List ℕ) (work : State.Uart ℕ ℕ → Outcome (Take ℕ ℕ) ℕ ℕ)
+    (c : Core) (a : Arrays)
     (e : call ≡ unless tests (notTaken lent) work (abs c a)) where
   -- no test refuses
   pub take-carried : {c′ : Core} {a′ : Arrays} {reply : Taken} {report : Report} {out : List ℕ} → tests ≡ none → Within (call .state)
@@ -60,15 +72,18 @@ module _ {call : Outcome (Take ℕ ℕ) ℕ ℕ} {tests : Option Refusal} (lent 
       → Answers (λ t. t .taken) takeNumber call c a c′ a′ reply report × (out ≡ contents (call .reply))
   unfolding unless
   take-carried t w z k =
-      let done : call ≡ work (abs c a) = e ∙ ap (λ (x : Option Refusal). unless x (notTaken lent) work (abs c a)) t in
-      (carried (λ t. t .taken) takeNumber (notTaken lent) work c a e t w z (k .0), k .1 ∙ sym (ap (λ (x : Outcome (Take ℕ ℕ) ℕ ℕ). contents (x .reply)) done))
+      let done : call ≡ work (abs c a) = e ∙ ap (λ (x : Option Refusal). unless x (notTaken lent) work (abs c a)) t in (
+        carried (λ t. t .taken) takeNumber (notTaken lent) work c a e t w z (k .0),
+        k .1 ∙ sym (ap (λ (x : Outcome (Take ℕ ℕ) ℕ ℕ). contents (x .reply)) done),
+      )
 
   -- a test refuses, and the buffer keeps every byte
   pub take-refused : {q : Refusal} {r : TakeCore} → tests ≡ some q → Ok c a → r ≡ refusedTake c q
       → Answers (λ t. t .taken) takeNumber call c a (r .core) a (r .reply) (r .report) × (lent ≡ contents (call .reply))
   unfolding unless refusing notTaken contents
   take-refused {q} t ok same =
-      let done : call ≡ refusing (notTaken lent q) (abs c a) = e ∙ ap (λ (x : Option Refusal). unless x (notTaken lent) work (abs c a)) t in (
+      let done : call ≡ refusing (notTaken lent q) (abs c a) =
+      e ∙ ap (λ (x : Option Refusal). unless x (notTaken lent) work (abs c a)) t in (
         subst (λ (x : TakeCore). Answers (λ t. t .taken) takeNumber call c a (x .core) a (x .reply) (x .report)) (sym same)
             (turned-away (λ t. t .taken) takeNumber (notTaken lent) work c a e t ok),
         sym (ap (λ (x : Outcome (Take ℕ ℕ) ℕ ℕ). contents (x .reply)) done),

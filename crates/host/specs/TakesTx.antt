@@ -41,11 +41,13 @@ emptiedTx c = withTxOf empty c
 -- settled, and what left handed out
 took-tx : (lent : List ℕ) {t : Settle.Settled ℕ ℕ} {c : Core} {a : Arrays} {n o k : ℕ} {out : List ℕ} → Settles t c a n o → k ≡ c .tx .count
     → out ≡ txOf (a .tx) (c .tx) ++ drop (c .tx .count) lent
-    → TakeWorks (afterSettling t (λ s. quiet (filled (s .tx) lent) (withTx [] s))) (emptiedTx c) a (Taken.Bytes k) (reportOf (emptiedTx c) n o (noted [])) out
+    → TakeWorks (afterSettling t (λ s. quiet (filled (s .tx) lent) (withTx [] s))) (emptiedTx c) a (Taken.Bytes k)
+    (reportOf (emptiedTx c) n o (noted [])) out
 unfolding quiet filled contents afterSettling
 took-tx lent {t} {c} {a} {n} {o} {k} {out} s e whole =
     let left : length (txOf (a .tx) (c .tx)) ≡ c .tx .count = elems-length (slotOf (a .tx) 0) 1152 (c .tx) in
-    let works : Works (λ x. x .taken) (afterSettling t (λ s. quiet (filled (s .tx) lent) (withTx [] s))) (emptiedTx c) a (Taken.Bytes k) (reportOf (emptiedTx c) n o (noted [])) =
+    let works : Works (λ x. x .taken) (afterSettling t (λ s. quiet (filled (s .tx) lent) (withTx [] s))) (emptiedTx c) a (Taken.Bytes k)
+    (reportOf (emptiedTx c) n o (noted [])) =
     after (λ x. x .taken) s (λ s. quiet (filled (s .tx) lent) (withTx [] s))
     (record {
       shape = emptied-shape c a (c .flight) (s .ok .shape .flight) (s .ok .shape);
@@ -54,12 +56,15 @@ took-tx lent {t} {c} {a} {n} {o} {k} {out} s e whole =
       state = ap (λ (l : List ℕ). withTx l (abs c a)) (empty-elems (slotOf (a .tx) 0) 1152);
     })
     in
-    let same : contents (filled (abs c a .tx) lent) ≡ contents (filled (t .state .tx) lent) = ap (λ (x : Settle.Settled ℕ ℕ). contents (filled (x .state .tx) lent)) (s .same) in
+    let same : contents (filled (abs c a .tx) lent) ≡ contents (filled (t .state .tx) lent) =
+    ap (λ (x : Settle.Settled ℕ ℕ). contents (filled (x .state .tx) lent)) (s .same) in
     (works, whole ∙ ap (λ (j : ℕ). txOf (a .tx) (c .tx) ++ drop j lent) (sym left) ∙ same)
 
 -- the same of what the function gives back
-pub tx-taken : (cycle : ℕ) (lent : List ℕ) {c₀ : Core} {a₀ : Arrays} → Ok c₀ a₀ → {c : Core} {a : Arrays} {n o k : ℕ} {out : List ℕ} {none : Cursor} {r : TakeCore}
-    → Settles (settleAt cycle (abs c₀ a₀)) c a n o → k ≡ c .tx .count → out ≡ txOf (a .tx) (c .tx) ++ drop (c .tx .count) lent → none ≡ empty
+pub tx-taken : (cycle : ℕ) (lent : List ℕ) {c₀ : Core} {a₀ : Arrays} → Ok c₀ a₀
+    → {c : Core} {a : Arrays} {n o k : ℕ} {out : List ℕ} {none : Cursor} {r : TakeCore}
+    → Settles (settleAt cycle (abs c₀ a₀)) c a n o → k ≡ c .tx .count → out ≡ txOf (a .tx) (c .tx) ++ drop (c .tx .count) lent
+    → none ≡ empty
     → r ≡ takenCore (withTxOf none c) k n o → TakeWorks (takeTxWork cycle lent (abs c₀ a₀)) (r .core) a (r .reply) (r .report) out
 unfolding takeTxWork
 tx-taken cycle lent {c₀} {a₀} _ {c} {a} {n} {o} {k} {out} s e whole en same =

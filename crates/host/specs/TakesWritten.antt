@@ -17,7 +17,8 @@ use Rattle.host.specs.Takes.{TakeWorks, emptied-shape}
 -- the bytes that left and those in flight stand at the front of a buffer, and its rest is as it was
 abbrev pub Filled : Core → List ℕ → List ℕ → List ℕ → ℕ → List ℕ → Type 0
 Filled c flight tx lent n out =
-    (n ≡ c .tx .count + c .flight .count) × (out ≡ txOf tx (c .tx) ++ elems (slotOf flight 0) 129 (c .flight) ++ drop (c .tx .count + c .flight .count) lent)
+    (n ≡ c .tx .count + c .flight .count) × (out ≡ txOf tx (c .tx) ++ elems (slotOf flight 0) 129 (c .flight)
+    ++ drop (c .tx .count + c .flight .count) lent)
 
 -- a core whose bytes have all been taken
 abbrev pub emptiedAll : Core → Core
@@ -38,9 +39,11 @@ pub took-written : (lent : List ℕ) (c : Core) (a : Arrays) {k : ℕ} {out : Li
     → TakeWorks (takeWrittenWork lent (abs c a)) (emptiedAll c) a (Taken.Bytes k) noReport out
 unfolding takeWrittenWork undated filled written contents
 took-written lent c a {k} {out} s f =
-    let bytes : map (λ (x : Sent ℕ). x .byte) (abs c a .inFlight) ≡ elems (slotOf (a .flight) 0) 129 (c .flight) = map-elems (λ (x : Sent ℕ). x .byte) (sentAt (a .goneAt) (a .flight)) 129 (c .flight) in
+    let bytes : map (λ (x : Sent ℕ). x .byte) (abs c a .inFlight) ≡ elems (slotOf (a .flight) 0) 129 (c .flight) =
+    map-elems (λ (x : Sent ℕ). x .byte) (sentAt (a .goneAt) (a .flight)) 129 (c .flight) in
     let all : length (abs c a .tx ++ map (λ (x : Sent ℕ). x .byte) (abs c a .inFlight)) ≡ k =
-    rw (length-append, bytes, elems-length (slotOf (a .tx) 0) 1152 (c .tx), elems-length (slotOf (a .flight) 0) 129 (c .flight)) (sym (f .0))
+    rw (length-append, bytes, elems-length (slotOf (a .tx) 0) 1152 (c .tx), elems-length (slotOf (a .flight) 0) 129 (c .flight))
+    (sym (f .0))
     in (
       record {
         shape = emptied-shape c a empty (empty-held 129 (omega arith)) s;

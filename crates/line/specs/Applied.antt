@@ -96,14 +96,17 @@ module _ {H W : Type 0} where
 
     -- a byte on the line
     frame-law : (l : OnTheLine H) (u : Uart H W) → Law (withReceiving (some l) u)
-    unfolding pass passOn Settle.inFrame nothingDue timedOut landed applied move inFrame resting timingOut landing mark marked subject lineByte dropIf popRunIf storedInto
+    unfolding pass passOn Settle.inFrame nothingDue timedOut landed applied move inFrame resting timingOut landing mark marked subject
+        lineByte dropIf popRunIf storedInto
     frame-law l u =
         let v : Uart H W = withReceiving (some l) u in
-        choose-nat (applied v) _ refl (choose-nat (applied v) _ refl (rw (stored-rx (fate s (length (u .rx)) (l .frame)) (l .byte) (u .rx))))
+        choose-nat (applied v) _ refl (choose-nat (applied v) _ refl
+        (rw (stored-rx (fate s (length (u .rx)) (l .frame)) (l .byte) (u .rx))))
 
     -- no byte on the line
     free-law : (rs : List Run) (bs : List H) (u : Uart H W) → Law (withReceiving none (withHost bs rs u))
-    unfolding pass passOn Settle.lineFree Settle.idle Settle.beforeStart Settle.inFrame begun nothingDue timedOut landed applied move lineFree idle beforeStart inFrame resting timingOut landing waiting mark marked subject lineByte dropIf popRunIf storedInto
+    unfolding pass passOn Settle.lineFree Settle.idle Settle.beforeStart Settle.inFrame begun nothingDue timedOut landed applied move
+        lineFree idle beforeStart inFrame resting timingOut landing waiting mark marked subject lineByte dropIf popRunIf storedInto
     free-law [] bs u = choose-nat (applied (withReceiving none (withHost bs [] u))) _ refl refl
     free-law (r ∷ rs) [] u = choose-nat (applied (withReceiving none (withHost [] (r ∷ rs) u))) _ refl refl
     free-law (r ∷ rs) (b ∷ bs) u =

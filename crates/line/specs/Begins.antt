@@ -27,7 +27,8 @@ module _ (s : Settings) (date : ℕ) where
   unfoldable pub started : ℕ → Line → FrameStart
   started at l =
       choose (ltb date at) (kept Receiving.None l)
-      (choose (dueBy at (timeoutAt s l)) (kept Receiving.None l) (record { receiving = Receiving.OnTheLine (frame s); started = true; line = start s at l }))
+      (choose (dueBy at (timeoutAt s l)) (kept Receiving.None l)
+      (record { receiving = Receiving.OnTheLine (frame s); started = true; line = start s at l }))
 
   unfoldable pub lineFree : Date → Line → FrameStart
   lineFree Date.None l = kept Receiving.None l
@@ -56,7 +57,8 @@ module _ (s : Settings) (date : ℕ) where
         let m : earlier date at ≡ date = omega arith in
         rw (e, m)
 
-    due : ltb date at ≡ false → (x : Bool) → dueBy at (timeoutAt s l) ≡ x → moveOn held (started at l) (started at l .receiving) ≡ beforeStart s held date at l
+    due : ltb date at ≡ false → (x : Bool) → dueBy at (timeoutAt s l) ≡ x
+        → moveOn held (started at l) (started at l .receiving) ≡ beforeStart s held date at l
     unfolding moveOn started beforeStart idle choose
     due e true d =
         let t : at ≤ date = ltb-false date at e in
@@ -71,18 +73,22 @@ module _ (s : Settings) (date : ℕ) where
     by-date true e = not-yet e
     by-date false e = due e (dueBy at (timeoutAt s l)) refl
 
-  free-law : (held : ℕ) (waiting : Date) (l : Line) → moveOn held (lineFree waiting l) (lineFree waiting l .receiving) ≡ Moves.lineFree s held date waiting l
+  free-law : (held : ℕ) (waiting : Date) (l : Line)
+      → moveOn held (lineFree waiting l) (lineFree waiting l .receiving) ≡ Moves.lineFree s held date waiting l
   unfolding moveOn lineFree Moves.lineFree
   free-law held Date.None l = refl
   free-law held (Date.At run) l = by-date held (later run (l .«line_free_at»)) l (ltb date (later run (l .«line_free_at»))) refl
 
   -- the two steps are the move
-  pub begun-law : (held : ℕ) (waiting : Date) (r : Receiving) (l : Line) → moveOn held (begun waiting r l) (begun waiting r l .receiving) ≡ move s held date waiting r l
+  pub begun-law : (held : ℕ) (waiting : Date) (r : Receiving) (l : Line)
+      → moveOn held (begun waiting r l) (begun waiting r l .receiving) ≡ move s held date waiting r l
   unfolding begun move moveOn
   begun-law held waiting Receiving.None l = free-law held waiting l
   begun-law held waiting (Receiving.OnTheLine f) l = refl
 
   -- the same, as the code comes to it
-  pub moved : (held : ℕ) (waiting : Date) (r : Receiving) (l : Line) {x : Receiving} {b : FrameStart} {m : Move} → b ≡ begun waiting r l → b .receiving ≡ x → m ≡ moveOn held b x
+  pub moved : (held : ℕ) (waiting : Date) (r : Receiving) (l : Line) {x : Receiving} {b : FrameStart} {m : Move} → b ≡ begun waiting r l
+      → b .receiving ≡ x → m ≡ moveOn held b x
       → m ≡ move s held date waiting r l
-  moved held waiting r l {b = b} eb ex em = em ∙ ap (moveOn held b) (sym ex) ∙ ap (λ (y : FrameStart). moveOn held y (y .receiving)) eb ∙ begun-law held waiting r l
+  moved held waiting r l {b = b} eb ex em =
+      em ∙ ap (moveOn held b) (sym ex) ∙ ap (λ (y : FrameStart). moveOn held y (y .receiving)) eb ∙ begun-law held waiting r l

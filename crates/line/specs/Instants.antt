@@ -33,12 +33,14 @@ unfoldable pub goneBelow : {W : Type 0} → Below → List (Sent W) → Date
 goneBelow Below.Never ss = Date.None
 goneBelow (Below.After n) ss = nthGone n ss
 
-chosen-below : {W : Type 0} (t : Bool) (n : ℕ) (ss : List (Sent W)) → onlyIf t (nthGone n ss) ≡ goneBelow (choose t (Below.After n) Below.Never) ss
+chosen-below : {W : Type 0} (t : Bool) (n : ℕ) (ss : List (Sent W))
+    → onlyIf t (nthGone n ss) ≡ goneBelow (choose t (Below.After n) Below.Never) ss
 unfolding onlyIf choose goneBelow
 chosen-below true n ss = refl
 chosen-below false n ss = refl
 
-pub below-at : {W : Type 0} (threshold : ℕ) (ss : List (Sent W)) → belowThresholdAt threshold ss ≡ goneBelow (belowThreshold threshold (length ss)) ss
+pub below-at : {W : Type 0} (threshold : ℕ) (ss : List (Sent W))
+    → belowThresholdAt threshold ss ≡ goneBelow (belowThreshold threshold (length ss)) ss
 unfolding belowThresholdAt belowThreshold
 below-at threshold ss = chosen-below (ltb 0 threshold && ltb threshold (length ss)) _ ss
 

@@ -21,7 +21,8 @@ module _ (s : Settings) (held : ℕ) where
   timingOut started r l = record { line = timeOut s held l; receiving = r; found = Found.TimedOut; started = started }
 
   unfoldable pub landing : Bool → Frame → Line → Move
-  landing started f l = record { line = land s (fate s held f) f l; receiving = Receiving.None; found = Found.Landed (fate s held f); started = started }
+  landing started f l =
+      record { line = land s (fate s held f) f l; receiving = Receiving.None; found = Found.Landed (fate s held f); started = started }
 
   unfoldable pub inFrame : ℕ → Bool → Frame → Line → Move
   inFrame date started f l =

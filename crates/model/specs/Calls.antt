@@ -7,7 +7,8 @@ use lib.Dec.{leb, ltb}
 use lib.ListN.{length, drop}
 use Rattle.dates.specs.Dates.{subcycles, later}
 use Rattle.model.specs.Numbers.{choose}
-use Rattle.model.specs.State.{Run, Uart, withIntRaw, withMistimed, withIdleSince, withWords, withLine, withPeriod, withLast, withWake, withWatched, withPoweredDownAt, withControl, withInFlight, withTx, withHost, withRx}
+use Rattle.model.specs.State.{Run, Uart, withIntRaw, withMistimed, withIdleSince, withWords, withLine, withPeriod, withLast, withWake}
+use Rattle.model.specs.State.{withWatched, withPoweredDownAt, withControl, withInFlight, withTx, withHost, withRx}
 use Rattle.model.specs.Settle.{Settled, settle, pending, levels}
 use Rattle.model.specs.Arm.{called, arm}
 use Rattle.model.specs.Replies.{noReport, report, ReadOf, refused, Take}
@@ -16,7 +17,8 @@ use Rattle.model.specs.Tests.{transmitFull, hostFull, runsFull, periodTo
 use Rattle.model.specs.declared.Date.{Date}
 use Rattle.model.specs.declared.Source.{Source}
 use Rattle.model.specs.declared.Place.{Place}
-use Rattle.model.specs.declared.Place.the-variants.{Fifo, IntRaw, IntSt, IntEna, IntClr, Clkdiv, Status, FsmStatus, Conf0, Conf1, ClkConf, IdleConf, Rs485Conf, AtCmdChar, MemConf, MemRxStatus, Unknown}
+use Rattle.model.specs.declared.Place.the-variants.{Fifo, IntRaw, IntSt, IntEna, IntClr, Clkdiv, Status, FsmStatus, Conf0, Conf1}
+use Rattle.model.specs.declared.Place.the-variants.{ClkConf, IdleConf, Rs485Conf, AtCmdChar, MemConf, MemRxStatus, Unknown}
 use Rattle.model.specs.declared.Line.{Line}
 use Rattle.model.specs.declared.Refusal.{Refusal}
 use Rattle.model.specs.declared.Refusal.the-variants.{TransmitFull, HostFull, RunsFull, PeriodTooLong, BufferTooShort}
@@ -63,7 +65,8 @@ module _ {R H W : Type 0} where
 -- the bytes join the last run where their date is no later than its
 unfoldable pub joined : ℕ → ℕ → List Run → List Run
 joined date n [] = record { date = date; count = n } ∷ []
-joined date n (r ∷ []) = choose (leb date (r .date)) (record { date = r .date; count = r .count + n } ∷ []) (r ∷ record { date = date; count = n } ∷ [])
+joined date n (r ∷ []) =
+    choose (leb date (r .date)) (record { date = r .date; count = r .count + n } ∷ []) (r ∷ record { date = date; count = n } ∷ [])
 joined date n (r ∷ s ∷ rs) = r ∷ joined date n (s ∷ rs)
 
 unfoldable pub lastDate : List Run → ℕ
@@ -147,7 +150,8 @@ module _ {H W : Type 0} where
 
   -- only a wake clears the Deadline
   unfoldable pub wakeWork : ℕ → Uart H W → Outcome Done H W
-  wakeWork now u = afterSettling (settleAt now (withControl (withWake (called now (u .control .wake)) (u .control)) u)) (λ s. quiet Done.Done (arm s))
+  wakeWork now u =
+      afterSettling (settleAt now (withControl (withWake (called now (u .control .wake)) (u .control)) u)) (λ s. quiet Done.Done (arm s))
 
   unfoldable pub wake : ℕ → Uart H W → Outcome Done H W
   wake now u = unless (refuseDate now (u .control) none) Done.Refused (wakeWork now) u
@@ -185,12 +189,14 @@ module _ {H W : Type 0} where
 
   -- stored words as at reset; bytes in flight and received are dropped, the others stay
   unfoldable pub cleared : Uart H W → Uart H W
-  cleared u = withRx [] (withInFlight [] (withControl (withWords (u .map .reset) (withLine (clearedLine (u .control .line)) (u .control))) u))
+  cleared u =
+      withRx [] (withInFlight [] (withControl (withWords (u .map .reset) (withLine (clearedLine (u .control .line)) (u .control))) u))
 
   -- a reset first ends a power-down and settles
   unfoldable pub resetWork : ℕ → Uart H W → Outcome Done H W
   resetWork now u =
-      afterSettling (settleAt now (withControl (withPoweredDownAt Date.None (u .control)) u)) (λ s. quiet Done.Done (arm (levels (cleared s))))
+      afterSettling (settleAt now (withControl (withPoweredDownAt Date.None (u .control)) u))
+      (λ s. quiet Done.Done (arm (levels (cleared s))))
 
   unfoldable pub reset : ℕ → Uart H W → Outcome Done H W
   reset now u = unless (refuseDate now (u .control) none) Done.Refused (resetWork now) u
@@ -210,7 +216,8 @@ module _ {H W : Type 0} where
 
     unfoldable pub takeTx : ℕ → List L → Uart H W → Outcome (Take W L) H W
     takeTx now lent u =
-        unless (refuseDate now (u .control) (refuseIf (bufferTooShort (length lent)) BufferTooShort none)) (notTaken lent) (takeTxWork now lent) u
+        unless (refuseDate now (u .control) (refuseIf (bufferTooShort (length lent)) BufferTooShort none)) (notTaken lent)
+        (takeTxWork now lent) u
 
     unfoldable pub takeWrittenWork : List L → Uart H W → Outcome (Take W L) H W
     takeWrittenWork lent u = undated (filled (written u) lent) (withTx [] (withInFlight [] u))

@@ -8,14 +8,25 @@ use lib.Dec.{eqb}
 use lib.ListN.{length, replicate}
 use Rattle.model.specs.Numbers.{choose, dueBy, onlyIf, earliest, inCycles}
 use Rattle.model.specs.State.{Uart}
-use Rattle.model.specs.Timing.{stopHalfBits, frameHalfBits, sourcePeriod, unmodelled, unmodelledSource, halfBitTime, bitTime, byteTime, timeoutTime, settings}
+use Rattle.model.specs.Timing.{stopHalfBits, frameHalfBits, sourcePeriod, unmodelled, unmodelledSource, halfBitTime, bitTime}
+use Rattle.model.specs.Timing.{byteTime, timeoutTime, settings}
 use Rattle.model.specs.Line.{raiseIf, latest, noteSource, afterDate, opened, timeoutAt, timeOut, frame, start, fate, land}
-use Rattle.model.specs.Settle.{gone, txDone, leave, depart, popRun, received, nothingDue, timedOut, landed, inFrame, begun, beforeStart, idle, lineFree, passOn, pass, goesOn, lost, onTheLine, counted, passesFrom, pending, begin, passes, aboveFull, inFifo, emptyThreshold, belowEmpty, assertLevels, intStatus, drive, noLaterThan, settlingDate, levels, leveled, settingsOf, settleTo, settle}
-use Rattle.model.specs.Arm.{called, nthGone, firstGone, lastGone, belowThresholdAt, nextStart, landingOf, nextLanding, instants, armAll, arm}
-use Rattle.model.specs.Replies.{number, notices, noReport, report, ReadOf, word, byte, noValue, refused, readNumber, writeNumber, doneNumber, takenNumber}
-use Rattle.model.specs.Registers.{placeAmong, placeOf, loaded, holds, stored, noteIf, sourceNotes, statusWord, fsmStatus, looks, pop, gives, readPlace, readLooking, readAt, conf0Notes, storedNotes, startsAt, goneAt, sent, dropped, sendByte, resetFifos, storing, clearing, writePlace, concluded}
-use Rattle.model.specs.Tests.{among, repeated, pastEnd, wentBack, transmitFull, hostFull, runsFull, periodTooLong, bufferTooShort, refuseIf, refuseDate}
-use Rattle.model.specs.Calls.{refusing, unless, unsettled, afterSettling, undated, joined, lastDate, hostDate, clearedLine, filled, notTaken, dated, settleAt, quiet, readWork, readPlaced, writeWork, writePlaced, sendWork, send, handOver, receiveWork, receive, wakeWork, wake, writeAt}
+use Rattle.model.specs.Settle.{gone, txDone, leave, depart, popRun, received, nothingDue, timedOut, landed, inFrame, begun}
+use Rattle.model.specs.Settle.{beforeStart, idle, lineFree, passOn, pass, goesOn, lost, onTheLine, counted, passesFrom, pending}
+use Rattle.model.specs.Settle.{begin, passes, aboveFull, inFifo, emptyThreshold, belowEmpty, assertLevels, intStatus, drive}
+use Rattle.model.specs.Settle.{noLaterThan, settlingDate, levels, leveled, settingsOf, settleTo, settle}
+use Rattle.model.specs.Arm.{called, nthGone, firstGone, lastGone, belowThresholdAt, nextStart, landingOf, nextLanding, instants}
+use Rattle.model.specs.Arm.{armAll, arm}
+use Rattle.model.specs.Replies.{number, notices, noReport, report, ReadOf, word, byte, noValue, refused, readNumber, writeNumber}
+use Rattle.model.specs.Replies.{doneNumber, takenNumber}
+use Rattle.model.specs.Registers.{placeAmong, placeOf, loaded, holds, stored, noteIf, sourceNotes, statusWord, fsmStatus, looks, pop}
+use Rattle.model.specs.Registers.{gives, readPlace, readLooking, readAt, conf0Notes, storedNotes, startsAt, goneAt, sent, dropped}
+use Rattle.model.specs.Registers.{sendByte, resetFifos, storing, clearing, writePlace, concluded}
+use Rattle.model.specs.Tests.{among, repeated, pastEnd, wentBack, transmitFull, hostFull, runsFull, periodTooLong, bufferTooShort}
+use Rattle.model.specs.Tests.{refuseIf, refuseDate}
+use Rattle.model.specs.Calls.{refusing, unless, unsettled, afterSettling, undated, joined, lastDate, hostDate, clearedLine, filled}
+use Rattle.model.specs.Calls.{notTaken, dated, settleAt, quiet, readWork, readPlaced, writeWork, writePlaced, sendWork, send}
+use Rattle.model.specs.Calls.{handOver, receiveWork, receive, wakeWork, wake, writeAt}
 use Rattle.model.specs.Calls
 use Rattle.model.specs.SetUp.{wordsAmong, mapOf, newControl, new}
 use Rattle.model.specs.Call.{Call, Written, Request, Reply, reads, writes, does, takes, left, pends, Answer}
@@ -151,18 +162,24 @@ p2 = equal (bitTime (wordsAmong benchWords) 8) 1344 ∷ equal (byteTime (wordsAm
 
 -- one byte sent
 unfoldable pub p3 : List Row
-p3 = turns (putting 100 FIFO 0x41 done ∷ reading 519 FSM-STATUS (value 0x10) ∷ reading 520 FSM-STATUS (value 0) ∷ reading 520 INT-RAW (value 0x4002) ∷ []) ∷ []
+p3 =
+    turns (putting 100 FIFO 0x41 done ∷ reading 519 FSM-STATUS (value 0x10) ∷ reading 520 FSM-STATUS (value 0)
+    ∷ reading 520 INT-RAW (value 0x4002) ∷ []) ∷ []
 
 unfoldable pub filledUp : List Turn
 filledUp = replicate 129 (putting 100 FIFO 0x41 done)
 
 -- 129 writes, and the 130th
 unfoldable pub p4 : List Row
-p4 = turns (filledUp ++ reading 100 STATUS (value 0x00800000) ∷ putting 100 FIFO 0x42 overflow ∷ reading 100 STATUS (value 0x00800000) ∷ []) ∷ []
+p4 =
+    turns (filledUp ++ reading 100 STATUS (value 0x00800000) ∷ putting 100 FIFO 0x42 overflow
+    ∷ reading 100 STATUS (value 0x00800000) ∷ []) ∷ []
 
 -- the wake after P4
 unfoldable pub p5 : List Row
-p5 = turns (filledUp ++ putting 100 FIFO 0x42 overflow ∷ putting 100 INT-CLR 2 (wakes 520) ∷ reading 100 INT-RAW (value 0) ∷ waking 520 (wakes 13960) ∷ reading 13960 INT-RAW (value 2) ∷ []) ∷ []
+p5 =
+    turns (filledUp ++ putting 100 FIFO 0x42 overflow ∷ putting 100 INT-CLR 2 (wakes 520) ∷ reading 100 INT-RAW (value 0)
+    ∷ waking 520 (wakes 13960) ∷ reading 13960 INT-RAW (value 2) ∷ []) ∷ []
 
 -- one byte received
 unfoldable pub p6 : List Row
@@ -183,7 +200,8 @@ unfoldable pub p8 : List Row
 p8 =
     turns (timeoutOn ∷ handing 100 100 (0x55 ∷ []) done ∷ handing 100 940 (0x56 ∷ []) done ∷ reading 940 INT-RAW (value 0x102) ∷ [])
     ∷ turns (timeoutOn ∷ handing 100 100 (0x55 ∷ []) done ∷ handing 100 939 (0x56 ∷ []) done ∷ reading 940 INT-RAW (value 2)
-    ∷ reading 1358 STATUS (value 1) ∷ reading 1359 STATUS (value 2) ∷ reading 1778 INT-RAW (value 2) ∷ reading 1779 INT-RAW (value 0x102) ∷ [])
+    ∷ reading 1358 STATUS (value 1) ∷ reading 1359 STATUS (value 2) ∷ reading 1778 INT-RAW (value 2)
+    ∷ reading 1779 INT-RAW (value 0x102) ∷ [])
     ∷ []
 
 -- RXFIFO_FULL at its threshold of 96, and above; and each of the 97 landings is a pass
@@ -202,5 +220,17 @@ unfoldable pub marks : List Row
 marks = p1 ++ p2 ++ p3 ++ p4 ++ p5 ++ p6 ++ p7 ++ p8 ++ p9 ++ p10
 
 pub marks-hold : allHold marks ≡ true
-unfolding upBy4 benchWords bench valueIs dateIs isOverflow isEmptyRead onlyNotice meets reading putting handing waking played holdsRow allHold p1 p2 p3 filledUp p4 p5 p6 timeoutOn p7 p8 p9 p10 marks choose dueBy onlyIf earliest inCycles stopHalfBits frameHalfBits sourcePeriod unmodelled unmodelledSource halfBitTime bitTime byteTime timeoutTime settings raiseIf latest noteSource afterDate opened timeoutAt timeOut frame start fate land gone txDone leave depart popRun received nothingDue timedOut landed inFrame begun beforeStart idle lineFree passOn pass goesOn lost onTheLine counted passesFrom pending begin passes aboveFull inFifo emptyThreshold belowEmpty assertLevels intStatus drive noLaterThan settlingDate levels leveled settingsOf settleTo settle called nthGone firstGone lastGone belowThresholdAt nextStart landingOf nextLanding instants armAll arm number notices noReport report readNumber writeNumber doneNumber takenNumber placeAmong placeOf loaded holds stored noteIf sourceNotes statusWord fsmStatus looks pop gives readPlace readLooking readAt conf0Notes storedNotes startsAt goneAt sent dropped sendByte resetFifos storing clearing writePlace concluded among repeated pastEnd wentBack transmitFull hostFull runsFull periodTooLong bufferTooShort refuseIf refuseDate refusing unless unsettled afterSettling undated joined lastDate hostDate clearedLine filled notTaken dated settleAt quiet readWork readPlaced writeWork writePlaced sendWork send handOver receiveWork receive wakeWork wake writeAt Calls.read Calls.write wordsAmong mapOf newControl new numberOf answering stepBy writing step
+unfolding upBy4 benchWords bench valueIs dateIs isOverflow isEmptyRead onlyNotice meets reading putting handing waking played holdsRow
+    allHold p1 p2 p3 filledUp p4 p5 p6 timeoutOn p7 p8 p9 p10 marks choose dueBy onlyIf earliest inCycles stopHalfBits frameHalfBits
+    sourcePeriod unmodelled unmodelledSource halfBitTime bitTime byteTime timeoutTime settings raiseIf latest noteSource afterDate opened
+    timeoutAt timeOut frame start fate land gone txDone leave depart popRun received nothingDue timedOut landed inFrame begun beforeStart
+    idle lineFree passOn pass goesOn lost onTheLine counted passesFrom pending begin passes aboveFull inFifo emptyThreshold belowEmpty
+    assertLevels intStatus drive noLaterThan settlingDate levels leveled settingsOf settleTo settle called nthGone firstGone lastGone
+    belowThresholdAt nextStart landingOf nextLanding instants armAll arm number notices noReport report readNumber writeNumber doneNumber
+    takenNumber placeAmong placeOf loaded holds stored noteIf sourceNotes statusWord fsmStatus looks pop gives readPlace readLooking readAt
+    conf0Notes storedNotes startsAt goneAt sent dropped sendByte resetFifos storing clearing writePlace concluded among repeated pastEnd
+    wentBack transmitFull hostFull runsFull periodTooLong bufferTooShort refuseIf refuseDate refusing unless unsettled afterSettling undated
+    joined lastDate hostDate clearedLine filled notTaken dated settleAt quiet readWork readPlaced writeWork writePlaced sendWork send
+    handOver receiveWork receive wakeWork wake writeAt Calls.read Calls.write wordsAmong mapOf newControl new numberOf answering stepBy
+    writing step
 marks-hold = refl

@@ -16,11 +16,13 @@ use Rattle.model.specs.Replies.{ReadOf, word, byte, noValue}
 use Rattle.model.specs.declared.Date.{Date}
 use Rattle.model.specs.declared.Source.{Source}
 use Rattle.model.specs.declared.Place.{Place}
-use Rattle.model.specs.declared.Place.the-variants.{Fifo, IntRaw, IntSt, IntEna, IntClr, Clkdiv, Status, FsmStatus, Conf0, Conf1, ClkConf, IdleConf, Rs485Conf, AtCmdChar, MemConf, MemRxStatus, Unknown}
+use Rattle.model.specs.declared.Place.the-variants.{Fifo, IntRaw, IntSt, IntEna, IntClr, Clkdiv, Status, FsmStatus, Conf0, Conf1}
+use Rattle.model.specs.declared.Place.the-variants.{ClkConf, IdleConf, Rs485Conf, AtCmdChar, MemConf, MemRxStatus, Unknown}
 use Rattle.model.specs.declared.Words.{Words}
 use Rattle.model.specs.declared.Control.{Control}
 use Rattle.model.specs.declared.Feature.{Feature}
-use Rattle.model.specs.declared.Feature.the-variants.{Loopback, InvertedRx, Autobaud, NoStopBit, FifoSize, Rs485, TxFlowControl, RxFlowControl, InvertedTx, Irda, TxBreak}
+use Rattle.model.specs.declared.Feature.the-variants.{Loopback, InvertedRx, Autobaud, NoStopBit, FifoSize, Rs485, TxFlowControl}
+use Rattle.model.specs.declared.Feature.the-variants.{RxFlowControl, InvertedTx, Irda, TxBreak}
 use Rattle.model.specs.declared.Unsupported.{Unsupported}
 use Rattle.model.specs.declared.Unsupported.the-variants.{UartOverflow, UartEmptyRead, UartClock, UartReceiveClock, UartFeature}
 use Rattle.model.specs.declared.Write.{Write}
@@ -30,7 +32,9 @@ use Rattle.model.specs.declared.Write.the-variants.{Accepted, NotAccepte
 
 -- the places in the order of set-up
 abbrev pub places : List Place
-places = Fifo ∷ IntRaw ∷ IntSt ∷ IntEna ∷ IntClr ∷ Clkdiv ∷ Status ∷ FsmStatus ∷ Conf0 ∷ Conf1 ∷ ClkConf ∷ IdleConf ∷ Rs485Conf ∷ AtCmdChar ∷ MemConf ∷ MemRxStatus ∷ []
+places =
+    Fifo ∷ IntRaw ∷ IntSt ∷ IntEna ∷ IntClr ∷ Clkdiv ∷ Status ∷ FsmStatus ∷ Conf0 ∷ Conf1 ∷ ClkConf ∷ IdleConf ∷ Rs485Conf ∷ AtCmdChar
+    ∷ MemConf ∷ MemRxStatus ∷ []
 
 unfoldable pub placeAmong : ℕ → List ℕ → List Place → Place
 placeAmong offset [] ps = Unknown
@@ -98,18 +102,27 @@ unfoldable pub stored : Place → ℕ → Words → Words
 stored Fifo v w = w
 stored IntRaw v w = w
 stored IntSt v w = w
-stored IntEna v w = wordsFrom v (w .clkdiv) (w .conf0) (w .conf1) (w .«clk_conf») (w .«idle_conf») (w .«rs485_conf») (w .«at_cmd_char») (w .«mem_conf»)
+stored IntEna v w =
+    wordsFrom v (w .clkdiv) (w .conf0) (w .conf1) (w .«clk_conf») (w .«idle_conf») (w .«rs485_conf») (w .«at_cmd_char») (w .«mem_conf»)
 stored IntClr v w = w
-stored Clkdiv v w = wordsFrom (w .«int_ena») v (w .conf0) (w .conf1) (w .«clk_conf») (w .«idle_conf») (w .«rs485_conf») (w .«at_cmd_char») (w .«mem_conf»)
+stored Clkdiv v w =
+    wordsFrom (w .«int_ena») v (w .conf0) (w .conf1) (w .«clk_conf») (w .«idle_conf») (w .«rs485_conf») (w .«at_cmd_char») (w .«mem_conf»)
 stored Status v w = w
 stored FsmStatus v w = w
-stored Conf0 v w = wordsFrom (w .«int_ena») (w .clkdiv) v (w .conf1) (w .«clk_conf») (w .«idle_conf») (w .«rs485_conf») (w .«at_cmd_char») (w .«mem_conf»)
-stored Conf1 v w = wordsFrom (w .«int_ena») (w .clkdiv) (w .conf0) v (w .«clk_conf») (w .«idle_conf») (w .«rs485_conf») (w .«at_cmd_char») (w .«mem_conf»)
-stored ClkConf v w = wordsFrom (w .«int_ena») (w .clkdiv) (w .conf0) (w .conf1) v (w .«idle_conf») (w .«rs485_conf») (w .«at_cmd_char») (w .«mem_conf»)
-stored IdleConf v w = wordsFrom (w .«int_ena») (w .clkdiv) (w .conf0) (w .conf1) (w .«clk_conf») v (w .«rs485_conf») (w .«at_cmd_char») (w .«mem_conf»)
-stored Rs485Conf v w = wordsFrom (w .«int_ena») (w .clkdiv) (w .conf0) (w .conf1) (w .«clk_conf») (w .«idle_conf») v (w .«at_cmd_char») (w .«mem_conf»)
-stored AtCmdChar v w = wordsFrom (w .«int_ena») (w .clkdiv) (w .conf0) (w .conf1) (w .«clk_conf») (w .«idle_conf») (w .«rs485_conf») v (w .«mem_conf»)
-stored MemConf v w = wordsFrom (w .«int_ena») (w .clkdiv) (w .conf0) (w .conf1) (w .«clk_conf») (w .«idle_conf») (w .«rs485_conf») (w .«at_cmd_char») v
+stored Conf0 v w =
+    wordsFrom (w .«int_ena») (w .clkdiv) v (w .conf1) (w .«clk_conf») (w .«idle_conf») (w .«rs485_conf») (w .«at_cmd_char») (w .«mem_conf»)
+stored Conf1 v w =
+    wordsFrom (w .«int_ena») (w .clkdiv) (w .conf0) v (w .«clk_conf») (w .«idle_conf») (w .«rs485_conf») (w .«at_cmd_char») (w .«mem_conf»)
+stored ClkConf v w =
+    wordsFrom (w .«int_ena») (w .clkdiv) (w .conf0) (w .conf1) v (w .«idle_conf») (w .«rs485_conf») (w .«at_cmd_char») (w .«mem_conf»)
+stored IdleConf v w =
+    wordsFrom (w .«int_ena») (w .clkdiv) (w .conf0) (w .conf1) (w .«clk_conf») v (w .«rs485_conf») (w .«at_cmd_char») (w .«mem_conf»)
+stored Rs485Conf v w =
+    wordsFrom (w .«int_ena») (w .clkdiv) (w .conf0) (w .conf1) (w .«clk_conf») (w .«idle_conf») v (w .«at_cmd_char») (w .«mem_conf»)
+stored AtCmdChar v w =
+    wordsFrom (w .«int_ena») (w .clkdiv) (w .conf0) (w .conf1) (w .«clk_conf») (w .«idle_conf») (w .«rs485_conf») v (w .«mem_conf»)
+stored MemConf v w =
+    wordsFrom (w .«int_ena») (w .clkdiv) (w .conf0) (w .conf1) (w .«clk_conf») (w .«idle_conf») (w .«rs485_conf») (w .«at_cmd_char») v
 stored MemRxStatus v w = w
 stored Unknown v w = w
 
@@ -192,7 +205,8 @@ module _ {H W : Type 0} where
 
   -- a look at the receiver tells of a mistimed reception, once
   unfoldable pub readLooking : Bool → Place → Uart H W → Access (ReadOf H) H W
-  readLooking true p u = readPlace (sourceNotes UartReceiveClock (lineOf u .«rx_mistimed»)) p (withLineOf (withMistimed Source.None (lineOf u)) u)
+  readLooking true p u =
+      readPlace (sourceNotes UartReceiveClock (lineOf u .«rx_mistimed»)) p (withLineOf (withMistimed Source.None (lineOf u)) u)
   readLooking false p u = readPlace [] p u
 
   unfoldable pub readAt : Place → Uart H W → Access (ReadOf H) H W

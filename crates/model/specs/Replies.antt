@@ -10,7 +10,8 @@ use Rattle.model.specs.declared.Unsupported.{Unsupported}
 use Rattle.model.specs.declared.Unsupported.the-variants.{UartOverflow}
 use Rattle.model.specs.declared.Notice.{Notice}
 use Rattle.model.specs.declared.Refusal.{Refusal}
-use Rattle.model.specs.declared.Refusal.the-variants.{RepeatedOffset, DatePastEnd, DateWentBack, TransmitFull, HostFull, RunsFull, PeriodTooLong, BufferTooShort}
+use Rattle.model.specs.declared.Refusal.the-variants.{RepeatedOffset, DatePastEnd, DateWentBack, TransmitFull, HostFull, RunsFull}
+use Rattle.model.specs.declared.Refusal.the-variants.{PeriodTooLong, BufferTooShort}
 use Rattle.model.specs.declared.Report.{Report}
 use Rattle.model.specs.declared.SetUp.{SetUp}
 use Rattle.model.specs.declared.Read.{Read}

@@ -28,7 +28,8 @@ unfoldable pub answering : {R H W L : Type 0} → (R → Reply H W L) → Outcom
 answering as-reply o = record { answer = record { reply = as-reply (o .reply); report = o .report }; state = o .state }
 
 -- a call, given what a read and a write do
-unfoldable pub stepBy : {R X H W L : Type 0} → (ℕ → R → Uart H W → Outcome (ReadOf H) H W) → (ℕ → X → Uart H W → Outcome Write H W) → Call R X H L → Uart H W → Step H W L
+unfoldable pub stepBy : {R X H W L : Type 0} → (ℕ → R → Uart H W → Outcome (ReadOf H) H W) → (ℕ → X → Uart H W → Outcome Write H W)
+    → Call R X H L → Uart H W → Step H W L
 stepBy rd wr (Call.read now r) u = answering reads (rd now r u)
 stepBy rd wr (Call.write now x) u = answering writes (wr now x u)
 stepBy rd wr (Call.receive now at bs) u = answering does (Calls.receive now at bs u)

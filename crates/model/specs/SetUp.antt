@@ -39,7 +39,8 @@ abbrev pub powerOnPeriod : ℕ
 powerOnPeriod = 8
 
 unfoldable pub mapOf : List ℕ → List ℕ → RegisterMap
-mapOf offsets ws = record { offsets = offsets; reset = wordsAmong ws; «idle_status» = without fifoCounts (getD ws 6 0); «mem_rx_status» = getD ws 15 0 }
+mapOf offsets ws =
+    record { offsets = offsets; reset = wordsAmong ws; «idle_status» = without fifoCounts (getD ws 6 0); «mem_rx_status» = getD ws 15 0 }
 
 -- INT_RAW has TXFIFO_EMPTY set always; the level is low until the first settling
 unfoldable pub newControl : Words → Control
@@ -55,7 +56,17 @@ newControl w = record {
 }
 
 unfoldable pub new : {H W : Type 0} → List ℕ → List ℕ → Uart H W
-new offsets ws = record { map = mapOf offsets ws; control = newControl (wordsAmong ws); inFlight = []; tx = []; host = []; hostRuns = []; receiving = none; rx = [] }
+new offsets ws =
+    record {
+      map = mapOf offsets ws;
+      control = newControl (wordsAmong ws);
+      inFlight = [];
+      tx = [];
+      host = [];
+      hostRuns = [];
+      receiving = none;
+      rx = [];
+    }
 
 unfoldable pub setUpReply : List ℕ → SetUp
 setUpReply offsets = choose (repeated offsets) (SetUp.Refused RepeatedOffset) SetUp.Ready

@@ -8,7 +8,8 @@ use lib.ListN.{length, take, drop}
 use lib.Bits.{bitAnd}
 use Rattle.dates.specs.Dates.{subcycles, later, earlier}
 use Rattle.model.specs.Numbers.{choose, field, dueBy}
-use Rattle.model.specs.State.{Sent, Run, OnTheLine, Uart, withLine, withLevel, withControl, withInFlight, withTx, withHost, withReceiving, withRx, lineOf, withLineOf}
+use Rattle.model.specs.State.{Sent, Run, OnTheLine, Uart, withLine, withLevel, withControl, withInFlight, withTx, withHost}
+use Rattle.model.specs.State.{withReceiving, withRx, lineOf, withLineOf}
 use Rattle.model.specs.Timing.{settings}
 use Rattle.model.specs.Line.{RXFIFO-FULL, TXFIFO-EMPTY, TX-DONE, raiseIf, timeoutAt, timeOut, frame, start, fate, land}
 use Rattle.model.specs.declared.Date.{Date}
@@ -37,7 +38,9 @@ leave n u = withInFlight (drop n (u .inFlight)) (withTx (u .tx ++ map (λ s. s .
 
 -- the bytes that have gone leave, and the last one raises TX_DONE
 unfoldable pub depart : {H W : Type 0} → ℕ → Uart H W → Uart H W
-depart date u = withLineOf (txDone (length (u .inFlight)) (length (u .inFlight) - gone date (u .inFlight)) (lineOf u)) (leave (gone date (u .inFlight)) u)
+depart date u =
+    withLineOf (txDone (length (u .inFlight)) (length (u .inFlight) - gone date (u .inFlight)) (lineOf u))
+    (leave (gone date (u .inFlight)) u)
 
 -- ---- one pass
 
@@ -80,7 +83,9 @@ module _ {H W : Type 0} (s : Settings) where
 
   -- the next host byte starts
   unfoldable pub begun : ℕ → H → List H → Uart H W → Uart H W
-  begun at b bs u = withReceiving (some (record { byte = b; frame = frame s })) (withHost bs (popRun (u .hostRuns)) (withLineOf (start s at (lineOf u)) u))
+  begun at b bs u =
+      withReceiving (some (record { byte = b; frame = frame s }))
+      (withHost bs (popRun (u .hostRuns)) (withLineOf (start s at (lineOf u)) u))
 
   -- with a host byte waiting for its start: a timeout dated at or before the start comes first
   unfoldable pub beforeStart : ℕ → ℕ → H → List H → Uart H W → Pass H W
@@ -171,7 +176,9 @@ belowEmpty conf1 flying = ltb (inFifo flying) (emptyThreshold conf1)
 
 unfoldable pub assertLevels : ℕ → ℕ → Control → Control
 assertLevels held flying c =
-    withLine (raiseIf (belowEmpty (c .words .conf1) flying) TXFIFO-EMPTY (raiseIf (aboveFull (c .words .conf1) held) RXFIFO-FULL (c .line))) c
+    withLine
+    (raiseIf (belowEmpty (c .words .conf1) flying) TXFIFO-EMPTY (raiseIf (aboveFull (c .words .conf1) held) RXFIFO-FULL (c .line)))
+    c
 
 unfoldable pub intStatus : Control → ℕ
 intStatus c = bitAnd (c .line .«int_raw») (c .words .«int_ena»)

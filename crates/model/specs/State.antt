@@ -44,16 +44,20 @@ pub record Uart (H W : Type 0) : Type 0 where
 -- ---- one part changed, the others kept
 
 abbrev pub withIntRaw : ℕ → Line → Line
-withIntRaw v l = record { «int_raw» = v; «rx_mistimed» = l .«rx_mistimed»; «idle_since» = l .«idle_since»; «line_free_at» = l .«line_free_at» }
+withIntRaw v l =
+    record { «int_raw» = v; «rx_mistimed» = l .«rx_mistimed»; «idle_since» = l .«idle_since»; «line_free_at» = l .«line_free_at» }
 
 abbrev pub withMistimed : Source → Line → Line
-withMistimed v l = record { «int_raw» = l .«int_raw»; «rx_mistimed» = v; «idle_since» = l .«idle_since»; «line_free_at» = l .«line_free_at» }
+withMistimed v l =
+    record { «int_raw» = l .«int_raw»; «rx_mistimed» = v; «idle_since» = l .«idle_since»; «line_free_at» = l .«line_free_at» }
 
 abbrev pub withIdleSince : Date → Line → Line
-withIdleSince v l = record { «int_raw» = l .«int_raw»; «rx_mistimed» = l .«rx_mistimed»; «idle_since» = v; «line_free_at» = l .«line_free_at» }
+withIdleSince v l =
+    record { «int_raw» = l .«int_raw»; «rx_mistimed» = l .«rx_mistimed»; «idle_since» = v; «line_free_at» = l .«line_free_at» }
 
 abbrev pub withLineFreeAt : ℕ → Line → Line
-withLineFreeAt v l = record { «int_raw» = l .«int_raw»; «rx_mistimed» = l .«rx_mistimed»; «idle_since» = l .«idle_since»; «line_free_at» = v }
+withLineFreeAt v l =
+    record { «int_raw» = l .«int_raw»; «rx_mistimed» = l .«rx_mistimed»; «idle_since» = l .«idle_since»; «line_free_at» = v }
 
 abbrev pub controlFrom : Words → Line → ℕ → ℕ → Date → Bool → Date → Bool → Control
 controlFrom words line period last wake watched poweredDownAt level = record {

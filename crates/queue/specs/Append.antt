@@ -27,7 +27,8 @@ module _ {A : Type 0} (cap : ℕ) where
   stored-length s place (b ∷ bs) = stored-length (set s (wrap place cap) b) (suc place) bs ∙ length-set s (wrap place cap) b
 
   -- some elements, and then the others
-  stored-append : (s : List A) (place : ℕ) (xs ys : List A) → storedFrom cap s place (xs ++ ys) ≡ storedFrom cap (storedFrom cap s place xs) (place + length xs) ys
+  stored-append : (s : List A) (place : ℕ) (xs ys : List A)
+      → storedFrom cap s place (xs ++ ys) ≡ storedFrom cap (storedFrom cap s place xs) (place + length xs) ys
   unfolding storedFrom
   stored-append s place [] ys = ap (λ (p : ℕ). storedFrom cap s p ys) (sym (add-zero place))
   stored-append s place (x ∷ xs) ys =
@@ -51,22 +52,26 @@ module _ {A : Type 0} (cap : ℕ) where
       rw (w, e) (run-after (set s at b) (suc at) bs (omega arith))
 
   -- a place of the second round, or its slot
-  stored-slot : (s : List A) (place : ℕ) (bs : List A) → place + length bs ≤ cap + cap → storedFrom cap s (wrap place cap) bs ≡ storedFrom cap s place bs
+  stored-slot : (s : List A) (place : ℕ) (bs : List A) → place + length bs ≤ cap + cap
+      → storedFrom cap s (wrap place cap) bs ≡ storedFrom cap s place bs
   stored-slot s place bs fits =
       ⊎-elim
       (λ (p : place < cap). rw (wrap-in place cap p))
       (λ (p : cap ≤ place).
       let e : cap + (place - cap) ≡ place = omega arith in
-      rw (wrap-over place cap p) (run-before s (place - cap) bs (omega arith) ∙ sym (run-after s (place - cap) bs (omega arith)) ∙ ap (λ (k : ℕ). storedFrom cap s k bs) e))
+      rw (wrap-over place cap p) (run-before s (place - cap) bs (omega arith) ∙ sym (run-after s (place - cap) bs (omega arith))
+      ∙ ap (λ (k : ℕ). storedFrom cap s k bs) e))
       (side place cap)
 
   -- ---- copies
 
   -- a copy of n elements is a straight run
-  copy-before : (s : List A) (at : ℕ) (bs : List A) (n : ℕ) → length s ≡ cap → n ≤ length bs → at + n ≤ cap → paste s at bs n ≡ storedFrom cap s at (take n bs)
+  copy-before : (s : List A) (at : ℕ) (bs : List A) (n : ℕ) → length s ≡ cap → n ≤ length bs → at + n ≤ cap
+      → paste s at bs n ≡ storedFrom cap s at (take n bs)
   copy-before s at bs n long few fits =
       let l : length (take n bs) ≡ n = length-take-le n bs few in
-      sym (run-before s at (take n bs) (omega arith) ∙ sets-eq (take n bs) s at (omega arith) ∙ ap (λ (k : ℕ). take at s ++ take n bs ++ drop (at + k) s) l)
+      sym (run-before s at (take n bs) (omega arith) ∙ sets-eq (take n bs) s at (omega arith)
+      ∙ ap (λ (k : ℕ). take at s ++ take n bs ++ drop (at + k) s) l)
 
   copy-after : (s bs : List A) (n : ℕ) → length s ≡ cap → n ≤ length bs → n ≤ cap → paste s 0 bs n ≡ storedFrom cap s cap (take n bs)
   copy-after s bs n long few fits =
@@ -75,7 +80,8 @@ module _ {A : Type 0} (cap : ℕ) where
       ∙ sets-eq (take n bs) s 0 (omega arith) ∙ ap (λ (k : ℕ). take n bs ++ drop (0 + k) s) l)
 
   -- two copies, where the first ends at the end of the slots or is all
-  two-copies : (s : List A) (at : ℕ) (bs : List A) (k : ℕ) → length s ≡ cap → length bs ≤ cap → k ≤ length bs → at + k ≤ cap → (at + k ≡ cap) ⊎ (length bs ≤ k)
+  two-copies : (s : List A) (at : ℕ) (bs : List A) (k : ℕ) → length s ≡ cap → length bs ≤ cap → k ≤ length bs → at + k ≤ cap
+      → (at + k ≡ cap) ⊎ (length bs ≤ k)
       → paste (paste s at bs k) 0 (drop k bs) (length bs - k) ≡ storedFrom cap s at bs
   unfolding storedFrom
   two-copies s at bs k long few low fits way =
@@ -89,7 +95,8 @@ module _ {A : Type 0} (cap : ℕ) where
 
       whole : storedFrom cap front (at + k) (drop k bs) ≡ storedFrom cap s at bs
       whole =
-          ap (λ (n : ℕ). storedFrom cap front (at + n) (drop k bs)) (sym l) ∙ sym (stored-append s at (take k bs) (drop k bs)) ∙ ap (storedFrom cap s at) (take-append-drop k bs)
+          ap (λ (n : ℕ). storedFrom cap front (at + n) (drop k bs)) (sym l) ∙ sym (stored-append s at (take k bs) (drop k bs))
+          ∙ ap (storedFrom cap s at) (take-append-drop k bs)
 
       end : at + k ≡ cap → paste front 0 (drop k bs) (length bs - k) ≡ storedFrom cap s at bs
       end e =
@@ -106,7 +113,8 @@ module _ {A : Type 0} (cap : ℕ) where
           ∙ ap (storedFrom cap front (at + k)) (sym (drop-of-length-le bs {i = k} e)) ∙ whole
 
 -- the two copies of `append`: to the slot `at` of a place, up to the end of the slots, and then to slot 0
-pub appended : {A : Type 0} (cap : ℕ) (s : List A) (place : ℕ) (bs : List A) → length s ≡ cap → place < cap + cap → place + length bs ≤ cap + cap → length bs ≤ cap
+pub appended : {A : Type 0} (cap : ℕ) (s : List A) (place : ℕ) (bs : List A) → length s ≡ cap → place < cap + cap
+    → place + length bs ≤ cap + cap → length bs ≤ cap
     → {at k : ℕ} {t u : List A} → at ≡ wrap place cap → k ≡ before cap at (length bs)
     → t ≡ paste s at bs k → u ≡ paste t 0 (drop k bs) (length bs - k) → u ≡ storedFrom cap s place bs
 appended {A} cap s place bs long two fits few {at} {k} {t} slot first copy then =
@@ -130,7 +138,9 @@ appended {A} cap s place bs long two fits few {at} {k} {t} slot first copy then 
 pub append-elems : {A : Type 0} (d : A) (cap : ℕ) (bs s : List A) (c : Cursor) → length s ≡ cap → Held cap c → c .count + length bs ≤ cap
     → elems (slotOf (storedFrom cap s (c .start + c .count) bs) d) cap (pushedBy (length bs) c) ≡ elems (slotOf s d) cap c ++ bs
 unfolding storedFrom
-append-elems d cap [] s c long h room = elems-same (slotOf s d) (slotOf s d) cap cap (pushedBy 0 c) c (add-zero (c .count)) (λ i b. refl) ∙ sym (append-nil (elems (slotOf s d) cap c))
+append-elems d cap [] s c long h room =
+    elems-same (slotOf s d) (slotOf s d) cap cap (pushedBy 0 c) c (add-zero (c .count)) (λ i b. refl)
+    ∙ sym (append-nil (elems (slotOf s d) cap c))
 append-elems {A} d cap (b ∷ bs) s c long h room =
     let t : List A = set s (backOf cap c) b in
     let back : backOf cap c < cap = back-low cap c h in
@@ -138,5 +148,6 @@ append-elems {A} d cap (b ∷ bs) s c long h room =
     let n : c .count + suc (length bs) ≡ c .count + 1 + length bs = omega arith in
     rw (e, n)
     (append-elems d cap bs t (pushed c) (length-set s (backOf cap c) b ∙ long) (push-held cap c h 1 (omega arith)) (omega arith)
-    ∙ ap (λ (l : List A). l ++ bs) (push-elems (slotOf s d) (slotOf t d) cap c h b (omega arith) (set-stored s d (backOf cap c) b (omega arith)))
+    ∙ ap (λ (l : List A). l ++ bs) (push-elems (slotOf s d) (slotOf t d) cap c h b (omega arith)
+    (set-stored s d (backOf cap c) b (omega arith)))
     ∙ append-snoc (elems (slotOf s d) cap c) b bs)

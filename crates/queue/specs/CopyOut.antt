@@ -14,7 +14,8 @@ use Rattle.queue.specs.declared.Cursor.{Cursor}
 
 module _ {A : Type 0} (d : A) (cap : ℕ) (s : List A) (c : Cursor) (long : length s ≡ cap) (h : Held cap c) where
   -- the two straight runs
-  pub two-runs : elems (slotOf s d) cap c ≡ take (before cap (c .start) (c .count)) (drop (c .start) s) ++ take (c .count - before cap (c .start) (c .count)) s
+  pub two-runs : elems (slotOf s d) cap c ≡ take (before cap (c .start) (c .count)) (drop (c .start) s)
+      ++ take (c .count - before cap (c .start) (c .count)) s
   unfolding elems
   two-runs =
       let k = before cap (c .start) (c .count) in
@@ -23,8 +24,11 @@ module _ {A : Type 0} (d : A) (cap : ℕ) (s : List A) (c : Cursor) (long : leng
       let e : c .count ≡ k + m = omega arith in
       ap (listed f) e ∙ listed-add f k m
       ∙ ap₂ (λ (l r : List A). l ++ r)
-      (listed-same f (λ i. getD s (c .start + i) d) k (λ i b. ap (λ (j : ℕ). getD s j d) (wrap-in (c .start + i) cap (omega arith))) ∙ listed-part s d (c .start) k (omega arith))
-      (listed-same (λ i. f (k + i)) (λ i. getD s (0 + i) d) m (λ i b. ap (λ (j : ℕ). getD s j d) (wrap-over (c .start + (k + i)) cap (omega arith) ∙ omega arith)) ∙ listed-part s d 0 m (omega arith))
+      (listed-same f (λ i. getD s (c .start + i) d) k (λ i b. ap (λ (j : ℕ). getD s j d) (wrap-in (c .start + i) cap (omega arith)))
+      ∙ listed-part s d (c .start) k (omega arith))
+      (listed-same (λ i. f (k + i)) (λ i. getD s (0 + i) d) m
+      (λ i b. ap (λ (j : ℕ). getD s j d) (wrap-over (c .start + (k + i)) cap (omega arith) ∙ omega arith))
+      ∙ listed-part s d 0 m (omega arith))
 
   -- the two copies of `copy_out`: from the start up to the end of the slots, and then from slot 0
   pub copied-out : (out : List A) → c .count ≤ length out → {k : ℕ} {t u : List A} → k ≡ before cap (c .start) (c .count)
@@ -61,7 +65,8 @@ module _ {A : Type 0} (d : A) (cap : ℕ) (s : List A) (c : Cursor) (long : leng
 -- `at`, p that part after the second one, and u the buffer with it.
 pub copied-after : {A : Type 0} (d : A) (cap cap′ : ℕ) (s s′ : List A) (c c′ : Cursor) (out : List A) → {at : ℕ} {t p u : List A}
     → at ≡ c .count → t ≡ elems (slotOf s d) cap c ++ drop (c .count) out
-    → p ≡ elems (slotOf s′ d) cap′ c′ ++ drop (c′ .count) (take (length t - at) (drop at t)) → u ≡ take at t ++ (p ++ drop (length t - at) (drop at t))
+    → p ≡ elems (slotOf s′ d) cap′ c′ ++ drop (c′ .count) (take (length t - at) (drop at t))
+    → u ≡ take at t ++ (p ++ drop (length t - at) (drop at t))
     → u ≡ elems (slotOf s d) cap c ++ elems (slotOf s′ d) cap′ c′ ++ drop (c .count + c′ .count) out
 copied-after {A} d cap cap′ s s′ c c′ out {at} {t} {p} here first part whole =
     let xs : List A = elems (slotOf s d) cap c in
@@ -74,7 +79,8 @@ copied-after {A} d cap cap′ s s′ c c′ out {at} {t} {p} here first part who
     let rest : drop at t ≡ drop (c .count) out = ap (drop at) first ∙ drop-at xs (drop (c .count) out) at la in
     let lent : take k (drop at t) ≡ drop (c .count) out = take-all k (drop at t) (omega arith) ∙ rest in
     let past : drop k (drop at t) ≡ [] = drop-of-length-le (drop at t) {i = k} (omega arith) in
-    let second : p ≡ ys ++ tail = part ∙ ap (λ (l : List A). ys ++ drop (c′ .count) l) lent ∙ ap (λ (l : List A). ys ++ l) (drop-drop (c′ .count) (c .count) out) in
+    let second : p ≡ ys ++ tail = part ∙ ap (λ (l : List A). ys ++ drop (c′ .count) l) lent
+    ∙ ap (λ (l : List A). ys ++ l) (drop-drop (c′ .count) (c .count) out) in
     whole
     ∙ ap₂ (λ (a b : List A). a ++ b) front (ap₂ (λ (a b : List A). a ++ b) second past ∙ append-nil (ys ++ tail))
     ∙ sym (append-assoc xs ys tail)

@@ -25,7 +25,8 @@ module _ {A : Type 0} where
   unfolding listed
   listed-same f g zero h = refl
   listed-same f g (suc n) h =
-      ap₂ (λ (a : A) (l : List A). a ∷ l) (h 0 (zero-lt-suc n)) (listed-same (λ i. f (suc i)) (λ i. g (suc i)) n (λ i b. h (suc i) (suc-le-suc b)))
+      ap₂ (λ (a : A) (l : List A). a ∷ l) (h 0 (zero-lt-suc n))
+      (listed-same (λ i. f (suc i)) (λ i. g (suc i)) n (λ i b. h (suc i) (suc-le-suc b)))
 
   -- one more
   pub listed-suc : (f : ℕ → A) (n : ℕ) → listed f (suc n) ≡ listed f n ++ (f n ∷ [])
@@ -41,7 +42,8 @@ module _ {A : Type 0} where
       rw (suc-add n m)
       (ap (λ (l : List A). f 0 ∷ l)
       (listed-add (λ i. f (suc i)) n m
-      ∙ ap (λ (l : List A). listed (λ i. f (suc i)) n ++ l) (listed-same (λ i. f (suc (n + i))) (λ i. f (suc n + i)) m (λ i b. ap f (sym (suc-add n i))))))
+      ∙ ap (λ (l : List A). listed (λ i. f (suc i)) n ++ l)
+      (listed-same (λ i. f (suc (n + i))) (λ i. f (suc n + i)) m (λ i b. ap f (sym (suc-add n i))))))
 
   -- the i-th is the value at i
   pub getD-listed : (f : ℕ → A) (n i : ℕ) (d : A) → i < n → getD (listed f n) i d ≡ f i
@@ -58,14 +60,17 @@ module _ {A : Type 0} where
   take-listed f (suc n) (suc k) h = ap (λ (l : List A). f 0 ∷ l) (take-listed (λ i. f (suc i)) n k (le-of-suc-le-suc h))
 
   -- another value at one place
-  pub listed-set : (f g : ℕ → A) (n k : ℕ) (v : A) → k < n → g k ≡ v → ((i : ℕ) → i < n → i ≢ k → g i ≡ f i) → listed g n ≡ set (listed f n) k v
+  pub listed-set : (f g : ℕ → A) (n k : ℕ) (v : A) → k < n → g k ≡ v → ((i : ℕ) → i < n → i ≢ k → g i ≡ f i)
+      → listed g n ≡ set (listed f n) k v
   unfolding listed
   listed-set f g zero k v low new old = absurd (not-suc-le-zero low)
   listed-set f g (suc n) zero v low new old =
-      ap₂ (λ (a : A) (l : List A). a ∷ l) new (listed-same (λ i. g (suc i)) (λ i. f (suc i)) n (λ i b. old (suc i) (suc-le-suc b) (suc-ne-zero i)))
+      ap₂ (λ (a : A) (l : List A). a ∷ l) new (listed-same (λ i. g (suc i)) (λ i. f (suc i)) n
+      (λ i b. old (suc i) (suc-le-suc b) (suc-ne-zero i)))
   listed-set f g (suc n) (suc k) v low new old =
       ap₂ (λ (a : A) (l : List A). a ∷ l) (old 0 (zero-lt-suc n) (λ e. suc-ne-zero k (sym e)))
-      (listed-set (λ i. f (suc i)) (λ i. g (suc i)) n k v (le-of-suc-le-suc low) new (λ i b other. old (suc i) (suc-le-suc b) (λ e. other (suc-inj e))))
+      (listed-set (λ i. f (suc i)) (λ i. g (suc i)) n k v (le-of-suc-le-suc low) new
+      (λ i b other. old (suc i) (suc-le-suc b) (λ e. other (suc-inj e))))
 
   -- a part of an array
   pub listed-part : (s : List A) (d : A) (from n : ℕ) → from + n ≤ length s → listed (λ i. getD s (from + i) d) n ≡ take n (drop from s)

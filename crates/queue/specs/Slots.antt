@@ -49,7 +49,8 @@ pub wrap-apart : (a b cap : ℕ) → a < b → b < a + cap → b < cap + cap →
 wrap-apart a b cap less near two =
     ⊎-elim
     (λ (p : a < cap).
-    ⊎-elim (λ (q : b < cap). rw (wrap-in a cap p, wrap-in b cap q) (omega arith)) (λ (q : cap ≤ b). rw (wrap-in a cap p, wrap-over b cap q) (omega arith)) (side b cap))
+    ⊎-elim (λ (q : b < cap). rw (wrap-in a cap p, wrap-in b cap q) (omega arith))
+    (λ (q : cap ≤ b). rw (wrap-in a cap p, wrap-over b cap q) (omega arith)) (side b cap))
     (λ (p : cap ≤ a). let q : cap ≤ b = omega arith in rw (wrap-over a cap p, wrap-over b cap q) (omega arith))
     (side a cap)
 

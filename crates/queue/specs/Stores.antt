@@ -53,13 +53,15 @@ module _ {A : Type 0} (f g : ℕ → A) (cap : ℕ) (c : Cursor) (h : Held cap c
       let q : ℕ → A = λ i. g (nthOf cap i c) in
       ap (listed q) (add-one (c .count))
       ∙ listed-suc q (c .count)
-      ∙ ap₂ (λ (l : List A) (a : A). l ++ (a ∷ [])) (listed-same q p (c .count) (λ i b. s .old (nthOf cap i c) (nth-apart cap c h i (c .count) b room))) (s .new)
+      ∙ ap₂ (λ (l : List A) (a : A). l ++ (a ∷ []))
+      (listed-same q p (c .count) (λ i b. s .old (nthOf cap i c) (nth-apart cap c h i (c .count) b room))) (s .new)
 
   -- a store at the slot of the n-th element: that one is another, and the others stay
   pub nth-stored : (n : ℕ) → n < c .count → Stored (nthOf cap n c) v f g → elems g cap c ≡ set (elems f cap c) n v
   unfolding elems
   nth-stored n low s =
-      listed-set (λ i. f (nthOf cap i c)) (λ i. g (nthOf cap i c)) (c .count) n v low (s .new) (λ i b other. s .old (nthOf cap i c) (apart i b other))
+      listed-set (λ i. f (nthOf cap i c)) (λ i. g (nthOf cap i c)) (c .count) n v low (s .new)
+      (λ i b other. s .old (nthOf cap i c) (apart i b other))
     where
       apart : (i : ℕ) → i < c .count → i ≢ n → nthOf cap i c ≢ nthOf cap n c
       apart i b other =

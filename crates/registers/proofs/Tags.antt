@@ -8,7 +8,8 @@ use types.Run.{OneOf}
 use denote.Enum.Declared.{tagOf}
 use Rattle.model.specs.Registers.{places}
 use Rattle.model.specs.declared.Place.{Place}
-use Rattle.model.specs.declared.Place.the-variants.{Fifo, IntRaw, IntSt, IntEna, IntClr, Clkdiv, Status, FsmStatus, Conf0, Conf1, ClkConf, IdleConf, Rs485Conf, AtCmdChar, MemConf, MemRxStatus, Unknown}
+use Rattle.model.specs.declared.Place.the-variants.{Fifo, IntRaw, IntSt, IntEna, IntClr, Clkdiv, Status, FsmStatus, Conf0, Conf1, ClkConf}
+use Rattle.model.specs.declared.Place.the-variants.{IdleConf, Rs485Conf, AtCmdChar, MemConf, MemRxStatus, Unknown}
 use Rattle.model.proofs.Place.{the-type}
 
 -- a fact of each key of an arm
@@ -41,5 +42,6 @@ tag-place MemConf = refl
 tag-place MemRxStatus = refl
 tag-place Unknown = refl
 
-pub place-keys : (P : Place → Type 0) (k : ℕ) (ks : List ℕ) (p : Place) → Each (λ n. P (getD places n Unknown)) (k ∷ ks) → OneOf (k ∷ ks) (tagOf the-type p) → P p
+pub place-keys : (P : Place → Type 0) (k : ℕ) (ks : List ℕ) (p : Place) → Each (λ n. P (getD places n Unknown)) (k ∷ ks)
+    → OneOf (k ∷ ks) (tagOf the-type p) → P p
 place-keys P k ks p a h = subst P (tag-place p) (each (λ n. P (getD places n Unknown)) k ks (tagOf the-type p) a h)

@@ -8,8 +8,10 @@ use lib.ListN.{length}
 use Rattle.model.specs.State.{Uart}
 use Rattle.model.specs.Replies.{refused}
 use Rattle.model.specs.Tests.{refuseDate}
-use Rattle.model.specs.Calls.{unless, lastDate, hostDate, notTaken, readWork, readPlaced, writeWork, writePlaced, sendWork, send, receiveWork, receive}
-use Rattle.model.specs.Calls.{wakeWork, wake, watchWork, watch, powerDownWork, powerDown, clockWork, clockChange, resetWork, reset, takeTxWork, takeTx, takeWrittenWork, takeWritten}
+use Rattle.model.specs.Calls.{unless, lastDate, hostDate, notTaken, readWork, readPlaced, writeWork, writePlaced, sendWork, send}
+use Rattle.model.specs.Calls.{receiveWork, receive}
+use Rattle.model.specs.Calls.{wakeWork, wake, watchWork, watch, powerDownWork, powerDown, clockWork, clockChange, resetWork, reset}
+use Rattle.model.specs.Calls.{takeTxWork, takeTx, takeWrittenWork, takeWritten}
 use Rattle.model.specs.declared.Place.{Place}
 use Rattle.model.specs.declared.Write.{Write}
 use Rattle.model.specs.declared.Done.{Done}
@@ -20,18 +22,24 @@ module _ {H W : Type 0} (now : ℕ) (u : Uart H W) where
   unfolding readPlaced refuseDate datesOnly dates
   read-tests p = refl
 
-  pub write-tests : (p : Place) (v : ℕ) → writePlaced now p v u ≡ unless (datesOnly now (u .control .last)) Write.Refused (writeWork now p v) u
+  pub write-tests : (p : Place) (v : ℕ) → writePlaced now p v u
+      ≡ unless (datesOnly now (u .control .last)) Write.Refused (writeWork now p v) u
   unfolding writePlaced refuseDate datesOnly dates
   write-tests p v = refl
 
-  pub send-tests : (b : W) → send now b u ≡ unless (sending now (u .control .last) (length (u .tx)) (length (u .inFlight))) Write.Refused (sendWork now b) u
+  pub send-tests : (b : W) → send now b u ≡ unless (sending now (u .control .last) (length (u .tx)) (length (u .inFlight))) Write.Refused
+      (sendWork now b) u
   unfolding send refuseDate sending dates
   send-tests b = refl
 
   pub receive-tests : (at : ℕ) (bs : List H)
       → receive now at bs u
       ≡ unless
-      (receiving now (u .control .last) (record { bytes = length (u .host); runs = length (u .hostRuns); «last_date» = lastDate (u .hostRuns) }) (length bs) (hostDate now at))
+      (receiving now (u .control .last) (record {
+        bytes = length (u .host);
+        runs = length (u .hostRuns);
+        «last_date» = lastDate (u .hostRuns);
+      }) (length bs) (hostDate now at))
       Done.Refused (receiveWork now at bs) u
   unfolding receive refuseDate receiving dates
   receive-tests at bs = refl
@@ -48,7 +56,8 @@ module _ {H W : Type 0} (now : ℕ) (u : Uart H W) where
   unfolding powerDown refuseDate datesOnly dates
   power-down-tests = refl
 
-  pub clock-tests : (period : ℕ) → clockChange now period u ≡ unless (clocking now (u .control .last) period) Done.Refused (clockWork now period) u
+  pub clock-tests : (period : ℕ) → clockChange now period u
+      ≡ unless (clocking now (u .control .last) period) Done.Refused (clockWork now period) u
   unfolding clockChange refuseDate clocking dates
   clock-tests period = refl
 
@@ -56,10 +65,12 @@ module _ {H W : Type 0} (now : ℕ) (u : Uart H W) where
   unfolding reset refuseDate datesOnly dates
   reset-tests = refl
 
-  pub take-tests : {L : Type 0} (lent : List L) → takeTx now lent u ≡ unless (takingTx now (u .control .last) (length lent)) (notTaken lent) (takeTxWork now lent) u
+  pub take-tests : {L : Type 0} (lent : List L) → takeTx now lent u
+      ≡ unless (takingTx now (u .control .last) (length lent)) (notTaken lent) (takeTxWork now lent) u
   unfolding takeTx refuseDate takingTx takingWritten dates
   take-tests lent = refl
 
-pub written-tests : {H W L : Type 0} (lent : List L) (u : Uart H W) → takeWritten lent u ≡ unless (takingWritten (length lent)) (notTaken lent) (takeWrittenWork lent) u
+pub written-tests : {H W L : Type 0} (lent : List L) (u : Uart H W)
+    → takeWritten lent u ≡ unless (takingWritten (length lent)) (notTaken lent) (takeWrittenWork lent) u
 unfolding takeWritten takingWritten
 written-tests lent u = refl

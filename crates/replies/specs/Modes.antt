@@ -22,7 +22,8 @@ abbrev pub lowModes : ℕ → Notices → Notices
 lowModes v n = modeIf (bit 16 v) Irda (modeIf (bit 15 v) TxFlowControl (modeIf (bit 14 v) Loopback (modeIf (bit 8 v) TxBreak n)))
 
 abbrev pub highModes : ℕ → Notices → Notices
-highModes v n = modeIf (eqb (field 4 2 v) 0) NoStopBit (modeIf (bit 27 v) Autobaud (modeIf (bit 22 v) InvertedTx (modeIf (bit 19 v) InvertedRx n)))
+highModes v n =
+    modeIf (eqb (field 4 2 v) 0) NoStopBit (modeIf (bit 27 v) Autobaud (modeIf (bit 22 v) InvertedTx (modeIf (bit 19 v) InvertedRx n)))
 
 mode : Bool → Feature → Mark
 mode t f = record { test = t; what = UartFeature f }

@@ -27,7 +27,8 @@ next-place : (what : Unsupported) (ns : List Unsupported) (k : ℕ)
 next-place what [] k = refl
 next-place what (n ∷ ns) k = ap {B = List Notice} (λ l. notice n ∷ l) (next-place what ns k)
 
-stored-next : (what : Unsupported) (ns : List Unsupported) → length ns < noticePlaces → set (notices ns) (length ns) (notice what) ≡ notices (ns ++ (what ∷ []))
+stored-next : (what : Unsupported) (ns : List Unsupported) → length ns < noticePlaces
+    → set (notices ns) (length ns) (notice what) ≡ notices (ns ++ (what ∷ []))
 unfolding notices notice
 stored-next what ns h =
     let k : ℕ = noticePlaces - length (ns ++ (what ∷ [])) in
@@ -35,13 +36,15 @@ stored-next what ns h =
     ap (λ m. set (map notice ns ++ replicate m unused) (length ns) (notice what)) e ∙ next-place what ns k
 
 -- one more notice than the list has, while it has fewer than eight
-pub added-noted : (what : Unsupported) (ns : List Unsupported) → length ns < noticePlaces → added what (noted ns) ≡ noted (ns ++ (what ∷ []))
+pub added-noted : (what : Unsupported) (ns : List Unsupported) → length ns < noticePlaces
+    → added what (noted ns) ≡ noted (ns ++ (what ∷ []))
 unfolding added noted notice
 added-noted what ns h =
     choose-true _ _ (lt-ltb (length ns) noticePlaces h)
     ∙ ap₂ {C = Notices} (λ l n. record { list = l; count = n }) (stored-next what ns h) (sym (length-append ns (what ∷ [])))
 
-pub added-if-noted : (t : Bool) (what : Unsupported) (ns : List Unsupported) → length ns < noticePlaces → addedIf t what (noted ns) ≡ noted (ns ++ noteIf t what [])
+pub added-if-noted : (t : Bool) (what : Unsupported) (ns : List Unsupported) → length ns < noticePlaces
+    → addedIf t what (noted ns) ≡ noted (ns ++ noteIf t what [])
 unfolding addedIf choose noteIf
 added-if-noted true what ns h = added-noted what ns h
 added-if-noted false what ns h = ap noted (sym (append-nil ns))
@@ -71,7 +74,8 @@ note-append true what ns = refl
 note-append false what ns = refl
 
 -- the chain read from the front is what filling in order gives
-pub filled-noted : (ms : List Mark) (ns : List Unsupported) → length ns + length ms ≤ noticePlaces → filled ms (noted ns) ≡ noted (ns ++ marked ms)
+pub filled-noted : (ms : List Mark) (ns : List Unsupported) → length ns + length ms ≤ noticePlaces
+    → filled ms (noted ns) ≡ noted (ns ++ marked ms)
 unfolding filled marked
 filled-noted [] ns h = ap noted (sym (append-nil ns))
 filled-noted (m ∷ ms) ns h =
@@ -90,5 +94,6 @@ source-short notice Source.Sel0 = omega arith
 source-short notice Source.Sel2 = omega arith
 
 -- a read of an empty FIFO: what is told of a mistimed reception, then the empty read
-pub empty-read-noted : (s : Source) → added UartEmptyRead (noted (sourceNotes UartReceiveClock s)) ≡ noted (sourceNotes UartReceiveClock s ++ (UartEmptyRead ∷ []))
+pub empty-read-noted : (s : Source) → added UartEmptyRead (noted (sourceNotes UartReceiveClock s))
+    ≡ noted (sourceNotes UartReceiveClock s ++ (UartEmptyRead ∷ []))
 empty-read-noted s = added-noted UartEmptyRead _ (source-short UartReceiveClock s)

@@ -15,7 +15,8 @@ noted ns = record { list = notices ns; count = length ns }
 
 -- one more behind the others, while there is a place
 unfoldable pub added : Unsupported → Notices → Notices
-added what n = choose (ltb (n .count) noticePlaces) (record { list = set (n .list) (n .count) (record { what = what }); count = n .count + 1 }) n
+added what n =
+    choose (ltb (n .count) noticePlaces) (record { list = set (n .list) (n .count) (record { what = what }); count = n .count + 1 }) n
 
 unfoldable pub addedIf : Bool → Unsupported → Notices → Notices
 addedIf t what n = choose t (added what n) n

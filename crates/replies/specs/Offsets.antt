@@ -16,7 +16,8 @@ module _ (i : ℕ) (os : List ℕ) (h : i < length os) where
 
   pub among-passed : (o : ℕ) → (getD os i 0 ≡ o → ⊥) → among o (drop i os) ≡ among o (drop (i + 1) os)
   unfolding among
-  among-passed o n = rw add-one (ap (among o) (drop-cons os i 0 h) ∙ ap (λ t. t || among o (drop (suc i) os)) (ne-eqb o (getD os i 0) (λ e. n (sym e))))
+  among-passed o n =
+      rw add-one (ap (among o) (drop-cons os i 0 h) ∙ ap (λ t. t || among o (drop (suc i) os)) (ne-eqb o (getD os i 0) (λ e. n (sym e))))
 
   pub repeated-found : among (getD os i 0) (drop (i + 1) os) ≡ true → true ≡ repeated (drop i os)
   unfolding repeated

@@ -5,7 +5,8 @@ use Prim.Native.Nat.{ℕ}
 use mathlib.Core.Option.{Option, none, some}
 use Rattle.model.specs.Tests.{pastEnd, wentBack, transmitFull, hostFull, runsFull, periodTooLong, bufferTooShort, refuseIf}
 use Rattle.model.specs.declared.Refusal.{Refusal}
-use Rattle.model.specs.declared.Refusal.the-variants.{DatePastEnd, DateWentBack, TransmitFull, HostFull, RunsFull, PeriodTooLong, BufferTooShort}
+use Rattle.model.specs.declared.Refusal.the-variants.{DatePastEnd, DateWentBack, TransmitFull, HostFull, RunsFull, PeriodTooLong}
+use Rattle.model.specs.declared.Refusal.the-variants.{BufferTooShort}
 use Rattle.replies.specs.declared.refusals.Verdict.{Verdict}
 use Rattle.replies.specs.declared.refusals.Verdict.the-variants.{Passed, Refused}
 use Rattle.replies.specs.declared.refusals.Waiting.{Waiting}

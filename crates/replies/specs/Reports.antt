@@ -12,7 +12,8 @@ use Rattle.replies.specs.Notices.{noted}
 use Rattle.replies.specs.declared.notices.Notices.{Notices}
 
 unfoldable pub reported : Bool → Date → ℕ → ℕ → Notices → Report
-reported level wake overflows passes n = record { level = level; wake = wake; overflows = overflows; passes = passes; notices = n .list; noted = n .count }
+reported level wake overflows passes n =
+    record { level = level; wake = wake; overflows = overflows; passes = passes; notices = n .list; noted = n .count }
 
 -- the definition reads level and wake from the state that the call leaves
 pub report-of : {H W : Type 0} (passes overflows : ℕ) (ns : List Unsupported) (u : Uart H W)

@@ -50,7 +50,8 @@ stored-drop to start d h =
     ∙ ap (λ (k : ℕ). d ∷ drop k to) (sym (add-one start))
 
 module _ (to : List ℕ) (start rest d : ℕ) (within : start < length to) (e : d ≡ letter (rest % 10)) where
-  pub spelled-on : 9 < rest → 0 < start → decimalUpTo start rest ++ drop (start + 1) to ≡ decimalUpTo (start - 1) (rest / 10) ++ drop (start - 1 + 1) (set to start d)
+  pub spelled-on : 9 < rest → 0 < start → decimalUpTo start rest ++ drop (start + 1) to
+      ≡ decimalUpTo (start - 1) (rest / 10) ++ drop (start - 1 + 1) (set to start d)
   spelled-on h pos =
       let s : start ≡ suc (start - 1) = omega arith in
       let t : start ≡ start - 1 + 1 = omega arith in
@@ -58,7 +59,8 @@ module _ (to : List ℕ) (start rest d : ℕ) (within : start < length to) (e : 
       ∙ ap (λ (l : List ℕ). l ++ drop (start + 1) to) (digits-more (start - 1) rest h)
       ∙ append-snoc (decimalUpTo (start - 1) (rest / 10)) (letter (rest % 10)) (drop (start + 1) to)
       ∙ ap (λ (k : ℕ). decimalUpTo (start - 1) (rest / 10) ++ (k ∷ drop (start + 1) to)) (sym e)
-      ∙ ap (λ (l : List ℕ). decimalUpTo (start - 1) (rest / 10) ++ l) (sym (stored-drop to start d within) ∙ ap (λ (k : ℕ). drop k (set to start d)) t)
+      ∙ ap (λ (l : List ℕ). decimalUpTo (start - 1) (rest / 10) ++ l)
+      (sym (stored-drop to start d within) ∙ ap (λ (k : ℕ). drop k (set to start d)) t)
 
   pub spelled-end : rest ≤ 9 → drop start (set to start d) ≡ decimalUpTo start rest ++ drop (start + 1) to
   spelled-end h =

@@ -54,7 +54,8 @@ pairs-low (b ∷ s) (suc i) h =
 
 -- one byte's digits more in the buffer
 pub pairs-on : (s d out : List ℕ) (at i high low : ℕ) → i < length s → at + 2 * i + 1 < length d → out ≡ paste d at (hexPairs s) (2 * i)
-    → high ≡ letter (getD s i 0 / 16) → low ≡ letter (getD s i 0 % 16) → set (set out (at + 2 * i) high) (at + 2 * i + 1) low ≡ paste d at (hexPairs s) (2 * (i + 1))
+    → high ≡ letter (getD s i 0 / 16) → low ≡ letter (getD s i 0 % 16)
+    → set (set out (at + 2 * i) high) (at + 2 * i + 1) low ≡ paste d at (hexPairs s) (2 * (i + 1))
 pairs-on s d out at i high low h room e eh el =
     let p = hexPairs s in
     let len : length p ≡ 2 * length s = pairs-length s in

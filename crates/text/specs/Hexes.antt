@@ -58,7 +58,8 @@ module _ (s : List ℕ) (n b : ℕ) where
       ∙ ap (λ (l : List ℕ). getD s (2 * n) 0 ∷ l) (drop-cons s (2 * n + 1) 0 h)
       ∙ ap (λ (k : ℕ). getD s (2 * n) 0 ∷ getD s (2 * n + 1) 0 ∷ drop k s) f
 
-  pub pair-on : 2 * n + 1 < length s → b ≡ pairValue (getD s (2 * n) 0) (getD s (2 * n + 1) 0) → b ≤ 255 → spelled (drop (2 * n) s) ≡ b ∷ spelled (drop (2 * (n + 1)) s)
+  pub pair-on : 2 * n + 1 < length s → b ≡ pairValue (getD s (2 * n) 0) (getD s (2 * n + 1) 0) → b ≤ 255
+      → spelled (drop (2 * n) s) ≡ b ∷ spelled (drop (2 * (n + 1)) s)
   unfolding spelled
   pair-on h e k = rw (two h, ← e, le-ltb 255 b k)
 
@@ -76,9 +77,11 @@ pub pairs-end : (s : List ℕ) (n : ℕ) → length s ≤ 2 * n + 1 → spelled 
 pairs-end s n h = short (drop (2 * n) s) (omega (arith, length-drop (2 * n) s))
 
 -- one byte more in the buffer
-pub front-on : (s to rest : List ℕ) (n b : ℕ) → n < length to → spelled s ≡ take n to ++ (b ∷ rest) → spelled s ≡ take (n + 1) (set to n b) ++ rest
+pub front-on : (s to rest : List ℕ) (n b : ℕ) → n < length to → spelled s ≡ take n to ++ (b ∷ rest)
+    → spelled s ≡ take (n + 1) (set to n b) ++ rest
 front-on s to rest n b h e =
-    e ∙ sym (append-snoc (take n to) b rest) ∙ ap (λ (l : List ℕ). l ++ rest) (sym (take-suc-set to n b h) ∙ ap (λ (k : ℕ). take k (set to n b)) (sym (add-one n)))
+    e ∙ sym (append-snoc (take n to) b rest) ∙ ap (λ (l : List ℕ). l ++ rest)
+    (sym (take-suc-set to n b h) ∙ ap (λ (k : ℕ). take k (set to n b)) (sym (add-one n)))
 
 pub back-on : (to was : List ℕ) (n b : ℕ) → drop n to ≡ drop n was → drop (n + 1) (set to n b) ≡ drop (n + 1) was
 back-on to was n b e =

@@ -64,7 +64,8 @@ lineAfter s i line = pick (noRoom line (i .len) (bytesIn s i)) line (stored line
 -- the place, the piece and its bytes, each as it was found
 module _ (s : List ℕ) (i : Input) (at : ℕ) (p : Piece) (e : at ≡ min (i .at) (length s)) (q : p ≡ pieceAt s at) where
   pub is-gathered : (size len : ℕ) (long : Bool)
-      → len ≡ pick (ltb (size - i .len) (length (take (p .end - at) (drop at s)))) (i .len) (i .len + length (take (p .end - at) (drop at s)))
+      → len ≡ pick (ltb (size - i .len) (length (take (p .end - at) (drop at s)))) (i .len)
+      (i .len + length (take (p .end - at) (drop at s)))
       → long ≡ pick (ltb (size - i .len) (length (take (p .end - at) (drop at s)))) true (i .long)
       → record { at = p .next; end = i .end; len = len; long = long; whole = p .whole; more = i .more } ≡ gathered size s i
   unfolding gathered

@@ -11,7 +11,8 @@ use lib.Dec.{ltb, leb, eqb}
 use lib.ListN.{length, getD, drop}
 use Rattle.text.specs.Pick.{pick, decided, side}
 use Rattle.text.specs.Digits.{digitValue}
-use Rattle.text.specs.Numbers.{allDigits, valueAfter, atMost, numberAfter, numberIn, begins0x, numberOf, some-number, no-digits, after-opened}
+use Rattle.text.specs.Numbers.{allDigits, valueAfter, atMost, numberAfter, numberIn, begins0x, numberOf, some-number, no-digits}
+use Rattle.text.specs.Numbers.{after-opened}
 use Rattle.text.specs.declared.numbers.Number.{Number}
 
 -- each byte is a digit of the base
@@ -64,10 +65,13 @@ module _ (base limit n : ℕ) (s : List ℕ) where
   digits-read e =
       ⊎-elim
       (λ (h : 0 < length s). within h (allDigits base s) refl (leb (valueAfter base 0 s) limit) refl (sym (opened h) ∙ e))
-      (λ (h : length s ≤ 0). absurd (let q : Number.NoNumber ≡ Number.Value n = sym (no-digits base limit s (omega arith)) ∙ e in let z : _≡_ {A = ℕ} 0 1 = cc in omega arith))
+      (λ (h : length s ≤ 0). absurd (let q : Number.NoNumber ≡ Number.Value n = sym (no-digits base limit s (omega arith))
+      ∙ e in let z : _≡_ {A = ℕ} 0 1 = cc in omega arith))
       (side 0 (length s))
     where
-      opened : 0 < length s → numberIn base limit s ≡ pick (allDigits base s) (pick (leb (valueAfter base 0 s) limit) (Number.Value (valueAfter base 0 s)) Number.NoNumber) Number.NoNumber
+      opened : 0 < length s → numberIn base limit s
+          ≡ pick (allDigits base s) (pick (leb (valueAfter base 0 s) limit) (Number.Value (valueAfter base 0 s)) Number.NoNumber)
+          Number.NoNumber
       opened h = some-number base limit s h ∙ after-opened base limit 0 s
 
       within : 0 < length s → (t : Bool) → allDigits base s ≡ t → (u : Bool) → leb (valueAfter base 0 s) limit ≡ u
@@ -106,7 +110,8 @@ no-prefix (a ∷ b ∷ s) each =
     neither true = refl
     neither false = refl
 
-hex-number : (limit n : ℕ) (digits : List ℕ) → numberIn 16 limit digits ≡ Number.Value n → numberOf limit (48 ∷ 120 ∷ digits) ≡ Number.Value n
+hex-number : (limit n : ℕ) (digits : List ℕ) → numberIn 16 limit digits ≡ Number.Value n
+    → numberOf limit (48 ∷ 120 ∷ digits) ≡ Number.Value n
 unfolding numberOf begins0x
 hex-number limit n digits e = e
 

@@ -90,13 +90,16 @@ module _ (base limit : ℕ) where
       omega (arith, value-grows pos (value * base + digitValue c) s)
 
   pub after-opened : (value : ℕ) (s : List ℕ)
-      → numberAfter base limit value s ≡ pick (allDigits base s) (pick (leb (valueAfter base value s) limit) (Number.Value (valueAfter base value s)) Number.NoNumber) Number.NoNumber
+      → numberAfter base limit value s ≡ pick (allDigits base s)
+      (pick (leb (valueAfter base value s) limit) (Number.Value (valueAfter base value s)) Number.NoNumber) Number.NoNumber
   unfolding numberAfter atMost
   after-opened value s = refl
 
-  after-cons : (value c : ℕ) (s : List ℕ) → numberAfter base limit value (c ∷ s) ≡ pick (ltb (digitValue c) base) (numberAfter base limit (value * base + digitValue c) s) Number.NoNumber
+  after-cons : (value c : ℕ) (s : List ℕ) → numberAfter base limit value (c ∷ s)
+      ≡ pick (ltb (digitValue c) base) (numberAfter base limit (value * base + digitValue c) s) Number.NoNumber
   unfolding numberAfter allDigits valueAfter
-  after-cons value c s = nested (ltb (digitValue c) base) (allDigits base s) (atMost limit (valueAfter base (value * base + digitValue c) s)) Number.NoNumber
+  after-cons value c s =
+      nested (ltb (digitValue c) base) (allDigits base s) (atMost limit (valueAfter base (value * base + digitValue c) s)) Number.NoNumber
 
   above : (value : ℕ) (s : List ℕ) → 0 < base → limit < value → numberAfter base limit value s ≡ Number.NoNumber
   unfolding numberAfter atMost
@@ -105,7 +108,8 @@ module _ (base limit : ℕ) where
 
   -- from a place on: a digit more, a byte that is no digit, a number above the limit, and the end
   module _ (s : List ℕ) (i value d : ℕ) (h : i < length s) (e : d ≡ digitValue (getD s i 0)) where
-    step : numberAfter base limit value (drop i s) ≡ pick (ltb d base) (numberAfter base limit (value * base + d) (drop (i + 1) s)) Number.NoNumber
+    step : numberAfter base limit value (drop i s)
+        ≡ pick (ltb d base) (numberAfter base limit (value * base + d) (drop (i + 1) s)) Number.NoNumber
     step = rw (add-one, drop-cons s i 0 h, e) (after-cons value (getD s i 0) (drop (suc i) s))
 
     pub digit-on : d < base → numberAfter base limit value (drop i s) ≡ numberAfter base limit (value * base + d) (drop (i + 1) s)

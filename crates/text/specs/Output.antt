@@ -40,7 +40,8 @@ stored-twice out a b at h =
     let p = take at out ++ a in
     let len : length p ≡ at + length a = length-append (take at out) a ∙ ap (λ (k : ℕ). k + length a) (length-take-le at out h) in
     let far : at + length a + length b ≡ at + length (a ++ b) = simp length-append (omega arith) in
-    ap (λ (l : List ℕ). l ++ b ++ drop (at + length a + length b) (p ++ drop (at + length a) out)) (take-at p (drop (at + length a) out) (at + length a) len)
+    ap (λ (l : List ℕ). l ++ b ++ drop (at + length a + length b) (p ++ drop (at + length a) out))
+    (take-at p (drop (at + length a) out) (at + length a) len)
     ∙ ap (λ (k : ℕ). p ++ b ++ drop (k + length b) (p ++ drop (at + length a) out)) (sym len)
     ∙ ap (λ (l : List ℕ). p ++ b ++ l) (drop-append-add p (drop (at + length a) out) (length b) ∙ drop-drop (length b) (at + length a) out)
     ∙ ap (λ (l : List ℕ). l ++ drop (at + length a + length b) out) (append-assoc (take at out) a b)

@@ -101,7 +101,8 @@ decimal-back : (more n : ℕ) → n < 10 ^ suc more → Back n (decimalUpTo more
 decimal-back zero n h = rw (digits-last zero n (omega arith)) (one-back n (omega arith))
 decimal-back (suc more) n h =
     ⊎-elim
-    (λ (k : 9 < n). rw (digits-more more n k) (more-back n (decimalUpTo more (n / 10)) (decimal-back more (n / 10) (tenth-low (suc more) n h))))
+    (λ (k : 9 < n). rw (digits-more more n k) (more-back n (decimalUpTo more (n / 10))
+    (decimal-back more (n / 10) (tenth-low (suc more) n h))))
     (λ (k : n ≤ 9). rw (digits-last (suc more) n k) (one-back n k))
     (side 9 n)
 
@@ -110,4 +111,12 @@ pub number-back : (limit n : ℕ) → n < 2 ^ 64 → n ≤ limit → numberOf li
 number-back limit n h low =
     let b : Back n (decimal n) = decimal-back 19 n (omega arith) in
     form-number limit (decimal n) n
-    record { base = 10; digits = decimal n; form = inr (refl, refl); some = b .some; each = all-each 10 (decimal n) (b .all); value = b .value; low = low }
+    record {
+      base = 10;
+      digits = decimal n;
+      form = inr (refl, refl);
+      some = b .some;
+      each = all-each 10 (decimal n) (b .all);
+      value = b .value;
+      low = low;
+    }

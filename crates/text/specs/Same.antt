@@ -49,7 +49,8 @@ same-lengths (x ∷ a) (y ∷ b) h = by-test (eqb x y) (same-lengths a b (λ e. 
 
 -- from a place on: one byte more, two that differ, and the end
 module _ (a b : List ℕ) (i : ℕ) where
-  pub same-on : i < length a → i < length b → getD a i 0 ≡ getD b i 0 → sameBytes (drop i a) (drop i b) ≡ sameBytes (drop (i + 1) a) (drop (i + 1) b)
+  pub same-on : i < length a → i < length b → getD a i 0 ≡ getD b i 0
+      → sameBytes (drop i a) (drop i b) ≡ sameBytes (drop (i + 1) a) (drop (i + 1) b)
   unfolding sameBytes
   same-on h k e = rw (add-one, drop-cons a i 0 h, drop-cons b i 0 k, eq-eqb (getD a i 0) (getD b i 0) e)
 

@@ -78,7 +78,8 @@ module _ (stop : ℕ → Bool) where
       (λ (e : stop b ≡ false). passed k (omega (arith, before-on b s e)) e (before-passed s))
       (decided (stop b))
     where
-      passed : (k : ℕ) → k < suc (before stop s) → stop b ≡ false → ((j : ℕ) → j < before stop s → stop (getD s j 0) ≡ false) → stop (getD (b ∷ s) k 0) ≡ false
+      passed : (k : ℕ) → k < suc (before stop s) → stop b ≡ false → ((j : ℕ) → j < before stop s → stop (getD s j 0) ≡ false)
+          → stop (getD (b ∷ s) k 0) ≡ false
       passed zero l e rest = e
       passed (suc j) l e rest = rest j (le-of-suc-le-suc l)
 

@@ -5,7 +5,8 @@ use native.Mathlib.Nat.{mul-le-mul}
 use native.Mathlib.Omega.{arith}
 use mathlib.Core.Bool.{Bool, true, false}
 use Rattle.model.specs.Numbers.{choose, field}
-use Rattle.model.specs.Timing.{stopHalfBits, frameHalfBits, xtalPeriod, sourcePeriod, divider, sourceDivider, halfBitTime, bitTime, byteTime, timeoutTime}
+use Rattle.model.specs.Timing.{stopHalfBits, frameHalfBits, xtalPeriod, sourcePeriod, divider, sourceDivider, halfBitTime, bitTime}
+use Rattle.model.specs.Timing.{byteTime, timeoutTime}
 use Rattle.model.specs.Tests.{periodLimit}
 use Rattle.model.specs.declared.Words.{Words}
 

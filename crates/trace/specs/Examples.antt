@@ -23,11 +23,13 @@ abbrev watch : List ℕ
 watch = 119 ∷ 97 ∷ 116 ∷ 99 ∷ 104 ∷ 32 ∷ 53 ∷ 32 ∷ 49 ∷ []
 
 watch-line : lineOf 0 watch ≡ Line.Call Name.Watch 1
-unfolding onCall wordAt seek before named sameBytes formOf numbersFrom numberAt numberOf begins0x numberIn numberAfter allDigits valueAfter atMost digitValue bitAt endAt
+unfolding onCall wordAt seek before named sameBytes formOf numbersFrom numberAt numberOf begins0x numberIn numberAfter allDigits valueAfter
+    atMost digitValue bitAt endAt
 watch-line = refl
 
 watch-numbers : numbersOf watch ≡ 5 ∷ []
-unfolding onCall wordAt seek before named sameBytes formOf numbersFrom numberAt numberOf begins0x numberIn numberAfter allDigits valueAfter atMost digitValue
+unfolding onCall wordAt seek before named sameBytes formOf numbersFrom numberAt numberOf begins0x numberIn numberAfter allDigits valueAfter
+    atMost digitValue
 watch-numbers = refl
 
 -- "wake 5 6": the second number is the fault, and the first stays
@@ -35,11 +37,13 @@ abbrev extra : List ℕ
 extra = 119 ∷ 97 ∷ 107 ∷ 101 ∷ 32 ∷ 53 ∷ 32 ∷ 54 ∷ []
 
 extra-line : lineOf 0 extra ≡ Line.Wrong (record { reason = Reason.ExtraWord; start = 7; end = 8 })
-unfolding onCall wordAt seek before named sameBytes formOf numbersFrom numberAt numberOf begins0x numberIn numberAfter allDigits valueAfter atMost digitValue endAt
+unfolding onCall wordAt seek before named sameBytes formOf numbersFrom numberAt numberOf begins0x numberIn numberAfter allDigits valueAfter
+    atMost digitValue endAt
 extra-line = refl
 
 extra-numbers : numbersOf extra ≡ 5 ∷ []
-unfolding onCall wordAt seek before named sameBytes formOf numbersFrom numberAt numberOf begins0x numberIn numberAfter allDigits valueAfter atMost digitValue
+unfolding onCall wordAt seek before named sameBytes formOf numbersFrom numberAt numberOf begins0x numberIn numberAfter allDigits valueAfter
+    atMost digitValue
 extra-numbers = refl
 
 -- "read 5": the fault is at the name
@@ -47,7 +51,8 @@ abbrev short : List ℕ
 short = 114 ∷ 101 ∷ 97 ∷ 100 ∷ 32 ∷ 53 ∷ []
 
 short-line : lineOf 0 short ≡ Line.Wrong (record { reason = Reason.MissingWord; start = 0; end = 4 })
-unfolding onCall wordAt seek before named sameBytes formOf numbersFrom numberAt numberOf begins0x numberIn numberAfter allDigits valueAfter atMost digitValue
+unfolding onCall wordAt seek before named sameBytes formOf numbersFrom numberAt numberOf begins0x numberIn numberAfter allDigits valueAfter
+    atMost digitValue
 short-line = refl
 
 -- "receive 5 6 0A": one byte
@@ -55,9 +60,11 @@ abbrev byte : List ℕ
 byte = 114 ∷ 101 ∷ 99 ∷ 101 ∷ 105 ∷ 118 ∷ 101 ∷ 32 ∷ 53 ∷ 32 ∷ 54 ∷ 32 ∷ 48 ∷ 65 ∷ []
 
 byte-line : lineOf 2 byte ≡ Line.Call Name.Receive 1
-unfolding onCall wordAt seek before named sameBytes formOf numbersFrom numberAt numberOf begins0x numberIn numberAfter allDigits valueAfter atMost digitValue pairValue spelled pairsRead bytesAt endAt
+unfolding onCall wordAt seek before named sameBytes formOf numbersFrom numberAt numberOf begins0x numberIn numberAfter allDigits valueAfter
+    atMost digitValue pairValue spelled pairsRead bytesAt endAt
 byte-line = refl
 
 byte-after : bytesAfter byte (7 ∷ 8 ∷ []) ≡ 10 ∷ 8 ∷ []
-unfolding onCall wordAt seek before named sameBytes formOf numbersFrom numberAt numberOf begins0x numberIn numberAfter allDigits valueAfter atMost digitValue pairValue spelled pairsStored bytesKept
+unfolding onCall wordAt seek before named sameBytes formOf numbersFrom numberAt numberOf begins0x numberIn numberAfter allDigits valueAfter
+    atMost digitValue pairValue spelled pairsStored bytesKept
 byte-after = refl

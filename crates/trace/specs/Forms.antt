@@ -2,7 +2,8 @@
 use Prim.Native.Nat.{ℕ, _≤_}
 use native.Mathlib.Omega.{arith}
 use Rattle.trace.specs.declared.names.Name.{Name}
-use Rattle.trace.specs.declared.names.Name.the-variants.{Setup, Read, Write, Receive, Wake, Watch, Reset, PowerDown, Clock, TakeTx, TakeWritten, HasLeft, HostPending}
+use Rattle.trace.specs.declared.names.Name.the-variants.{Setup, Read, Write, Receive, Wake, Watch, Reset, PowerDown, Clock, TakeTx}
+use Rattle.trace.specs.declared.names.Name.the-variants.{TakeWritten, HasLeft, HostPending}
 use Rattle.trace.specs.declared.arguments.Last.{Last}
 use Rattle.trace.specs.declared.arguments.Last.the-variants.{None, Bit, Length, Bytes}
 use Rattle.trace.specs.declared.arguments.Form.{Form}

@@ -26,7 +26,8 @@ all-low d s part i h e q =
 
 -- one more of them is stored
 pub low-one : (d ns part : List ℕ) (from i v : ℕ) → length d ≡ 16 → length ns ≡ 32 → from ≤ 16 → i < 16
-    → part ≡ paste d 0 (map lowOf (drop from ns)) i → v ≡ lowOf (getD ns (from + i) 0) → set part i v ≡ paste d 0 (map lowOf (drop from ns)) (i + 1)
+    → part ≡ paste d 0 (map lowOf (drop from ns)) i → v ≡ lowOf (getD ns (from + i) 0)
+    → set part i v ≡ paste d 0 (map lowOf (drop from ns)) (i + 1)
 low-one d ns part from i v hd hn hf h e q =
     let src = map lowOf (drop from ns) in
     let none : 0 + i ≡ i = omega arith in

@@ -9,7 +9,8 @@ use lib.Seq.{drop-cons}
 use Rattle.text.specs.Pick.{pick}
 use Rattle.text.specs.Same.{sameBytes, same-equal}
 use Rattle.trace.specs.declared.names.Name.{Name}
-use Rattle.trace.specs.declared.names.Name.the-variants.{Setup, Read, Write, Receive, Wake, Watch, Reset, PowerDown, Clock, TakeTx, TakeWritten, HasLeft, HostPending}
+use Rattle.trace.specs.declared.names.Name.the-variants.{Setup, Read, Write, Receive, Wake, Watch, Reset, PowerDown, Clock, TakeTx}
+use Rattle.trace.specs.declared.names.Name.the-variants.{TakeWritten, HasLeft, HostPending}
 use Rattle.trace.specs.declared.names.Named.{Named}
 
 -- the letters of a name, in ASCII; `_` is 95
@@ -71,7 +72,8 @@ pub is-past : (word : List ℕ) (i : ℕ) → i ≡ 13 → Named.Unknown ≡ nam
 is-past word i e = is-none word ∙ ap (λ (k : ℕ). named (drop k names) word) (sym e)
 
 -- a word is compared with a name's letters
-pub is-spelled : (word : List ℕ) (n m : Name) → n ≡ m → (same : Bool) → same ≡ sameBytes word (letters m) → same ≡ sameBytes word (letters n)
+pub is-spelled : (word : List ℕ) (n m : Name) → n ≡ m → (same : Bool) → same ≡ sameBytes word (letters m)
+    → same ≡ sameBytes word (letters n)
 is-spelled word n m e same q = q ∙ ap (λ (k : Name). sameBytes word (letters k)) (sym e)
 
 -- a word names a call where it is the call's name, and nowhere else

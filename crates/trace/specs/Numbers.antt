@@ -40,7 +40,8 @@ numbersAt s at name = numbersFrom s (formOf name .wide) 0 (formOf name .count) a
 
 -- from a number on: one more, a word that is none, and the end
 module _ (s : List ℕ) (wide count i at : ℕ) where
-  from-on : i < count → numbersFrom s wide i (count - i) at ≡ onward (numberAt s at (kindAt wide i)) (numbersFrom s wide (i + 1) (count - (i + 1)))
+  from-on : i < count → numbersFrom s wide i (count - i) at
+      ≡ onward (numberAt s at (kindAt wide i)) (numbersFrom s wide (i + 1) (count - (i + 1)))
   unfolding numbersFrom
   from-on h = let e : count - i ≡ suc (count - (i + 1)) = omega arith in ap (λ (k : ℕ). numbersFrom s wide i k at) e
 

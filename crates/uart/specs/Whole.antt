@@ -46,7 +46,8 @@ Good u = Ok (u .core) (arraysOf u)
 
 -- a call answers as the definition's
 abbrev pub Answered : {X R : Type 0} → (X → R) → (X → ℕ) → (State.Uart ℕ ℕ → Outcome X ℕ ℕ) → Uart → Uart → R → Report → Type 0
-Answered view number call u u′ reply report = Answers view number (call (meaning u)) (u .core) (arraysOf u) (u′ .core) (arraysOf u′) reply report
+Answered view number call u u′ reply report =
+    Answers view number (call (meaning u)) (u .core) (arraysOf u) (u′ .core) (arraysOf u′) reply report
 
 -- the same of a call that fills a lent buffer
 abbrev pub Took : (State.Uart ℕ ℕ → Outcome (Take ℕ ℕ) ℕ ℕ) → Uart → Uart → Taken → Report → List ℕ → Type 0
@@ -80,7 +81,12 @@ pub record SetsUp (offsets resets : List ℕ) (u : Uart) (reply : SetUp) : Type 
 -- the bytes that left and those in flight fit a lent buffer
 pub sent-few : (c : Core) (a : Arrays) → Ok c a → c .tx .count + c .flight .count ≤ sentLimit
 sent-few c a ok =
-    omega (arith, ok .within .sent, elems-length (slotOf (a .tx) 0) 1152 (c .tx), elems-length (sentAt (a .goneAt) (a .flight)) 129 (c .flight))
+    omega (
+      arith,
+      ok .within .sent,
+      elems-length (slotOf (a .tx) 0) 1152 (c .tx),
+      elems-length (sentAt (a .goneAt) (a .flight)) 129 (c .flight),
+    )
 
 -- ---- set-up
 
@@ -116,7 +122,8 @@ module _ (offsets resets : List ℕ) (a : Arrays) where
   all-differ {reply} e ready =
       choose-ind (λ (r : SetUp). r ≡ SetUp.Ready → repeated offsets ≡ false) (repeated offsets) (λ _ bad. cc) (λ t _. t) (sym e ∙ ready)
 
-  pub new-good : {reply : SetUp} → length offsets ≡ 16 → Slots → reply ≡ setUpReply offsets → reply ≡ SetUp.Ready → Ok (newCore offsets resets) a
+  pub new-good : {reply : SetUp} → length offsets ≡ 16 → Slots → reply ≡ setUpReply offsets → reply ≡ SetUp.Ready
+      → Ok (newCore offsets resets) a
   new-good sixteen l e ready = record {
     shape = new-shape l;
     within = subst Within (sym new-means) (new-within offsets resets sixteen (all-differ e ready));

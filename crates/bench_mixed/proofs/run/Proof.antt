@@ -8,7 +8,8 @@ use Rattle.bench_mixed.proofs.run.Statement.{statement}
 use Rattle.bench_mixed.proofs.run.Tie as tie
 
 abbrev Inv-loop : tie.InvT-loop
-Inv-loop gone-at₀ flight₀ tx₀ host₀ run-at₀ run-len₀ rx₀ tally₀ n₀ gone-at flight tx host run-at run-len rx tally n = Ok (tally .core) (arrays gone-at flight tx host run-at run-len rx) × (n ≤ 13402)
+Inv-loop gone-at₀ flight₀ tx₀ host₀ run-at₀ run-len₀ rx₀ tally₀ n₀ gone-at flight tx host run-at run-len rx tally n =
+    Ok (tally .core) (arrays gone-at flight tx host run-at run-len rx) × (n ≤ 13402)
 
 abbrev μ-loop : tie.MeasureT-loop
 μ-loop gone-at₀ flight₀ tx₀ host₀ run-at₀ run-len₀ rx₀ tally₀ n₀ gone-at flight tx host run-at run-len rx tally n = 13402 - n

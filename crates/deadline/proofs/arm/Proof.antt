@@ -24,7 +24,8 @@ unfolding inCycles
 returns-2 c =
     ap (λ (d : Deadline). d .due) (c .after-arm .ensures)
     ∙ ap (λ n. armed (Date.At n) (c .before .before .before .before .before .args .due)) (c .before .cycles .ensures)
-    ∙ sym (ap (λ d. armed (inCycles d) (c .before .before .before .before .before .args .due)) (c .before .before .before .instant .given .1))
+    ∙ sym (ap (λ d. armed (inCycles d) (c .before .before .before .before .before .args .due))
+    (c .before .before .before .instant .given .1))
 
 pub arm-spec : {M : Type 1} → statement M
 arm-spec = tie.close (tie.spec (λ c. search needs) (λ c. search needs) cycles-requires after-arm-requires returns returns-2)

@@ -16,7 +16,13 @@ plain-date-requires c κs = tt
 returns : tie.Need-returns
 unfolding plainCore
 returns c =
-    rw (c .plain-date3 .ensures, c .before .plain-date2 .ensures, c .before .before .plain-date .ensures, c .before .before .before .plain-source .ensures, c .before .before .before .before .before .before .before .before .before .on-the-line .ensures)
+    rw (
+      c .plain-date3 .ensures,
+      c .before .plain-date2 .ensures,
+      c .before .before .plain-date .ensures,
+      c .before .before .before .plain-source .ensures,
+      c .before .before .before .before .before .before .before .before .before .on-the-line .ensures,
+    )
 
 pub plain-core-spec : {M : Type 1} → statement M
 plain-core-spec =

@@ -48,7 +48,8 @@ unfolding fate choose
 overflowed-exactly s held f = (λ e. subst (FateWhen s held f) e (fate-when s held f), λ o. rw (o .0, o .1, o .2, le-ltb held 128 (o .3)))
 
 -- the same of a pass: what it counts as an overflow
-pub pass-overflows : {H W : Type 0} (s : Settings) (date : ℕ) (u v : Uart H W) (f : Fate) → pass s date u ≡ record { found = Landed f; state = v }
+pub pass-overflows : {H W : Type 0} (s : Settings) (date : ℕ) (u v : Uart H W) (f : Fate)
+    → pass s date u ≡ record { found = Landed f; state = v }
     → f ≡ Overflowed ↔ FateWhen s (length (u .rx)) (frameOf s (u .receiving)) Overflowed
 pass-overflows s date u v f e =
     let law : PassLaw s date u (record { found = Landed f; state = v }) = subst (PassLaw s date u) e (pass-law s date u) in
@@ -74,7 +75,8 @@ landings TimedOut = 0
 landings (Landed f) = 1
 
 -- one byte less is pending after a landing, and as many as before after a timeout or where nothing was due: no pass settles everything
-pub pass-pending : {H W : Type 0} (s : Settings) (date : ℕ) (f : Found) (u v : Uart H W) → Takes s date u f v → pending u ≡ pending v + landings f
+pub pass-pending : {H W : Type 0} (s : Settings) (date : ℕ) (f : Found) (u v : Uart H W) → Takes s date u f v
+    → pending u ≡ pending v + landings f
 unfolding landings
 pass-pending s date NothingDue u v t = rw (pending-underway u, pending-underway v, t .pends) (omega arith)
 pass-pending s date TimedOut u v t = rw (pending-underway u, pending-underway v, t .pends) (omega arith)

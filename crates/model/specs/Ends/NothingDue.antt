@@ -13,7 +13,8 @@ use Rattle.dates.specs.Dates.{later}
 use Rattle.model.specs.State.{Sent, Run, OnTheLine, Uart, lineOf}
 use Rattle.model.specs.Timing.{settings}
 use Rattle.model.specs.Line.{raiseIf, timeoutAt}
-use Rattle.model.specs.Settle.{gone, leave, depart, pending, passes, begin, assertLevels, drive, noLaterThan, settlingDate, levels, leveled, settingsOf, settleTo, settle}
+use Rattle.model.specs.Settle.{gone, leave, depart, pending, passes, begin, assertLevels, drive, noLaterThan, settlingDate, levels}
+use Rattle.model.specs.Settle.{leveled, settingsOf, settleTo, settle}
 use Rattle.model.specs.Limits.{All, nil, cons, Chain, empty, single, link, flightDates}
 use Rattle.model.specs.Ends.Passes.{After, LineQuiet, Kept}
 use Rattle.model.specs.Ends.Through.{Through, Ran, ran, overflowsAmong, passes-bound, through-kept, through-quiet}
@@ -111,7 +112,8 @@ module _ {H W : Type 0} (now : ℕ) (u : Uart H W) where
   pub settle-finds : Finds now u
   unfolding settle settleTo leveled begin
   settle-finds =
-      let r : Ran (settingsOf u) date (begin (depart date u)) (passes (settingsOf u) date (depart date u)) = ran (settingsOf u) date (depart date u) in
+      let r : Ran (settingsOf u) date (begin (depart date u)) (passes (settingsOf u) date (depart date u)) =
+      ran (settingsOf u) date (depart date u) in
       record {
         finds = r .finds;
         last = passes (settingsOf u) date (depart date u) .state;

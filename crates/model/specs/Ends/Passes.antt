@@ -13,7 +13,8 @@ use Rattle.model.specs.Numbers.{choose, dueBy}
 use Rattle.model.specs.State.{Run, OnTheLine, Uart, withLine, lineOf}
 use Rattle.model.specs.Line
 use Rattle.model.specs.Line.{raiseIf, noteSource, afterDate, timeoutAt, timeOut, frame, start, land}
-use Rattle.model.specs.Settle.{Pass, received, nothingDue, timedOut, landed, inFrame, begun, beforeStart, idle, lineFree, passOn, pass}
+use Rattle.model.specs.Settle.{Pass, received, nothingDue, timedOut, landed, inFrame, begun, beforeStart, idle, lineFree, passOn}
+use Rattle.model.specs.Settle.{pass}
 use Rattle.model.specs.declared.Date.{Date}
 use Rattle.model.specs.declared.Date.the-variants.{None, At}
 use Rattle.model.specs.declared.Line.{Line}
@@ -177,13 +178,20 @@ module _ {H W : Type 0} (s : Settings) (date : ℕ) where
     timeout : DueAt date (timeoutAt s (lineOf v)) → DueAt date (timeoutAt s (lineOf u))
 
   same-refl : (u : Uart H W) → Same u u
-  same-refl u = record { kept = record { map = refl; control = refl; inFlight = refl; tx = refl }; pends = refl; rx = refl; timeout = λ h. h }
+  same-refl u =
+      record { kept = record { map = refl; control = refl; inFlight = refl; tx = refl }; pends = refl; rx = refl; timeout = λ h. h }
 
   module _ (u v : Uart H W) (same : Same u v) where
     timedOut-law : DueAt date (timeoutAt s (lineOf v)) → PassLaw s date u (timedOut s v)
     unfolding timedOut
     timedOut-law h = record {
-      kept = record { map = same .kept .map; control = ap (withLine _) (same .kept .control); inFlight = same .kept .inFlight; tx = same .kept .tx };
+      kept =
+          record {
+            map = same .kept .map;
+            control = ap (withLine _) (same .kept .control);
+            inFlight = same .kept .inFlight;
+            tx = same .kept .tx;
+          };
       takes = record { timeout = same .timeout h; closed = timeOut-closes s _ _; pends = same .pends; rx = same .rx };
     }
 
@@ -195,7 +203,13 @@ module _ {H W : Type 0} (s : Settings) (date : ℕ) where
       landed-law : lineOf v .«line_free_at» ≤ date → PassLaw s date u (landed s (Line.fate s (length (v .rx)) (l .frame)) l v)
       unfolding landed
       landed-law due = record {
-        kept = record { map = same .kept .map; control = ap (withLine _) (same .kept .control); inFlight = same .kept .inFlight; tx = same .kept .tx };
+        kept =
+            record {
+              map = same .kept .map;
+              control = ap (withLine _) (same .kept .control);
+              inFlight = same .kept .inFlight;
+              tx = same .kept .tx;
+            };
         takes = record {
           byte = l .byte;
           pends = sym (same .pends) ∙ ap (λ r. lineBytes r ++ v .host) e;
@@ -220,7 +234,8 @@ module _ {H W : Type 0} (s : Settings) (date : ℕ) where
           (λ f. landed-law (ltb-false date _ f)))
 
   module _ (u : Uart H W) (n : u .receiving ≡ none) where
-    idle-law : ((r : Run) (rs : List Run) (b : H) (bs : List H) → u .hostRuns ≡ r ∷ rs → u .host ≡ b ∷ bs → ⊥) → PassLaw s date u (idle s date u)
+    idle-law : ((r : Run) (rs : List Run) (b : H) (bs : List H) → u .hostRuns ≡ r ∷ rs → u .host ≡ b ∷ bs → ⊥)
+        → PassLaw s date u (idle s date u)
     unfolding idle
     idle-law empty =
         choose-ind (PassLaw s date u) _ (λ t. timedOut-law u u (same-refl u) (due-at date _ t))

@@ -8,8 +8,10 @@ use Rattle.model.specs.State.{Uart, withWake, withPoweredDownAt, withCon
 use Rattle.model.specs.Settle.{Settled, pending, settlingDate, settle}
 use Rattle.model.specs.Arm.{called}
 use Rattle.model.specs.Replies.{noReport, report}
-use Rattle.model.specs.Calls.{Outcome, unsettled, afterSettling, undated, dated, settleAt, clocked, added, reclocked, readWork, writeWork, sendWork, receiveWork}
-use Rattle.model.specs.Calls.{wakeWork, watchWork, powerDownWork, clockWork, resetWork, takeTxWork, takeWrittenWork, hasLeft, hostPending}
+use Rattle.model.specs.Calls.{Outcome, unsettled, afterSettling, undated, dated, settleAt, clocked, added, reclocked, readWork}
+use Rattle.model.specs.Calls.{writeWork, sendWork, receiveWork}
+use Rattle.model.specs.Calls.{wakeWork, watchWork, powerDownWork, clockWork, resetWork, takeTxWork, takeWrittenWork, hasLeft}
+use Rattle.model.specs.Calls.{hostPending}
 use Rattle.model.specs.Call.{Call, Request}
 use Rattle.model.specs.Run.{numberOf, answering, step}
 use Rattle.model.specs.Limits.{All, nil, cons, Chain, flightDates, sum}
@@ -35,7 +37,8 @@ unfoldable pub settlings : Request → Uart ℕ ℕ → List Settling
 settlings (Call.read now offset) u = record { now = now; begins = dated now u } ∷ []
 settlings (Call.write now x) u = record { now = now; begins = dated now u } ∷ []
 settlings (Call.receive now at bs) u = record { now = now; begins = dated now u } ∷ []
-settlings (Call.wake now) u = record { now = now; begins = dated now (withControl (withWake (called now (u .control .wake)) (u .control)) u) } ∷ []
+settlings (Call.wake now) u =
+    record { now = now; begins = dated now (withControl (withWake (called now (u .control .wake)) (u .control)) u) } ∷ []
 settlings (Call.reset now) u = record { now = now; begins = dated now (withControl (withPoweredDownAt Date.None (u .control)) u) } ∷ []
 settlings (Call.powerDown now) u = []
 settlings (Call.watch now b) u = []
@@ -71,9 +74,11 @@ no-date = record { passes = refl; overflows = refl }
 
 carried-counts : (c : Request) (u : Uart ℕ ℕ) → Counts (settlings c u) (carriedOut c u .answer .report)
 unfolding settlings carriedOut answering settleAt undated
-    readWork writtenAt sendWork writeWork receiveWork wakeWork resetWork powerDownWork watchWork clockWork reclocked takeTxWork takeWrittenWork hasLeft hostPending
+    readWork writtenAt sendWork writeWork receiveWork wakeWork resetWork powerDownWork watchWork clockWork reclocked takeTxWork
+    takeWrittenWork hasLeft hostPending
 carried-counts (Call.read now offset) u = one _ _
-carried-counts (Call.write now x) u = choose-ind (λ (o : Outcome Write ℕ ℕ). Counts (settlings (Call.write now x) u) (o .report)) _ (λ _. one _ _) (λ _. one _ _)
+carried-counts (Call.write now x) u =
+    choose-ind (λ (o : Outcome Write ℕ ℕ). Counts (settlings (Call.write now x) u) (o .report)) _ (λ _. one _ _) (λ _. one _ _)
 carried-counts (Call.receive now at bs) u = one _ _
 carried-counts (Call.wake now) u = one _ _
 carried-counts (Call.reset now) u = one _ _
@@ -109,7 +114,8 @@ call-settles (Call.wake now) u c = cons (settle-both now _ c) nil
 call-settles (Call.reset now) u c = cons (settle-both now _ c) nil
 call-settles (Call.powerDown now) u c = nil
 call-settles (Call.watch now b) u c = nil
-call-settles (Call.clockChange now period) u c = cons (settle-both now _ c) (cons (settle-both now _ (settle-order now (dated now u) c)) nil)
+call-settles (Call.clockChange now period) u c =
+    cons (settle-both now _ c) (cons (settle-both now _ (settle-order now (dated now u) c)) nil)
 call-settles (Call.takeTx now lent) u c = cons (settle-both now _ c) nil
 call-settles (Call.takeWritten lent) u c = nil
 call-settles Call.hasLeft u c = nil

@@ -83,7 +83,8 @@ module _ {H W : Type 0} (s : Settings) (date : ℕ) where
   timeout-less : (u v : Uart H W) → TakesTimeout s date u v → todo v < todo u
   unfolding todo openLine timeoutAt
   timeout-less u v t =
-      rw (pending-underway u, pending-underway v, t .closed, t .pends) (omega (arith, due-open s date (lineOf u .«idle_since») (t .timeout)))
+      rw (pending-underway u, pending-underway v, t .closed, t .pends)
+      (omega (arith, due-open s date (lineOf u .«idle_since») (t .timeout)))
 
   byte-less : (f : Fate) (u v : Uart H W) → TakesByte s date u f v → todo v < todo u
   unfolding todo
@@ -120,7 +121,8 @@ module _ {H W : Type 0} (s : Settings) (date : ℕ) where
   }
 
   after-pass : (k : ℕ) (t : Settled H W) (f : Found) (v : Uart H W) → pass s date (t .state) ≡ record { found = f; state = v }
-      → (Something f → Ran (counted t (record { found = f; state = v })) (passesFrom s date k true (counted t (record { found = f; state = v }))))
+      → (Something f → Ran (counted t (record { found = f; state = v }))
+      (passesFrom s date k true (counted t (record { found = f; state = v }))))
       → Ran t (passesFrom s date k (goesOn f) (counted t (record { found = f; state = v })))
   unfolding goesOn counted lost overflowsAmong
   after-pass k t NothingDue v e ih =
@@ -134,7 +136,11 @@ module _ {H W : Type 0} (s : Settings) (date : ℕ) where
   ran-from zero t lt = absurd (omega arith)
   ran-from (suc k) t lt =
       after-pass k t (pass s date (t .state) .found) (pass s date (t .state) .state) refl
-      (λ x. ran-from k _ (omega (arith, takes-less (pass s date (t .state) .found) (t .state) (pass s date (t .state) .state) x (pass-law s date (t .state) .takes))))
+      (λ x. ran-from k _ (omega (
+        arith,
+        takes-less (pass s date (t .state) .found) (t .state) (pass s date (t .state) .state) x
+            (pass-law s date (t .state) .takes),
+      )))
 
   -- the passes that a settling makes, by what they found
   pub ran : (u : Uart H W) → Ran (begin u) (passes s date u)

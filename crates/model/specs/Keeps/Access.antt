@@ -13,7 +13,8 @@ use Rattle.model.specs.State.{Sent, Uart}
 use Rattle.model.specs.Line.{fifoBytes}
 use Rattle.model.specs.Arm.{nthGone, lastGone}
 use Rattle.model.specs.Replies.{refused}
-use Rattle.model.specs.Registers.{Access, pop, gives, readLooking, readAt, looks, startsAt, goneAt, sent, dropped, sendByte, resetFifos, storing, clearing, writePlace, concluded}
+use Rattle.model.specs.Registers.{Access, pop, gives, readLooking, readAt, looks, startsAt, goneAt, sent, dropped, sendByte}
+use Rattle.model.specs.Registers.{resetFifos, storing, clearing, writePlace, concluded}
 use Rattle.model.specs.Tests.{sentLimit, transmitFull}
 use Rattle.model.specs.Calls
 use Rattle.model.specs.Calls.{afterSettling, dated, settleAt, readWork, writeWork, sendWork}
@@ -51,7 +52,8 @@ module _ {W : Type 0} where
   sends-behind now span (s ∷ ss) a h = rw lastGone-lastOf (omega (arith, all-last {P = Fits} (flightDates (s ∷ ss)) (omega arith) a))
 
   sent-within : (d : ℕ) (b : W) (ss : List (Sent W)) (tx : List W) → Fits d → (1 ≤ length (flightDates ss) → lastOf (flightDates ss) ≤ d)
-      → length ss ≤ fifoBytes → length tx + length ss < sentLimit → FlightWithin ss tx → FlightWithin (ss ++ (record { goneAt = d; byte = b } ∷ [])) tx
+      → length ss ≤ fifoBytes → length tx + length ss < sentLimit → FlightWithin ss tx
+      → FlightWithin (ss ++ (record { goneAt = d; byte = b } ∷ [])) tx
   sent-within d b ss tx f behind le room w = record {
     flying = rw length-append (omega arith);
     order = rw map-append (chain-snoc d (flightDates ss) behind (w .order));
@@ -93,7 +95,8 @@ module _ {H W : Type 0} where
   resetFifos-parts : (v : ℕ) (u : Uart H W) → Parts u → Parts (resetFifos v u)
   unfolding resetFifos
   resetFifos-parts v u p =
-      putRx (putFlight p (choose-ind (λ (ss : List (Sent W)). FlightWithin ss (u .tx)) _ (λ _. take-within 1 (u .inFlight) (u .tx) (p .flight)) (λ _. p .flight)))
+      putRx (putFlight p (choose-ind (λ (ss : List (Sent W)). FlightWithin ss (u .tx)) _
+      (λ _. take-within 1 (u .inFlight) (u .tx) (p .flight)) (λ _. p .flight)))
       (choose-ind (λ (held : List H). length held ≤ fifoBytes) _ (λ _. zero-le) (λ _. p .rx))
 
   -- stored words and INT_RAW are free
@@ -122,4 +125,5 @@ module _ {H W : Type 0} where
   unfolding Calls.send sendWork afterSettling settleAt dated
   send-parts now b u p =
       dated-parts Write.Refused _ u p now _
-      (λ h e. concluded-parts _ (sendByte-parts now b (dated now u) _ (settle-keeps now (dated now u)) (not-refused _ _ none e .0) (settleAt-parts now u h p)))
+      (λ h e. concluded-parts _ (sendByte-parts now b (dated now u) _ (settle-keeps now (dated now u)) (not-refused _ _ none e .0)
+      (settleAt-parts now u h p)))

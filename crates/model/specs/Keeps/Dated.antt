@@ -19,7 +19,8 @@ not-refused true r rest e = absurd (Option·some-ne-none r e)
 not-refused false r rest e = (refl, e)
 
 -- a refused call keeps the whole state
-pub refused-state : {R H W : Type 0} (r : Refusal) (reply : Refusal → R) (work : Uart H W → Outcome R H W) (u : Uart H W) → unless (some r) reply work u .state ≡ u
+pub refused-state : {R H W : Type 0} (r : Refusal) (reply : Refusal → R) (work : Uart H W → Outcome R H W) (u : Uart H W)
+    → unless (some r) reply work u .state ≡ u
 unfolding unless refusing
 refused-state r reply work u = refl
 
@@ -34,7 +35,8 @@ module _ {R H W : Type 0} (reply : Refusal → R) (work : Uart H W → Outcome R
       → Parts (unless (refuseDate now (u .control) rest) reply work u .state)
   unfolding refuseDate pastEnd
   dated-parts now rest w =
-      unless-parts _ (λ e. let past = not-refused (pastEnd now) _ _ e in w (leb-false _ _ (past .0)) (not-refused (wentBack (u .control .last) now) _ _ (past .1) .1))
+      unless-parts _ (λ e. let past = not-refused (pastEnd now) _ _ e in w (leb-false _ _ (past .0))
+      (not-refused (wentBack (u .control .last) now) _ _ (past .1) .1))
 
 module _ {H W : Type 0} (now : ℕ) (u : Uart H W) (h : now < dateEnd) (p : Parts u) where
   -- the last date moves

@@ -13,7 +13,9 @@ use Rattle.model.specs.State.{Uart, withTx}
 use Rattle.model.specs.Registers.{placeOf}
 use Rattle.model.specs.Tests.{sentLimit, runsLimit, periodLimit, hostFull, runsFull, periodTooLong}
 use Rattle.model.specs.Calls
-use Rattle.model.specs.Calls.{unsettled, afterSettling, undated, lastDate, hostDate, clearedLine, dated, settleAt, quiet, handOver, added, clocked, reclocked, cleared, receiveWork, wakeWork, watchWork, powerDownWork, clockWork, resetWork, takeTxWork, takeWrittenWork}
+use Rattle.model.specs.Calls.{unsettled, afterSettling, undated, lastDate, hostDate, clearedLine, dated, settleAt, quiet, handOver}
+use Rattle.model.specs.Calls.{added, clocked, reclocked, cleared, receiveWork, wakeWork, watchWork, powerDownWork, clockWork}
+use Rattle.model.specs.Calls.{resetWork, takeTxWork, takeWrittenWork}
 use Rattle.model.specs.Limits.{Chain, All, Fits, Within}
 use Rattle.model.specs.Laws.PlaceCases.{write-ind}
 use Rattle.model.specs.Keeps.Parts.{FlightWithin, Parts, putClock, putFlight, putRx, putHost, putLine, through}
@@ -36,7 +38,8 @@ other-half false b e t = absurd (false≢true t)
 pub room-before : (new runs last date : ℕ) → runsFull new runs last date ≡ false → 1 ≤ new → last < date → runs < runsLimit
 unfolding runsFull
 room-before new runs last date e h late =
-    leb-false _ _ (other-half (ltb last date) _ (and-comm (ltb last date) _ ∙ other-half (ltb 0 new) _ e (lt-ltb 0 new h)) (lt-ltb last date late))
+    leb-false _ _ (other-half (ltb last date) _ (and-comm (ltb last date) _ ∙ other-half (ltb 0 new) _ e (lt-ltb 0 new h))
+    (lt-ltb last date late))
 
 -- no byte in flight
 empty-flight : {W : Type 0} (tx : List W) → length tx ≤ sentLimit → FlightWithin [] tx
@@ -51,7 +54,8 @@ module _ {H W : Type 0} where
   handOver-parts date (b ∷ bs) u v k f five six p =
       arm-parts _
       (putHost p (joined-within date (v .hostRuns) (v .host) (b ∷ bs) f (zero-lt-suc _) (omega (arith, fewer-waiting k, ltb-false))
-      (λ some-run late. lt-of-le-of-lt (fewer-runs k) (room-before _ _ _ date six (zero-lt-suc _) (subst (λ d. d < date) (last-run k some-run) late)))
+      (λ some-run late. lt-of-le-of-lt (fewer-runs k)
+      (room-before _ _ _ date six (zero-lt-suc _) (subst (λ d. d < date) (last-run k some-run) late)))
       (p .host)))
 
   receive-parts : (now at : ℕ) (bs : List H) (u : Uart H W) → Parts u → Parts (Calls.receive now at bs u .state)
@@ -59,7 +63,8 @@ module _ {H W : Type 0} where
   receive-parts now at bs u p =
       dated-parts Done.Refused _ u p now _
       (λ h e. let five = not-refused _ _ _ e in
-      handOver-parts (hostDate now at) bs (dated now u) _ (settle-keeps now (dated now u)) (min-le-right _ _) (five .0) (not-refused _ _ none (five .1) .0)
+      handOver-parts (hostDate now at) bs (dated now u) _ (settle-keeps now (dated now u)) (min-le-right _ _) (five .0)
+      (not-refused _ _ none (five .1) .0)
       (settleAt-parts now u h p))
 
   -- ---- wake, watch, clock, power-down, reset
@@ -69,7 +74,12 @@ module _ {H W : Type 0} where
   wake-parts now u p =
       dated-parts Done.Refused _ u p now none
       (λ h _. arm-parts _ (settleAt-parts now _ h (putClock p
-      (record { low = p .clock .low; high = p .clock .high; last = p .clock .last; wake = called-within now (u .control .wake) (p .clock .wake) }))))
+      (record {
+        low = p .clock .low;
+        high = p .clock .high;
+        last = p .clock .last;
+        wake = called-within now (u .control .wake) (p .clock .wake);
+      }))))
 
   watch-parts : (now : ℕ) (b : Bool) (u : Uart H W) → Parts u → Parts (Calls.watch now b u .state)
   unfolding Calls.watch watchWork unsettled dated
@@ -82,18 +92,21 @@ module _ {H W : Type 0} where
   -- a period of 0 counts as 1, and test 7 keeps it at 1,000,000 or below
   pub clocked-parts : (period : ℕ) (u : Uart H W) → period ≤ periodLimit → Parts u → Parts (clocked period u)
   unfolding clocked
-  clocked-parts period u h p = putClock p (record { low = le-max-right _ _; high = max-le h (lit≤ tt); last = p .clock .last; wake = p .clock .wake })
+  clocked-parts period u h p =
+      putClock p (record { low = le-max-right _ _; high = max-le h (lit≤ tt); last = p .clock .last; wake = p .clock .wake })
 
   clockChange-parts : (now period : ℕ) (u : Uart H W) → Parts u → Parts (Calls.clockChange now period u .state)
   unfolding Calls.clockChange clockWork afterSettling reclocked added quiet periodTooLong
   clockChange-parts now period u p =
       dated-parts Done.Refused _ u p now _
-      (λ h e. arm-parts _ (settle-parts now _ (clocked-parts period _ (ltb-false _ _ (not-refused _ _ none e .0)) (settleAt-parts now u h p))))
+      (λ h e. arm-parts _ (settle-parts now _ (clocked-parts period _ (ltb-false _ _ (not-refused _ _ none e .0))
+      (settleAt-parts now u h p))))
 
   cleared-parts : (u : Uart H W) → Parts u → Parts (cleared u)
   unfolding cleared clearedLine
   cleared-parts u p =
-      putLine (putRx (putFlight p (empty-flight (u .tx) (omega (arith, p .flight .sent)))) zero-le) (record { idle = λ _. refl; free = p .line .free; since = tt })
+      putLine (putRx (putFlight p (empty-flight (u .tx) (omega (arith, p .flight .sent)))) zero-le)
+      (record { idle = λ _. refl; free = p .line .free; since = tt })
 
   reset-parts : (now : ℕ) (u : Uart H W) → Parts u → Parts (Calls.reset now u .state)
   unfolding Calls.reset resetWork afterSettling quiet
@@ -104,7 +117,12 @@ module _ {H W : Type 0} where
 
   taken-parts : (u : Uart H W) → Parts u → Parts (withTx [] u)
   taken-parts u p =
-      putFlight p (record { flying = p .flight .flying; order = p .flight .order; fit = p .flight .fit; sent = omega (arith, p .flight .flying) })
+      putFlight p (record {
+        flying = p .flight .flying;
+        order = p .flight .order;
+        fit = p .flight .fit;
+        sent = omega (arith, p .flight .flying);
+      })
 
   module _ {L : Type 0} where
     takeTx-parts : (now : ℕ) (lent : List L) (u : Uart H W) → Parts u → Parts (Calls.takeTx now lent u .state)
@@ -167,4 +185,5 @@ module _ {H W : Type 0} where
 pub write-within : {H : Type 0} (now offset v : ℕ) (u : Uart H ℕ) → Within u → Within (Calls.write now offset v u .state)
 unfolding Calls.write
 write-within now offset v u w =
-    write-ind (λ _ o. Within (o .state)) now v u (send-within now (v % 256) u w) (λ p. writePlaced-within now p v u w) (placeOf (u .map .offsets) offset)
+    write-ind (λ _ o. Within (o .state)) now v u (send-within now (v % 256) u w) (λ p. writePlaced-within now p v u w)
+    (placeOf (u .map .offsets) offset)

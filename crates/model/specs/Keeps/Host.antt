@@ -26,13 +26,15 @@ module _ (date n : ℕ) where
   joined-counts : (rs : List Run) → 1 ≤ n → All (λ c. 1 ≤ c) (runCounts rs) → All (λ c. 1 ≤ c) (runCounts (joined date n rs))
   unfolding joined
   joined-counts [] h a = cons h nil
-  joined-counts (r ∷ []) h (cons p a) = choose-ind (λ (l : List Run). All (λ c. 1 ≤ c) (runCounts l)) _ (λ _. cons (omega arith) nil) (λ _. cons p (cons h nil))
+  joined-counts (r ∷ []) h (cons p a) =
+      choose-ind (λ (l : List Run). All (λ c. 1 ≤ c) (runCounts l)) _ (λ _. cons (omega arith) nil) (λ _. cons p (cons h nil))
   joined-counts (r ∷ s ∷ rs) h (cons p a) = cons p (joined-counts (s ∷ rs) h a)
 
   joined-sum : (rs : List Run) → sum (runCounts (joined date n rs)) ≡ sum (runCounts rs) + n
   unfolding joined sum
   joined-sum [] = omega arith
-  joined-sum (r ∷ []) = choose-ind (λ (l : List Run). sum (runCounts l) ≡ sum (runCounts (r ∷ [])) + n) _ (λ _. omega arith) (λ _. omega arith)
+  joined-sum (r ∷ []) =
+      choose-ind (λ (l : List Run). sum (runCounts l) ≡ sum (runCounts (r ∷ [])) + n) _ (λ _. omega arith) (λ _. omega arith)
   joined-sum (r ∷ s ∷ rs) = omega (arith, joined-sum (s ∷ rs))
 
 one-more : (runs : ℕ) → (1 ≤ runs → runs < runsLimit) → runs + 1 ≤ runsLimit

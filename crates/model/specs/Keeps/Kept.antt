@@ -9,7 +9,8 @@ use mathlib.Core.List.{List, [], _∷_, _++_, map, append-assoc}
 use lib.ListN.{length, drop, length-append, length-map}
 use Rattle.model.specs.State.{Run, Uart, withLine, withLevel}
 use Rattle.model.specs.Line.{raiseIf}
-use Rattle.model.specs.Settle.{gone, txDone, leave, depart, popRun, timedOut, landed, begun, pass, onTheLine, pending, assertLevels, drive, levels, leveled, settingsOf, settleTo, settle}
+use Rattle.model.specs.Settle.{gone, txDone, leave, depart, popRun, timedOut, landed, begun, pass, onTheLine, pending, assertLevels}
+use Rattle.model.specs.Settle.{drive, levels, leveled, settingsOf, settleTo, settle}
 use Rattle.model.specs.Calls.{lastDate, written}
 use Rattle.model.specs.Limits.{runDates}
 use Rattle.model.specs.Laws.Lists.{lastOf, map-split, FromFront, front-refl, front-trans, front-length, front-last}
@@ -64,7 +65,8 @@ module _ {H W : Type 0} {u v : Uart H W} (k : Kept u v) where
 
 -- the control without the line and the level
 abbrev unmoved : Control → Control
-unmoved c = withLevel false (withLine (record { «int_raw» = 0; «rx_mistimed» = Source.None; «idle_since» = Date.None; «line_free_at» = 0 }) c)
+unmoved c =
+    withLevel false (withLine (record { «int_raw» = 0; «rx_mistimed» = Source.None; «idle_since» = Date.None; «line_free_at» = 0 }) c)
 
 abbrev Still : {H W : Type 0} → Uart H W → Uart H W → Type 0
 Still u v =
@@ -100,7 +102,16 @@ kept u v k = record {
 }
 
 still-refl : {H W : Type 0} (u : Uart H W) → Still u u
-still-refl u = record { map = refl; control = refl; written = refl; flying = front-refl _; host = front-refl _; runs = front-refl _; pending = le-refl _ }
+still-refl u =
+    record {
+      map = refl;
+      control = refl;
+      written = refl;
+      flying = front-refl _;
+      host = front-refl _;
+      runs = front-refl _;
+      pending = le-refl _;
+    }
 
 -- ---- each step
 
@@ -161,7 +172,8 @@ module _ {H W : Type 0} where
 
   settleTo-still : (date : ℕ) (u : Uart H W) → Still u (settleTo date u .state)
   unfolding settleTo leveled
-  settleTo-still date u = levels-still u _ (passes-ind (settingsOf u) (Still u) (on-line (settingsOf u) u) date (depart date u) (depart-still date u))
+  settleTo-still date u =
+      levels-still u _ (passes-ind (settingsOf u) (Still u) (on-line (settingsOf u) u) date (depart date u) (depart-still date u))
 
   pub settle-keeps : (now : ℕ) (u : Uart H W) → Kept u (settle now u .state)
   unfolding settle

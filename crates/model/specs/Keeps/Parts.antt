@@ -18,7 +18,12 @@ use Rattle.model.specs.declared.RegisterMap.{RegisterMap}
 use Rattle.model.specs.declared.Line.{Line}
 
 abbrev pub MapWithin : RegisterMap → Type 0
-MapWithin m = record { sixteen : length (m .offsets) ≡ 16; offsets : repeated (m .offsets) ≡ false; status : bitAnd (m .«idle_status») fifoCounts ≡ 0 }
+MapWithin m =
+    record {
+      sixteen : length (m .offsets) ≡ 16;
+      offsets : repeated (m .offsets) ≡ false;
+      status : bitAnd (m .«idle_status») fifoCounts ≡ 0;
+    }
 
 -- the period, the last date and the wake
 abbrev pub ClockWithin : ℕ → ℕ → Date → Type 0
@@ -46,7 +51,8 @@ HostWithin rs bs = record {
 
 -- the line: whether a heard byte is on it, since when it is idle, and when it is free
 abbrev pub LineWithin : Bool → Line → Type 0
-LineWithin heard l = record { idle : heard ≡ true → l .«idle_since» ≡ None; free : Fits (l .«line_free_at»); since : NoLater Dates.last (l .«idle_since») }
+LineWithin heard l =
+    record { idle : heard ≡ true → l .«idle_since» ≡ None; free : Fits (l .«line_free_at»); since : NoLater Dates.last (l .«idle_since») }
 
 -- the six parts, and one of them replaced
 abbrev pub Six : Type 0 → Type 0 → Type 0 → Type 0 → Type 0 → Type 0 → Type 0

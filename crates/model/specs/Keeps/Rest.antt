@@ -5,7 +5,8 @@ use mathlib.Core.Bool.{true, false}
 use mathlib.Core.Option.{none}
 use mathlib.Core.List.{[]}
 use Rattle.model.specs.State.{Uart, withLine, withLevel, withControl, withHost, withReceiving, withRx}
-use Rattle.model.specs.Settle.{Pass, leave, depart, nothingDue, timedOut, landed, begun, pass, begin, passes, levels, leveled, assertLevels, drive, settingsOf, settleTo}
+use Rattle.model.specs.Settle.{Pass, leave, depart, nothingDue, timedOut, landed, begun, pass, begin, passes, levels, leveled}
+use Rattle.model.specs.Settle.{assertLevels, drive, settingsOf, settleTo}
 use Rattle.model.specs.Laws.Cases.{pass-cases, passes-on}
 use Rattle.model.specs.declared.Date.{Date}
 use Rattle.model.specs.declared.Source.{Source}
@@ -23,13 +24,15 @@ module _ {H W : Type 0} where
   pub pass-keeps : (s : Settings) (date : ℕ) (u : Uart H W) → rest (pass s date u .state) ≡ rest u
   unfolding timedOut nothingDue landed begun
   pass-keeps s date =
-      pass-cases s date (λ (u : Uart H W) (p : Pass H W). rest (p .state) ≡ rest u) (λ u _. refl) (λ u. refl) (λ u l _. refl) (λ u at b bs p _ _ h. h)
+      pass-cases s date (λ (u : Uart H W) (p : Pass H W). rest (p .state) ≡ rest u) (λ u _. refl) (λ u. refl) (λ u l _. refl)
+      (λ u at b bs p _ _ h. h)
 
   -- a settling beyond its departures changes only the line, the receive side and the level
   pub settleTo-keeps : (date : ℕ) (u : Uart H W) → rest (settleTo date u .state) ≡ rest (depart date u)
   unfolding settleTo leveled levels drive assertLevels passes begin
   settleTo-keeps date u =
-      passes-on (λ (v w : Uart H W). rest w ≡ rest v) (settingsOf u) date (λ v. refl) (λ v w x a b. b ∙ a) (pass-keeps (settingsOf u) date) _ true _
+      passes-on (λ (v w : Uart H W). rest w ≡ rest v) (settingsOf u) date (λ v. refl) (λ v w x a b. b ∙ a)
+      (pass-keeps (settingsOf u) date) _ true _
 
   module _ (date : ℕ) (u : Uart H W) where
     pub settleTo-map : settleTo date u .state .map ≡ u .map

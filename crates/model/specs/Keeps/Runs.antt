@@ -18,7 +18,9 @@ use Rattle.model.specs.Call.{Call, Request, Answer}
 use Rattle.model.specs.Run.{Step, answering, stepBy, writing, step, runBy}
 use Rattle.model.specs.Limits.{Chain, All, sum, Within}
 use Rattle.model.specs.Keeps.Parts.{together}
-use Rattle.model.specs.Keeps.EachCall.{read-within, write-within, receive-within, wake-within, reset-within, powerDown-within, watch-within, clockChange-within, takeTx-within, takeWritten-within, hasLeft-within, hostPending-within}
+use Rattle.model.specs.Keeps.EachCall.{read-within, write-within, receive-within, wake-within, reset-within, powerDown-within}
+use Rattle.model.specs.Keeps.EachCall.{watch-within, clockChange-within, takeTx-within, takeWritten-within, hasLeft-within}
+use Rattle.model.specs.Keeps.EachCall.{hostPending-within}
 use Rattle.model.specs.declared.Write.{Write}
 
 -- ---- set-up
@@ -38,7 +40,8 @@ counts-cleared : (w : ℕ) → bitAnd (without fifoCounts w) fifoCounts ≡ 0
 counts-cleared w = and-disjoint 32 w _ fifoCounts (omega arith) refl
 
 -- set-up takes sixteen offsets, all different
-pub new-within : {H W : Type 0} (offsets ws : List ℕ) → length offsets ≡ 16 → repeated offsets ≡ false → Within {H = H} {W = W} (new offsets ws)
+pub new-within : {H W : Type 0} (offsets ws : List ℕ) → length offsets ≡ 16 → repeated offsets ≡ false
+    → Within {H = H} {W = W} (new offsets ws)
 unfolding new mapOf newControl sum
 new-within offsets ws sixteen different =
     together _ (record {
@@ -74,7 +77,9 @@ module _ {R X H W : Type 0} (rd : ℕ → R → Uart H W → Outcome (ReadOf H) 
 -- every call keeps a state within the limits
 pub step-within : (c : Request) (u : Uart ℕ ℕ) → Within u → Within (step c u .state)
 unfolding step writing
-step-within c u w = stepBy-within Calls.read writing (λ now offset v k. read-within now offset v k) (λ now x v k. write-within now (x .offset) (x .value) v k) c u w
+step-within c u w =
+    stepBy-within Calls.read writing (λ now offset v k. read-within now offset v k)
+    (λ now x v k. write-within now (x .offset) (x .value) v k) c u w
 
 -- ---- a list of calls
 
@@ -97,5 +102,6 @@ calls-within [] u w = w
 calls-within (c ∷ cs) u w = calls-within cs (step c u .state) (step-within c u w)
 
 -- from set-up on
-pub reached-within : (offsets ws : List ℕ) (cs : List Request) → length offsets ≡ 16 → repeated offsets ≡ false → Within (stateAfter step cs (new offsets ws))
+pub reached-within : (offsets ws : List ℕ) (cs : List Request) → length offsets ≡ 16 → repeated offsets ≡ false
+    → Within (stateAfter step cs (new offsets ws))
 reached-within offsets ws cs sixteen different = calls-within cs (new offsets ws) (new-within offsets ws sixteen different)

@@ -12,7 +12,8 @@ use Rattle.dates.specs.Dates
 use Rattle.dates.specs.Dates.{after}
 use Rattle.model.specs.State.{Sent, Run, Uart, withLineFreeAt}
 use Rattle.model.specs.Line.{fifoBytes, raiseIf, noteSource, opened, timeOut, frame, start, fate, land}
-use Rattle.model.specs.Settle.{gone, txDone, leave, depart, popRun, received, timedOut, landed, begun, pass, assertLevels, drive, levels, leveled, settingsOf, settleTo, settle}
+use Rattle.model.specs.Settle.{gone, txDone, leave, depart, popRun, received, timedOut, landed, begun, pass, assertLevels, drive}
+use Rattle.model.specs.Settle.{levels, leveled, settingsOf, settleTo, settle}
 use Rattle.model.specs.Limits.{cons, sum, flightDates, NoLater, Fits, Within}
 use Rattle.model.specs.Laws.Lists.{chain-drop, all-head, all-drop, map-drop}
 use Rattle.model.specs.Laws.Choose.{choose-ind}
@@ -26,7 +27,8 @@ use Rattle.model.specs.declared.Fate.the-variants.{Stored, Overflowed, C
 
 -- ---- departures
 
-drop-within : {W : Type 0} (n : ℕ) (ss : List (Sent W)) (tx : List W) → FlightWithin ss tx → FlightWithin (drop n ss) (tx ++ map (λ s. s .byte) (take n ss))
+drop-within : {W : Type 0} (n : ℕ) (ss : List (Sent W)) (tx : List W) → FlightWithin ss tx
+    → FlightWithin (drop n ss) (tx ++ map (λ s. s .byte) (take n ss))
 drop-within n ss tx w = record {
   flying = rw length-drop (omega arith);
   order = rw map-drop (chain-drop n (flightDates ss) (w .order));
@@ -44,7 +46,8 @@ depart-parts date u p = putFlight p (drop-within (gone date (u .inFlight)) (u .i
 timeOut-within : (s : Settings) (held : ℕ) (heard : Bool) (l : Line) → LineWithin heard l → LineWithin heard (timeOut s held l)
 unfolding timeOut raiseIf noteSource
 timeOut-within s held heard l w =
-    choose-ind (LineWithin heard) _ (λ _. record { idle = λ _. refl; free = w .free; since = tt }) (λ _. record { idle = λ _. refl; free = w .free; since = tt })
+    choose-ind (LineWithin heard) _ (λ _. record { idle = λ _. refl; free = w .free; since = tt })
+    (λ _. record { idle = λ _. refl; free = w .free; since = tt })
 
 -- no byte is on the line
 free-within : (l : Line) → Fits (l .«line_free_at») → NoLater Dates.last (l .«idle_since») → LineWithin false l
@@ -72,7 +75,8 @@ received-within : {H : Type 0} (s : Settings) (how : Frame) (b : H) (held : List
     → length (received (fate s (length held) how) b held) ≤ fifoBytes
 unfolding received fate
 received-within {H} s how b held le =
-    choose-ind Fine _ (λ _. choose-ind Fine _ (λ _. choose-ind Fine _ (λ _. le) (λ _. choose-ind Fine _ (λ t. stored (ltb-true _ _ t)) (λ _. le))) (λ _. le)) (λ _. le)
+    choose-ind Fine _ (λ _. choose-ind Fine _ (λ _.
+    choose-ind Fine _ (λ _. le) (λ _. choose-ind Fine _ (λ t. stored (ltb-true _ _ t)) (λ _. le))) (λ _. le)) (λ _. le)
   where
     Fine : Fate → Type 0
     Fine f = length (received f b held) ≤ fifoBytes
@@ -112,7 +116,9 @@ unfolding timedOut landed begun
 on-line s = record {
   timeout = λ u p. putLine p (timeOut-within s _ _ _ (p .line));
   landing = λ l u p. putLine (putRx p (received-within s (l .frame) (l .byte) (u .rx) (p .rx))) (land-within s _ (l .frame) _ _ (p .line));
-  start = λ at b bs u e h p. putLine (putHost p (popRun-within (u .hostRuns) b bs (subst (HostWithin (u .hostRuns)) h (p .host)))) (start-within s at _ _ (p .line));
+  start =
+      λ at b bs u e h p. putLine (putHost p (popRun-within (u .hostRuns) b bs (subst (HostWithin (u .hostRuns)) h (p .host))))
+      (start-within s at _ _ (p .line));
 }
 
 -- ---- levels, and the whole

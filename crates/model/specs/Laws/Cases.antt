@@ -12,7 +12,8 @@ use Rattle.model.specs.Numbers.{dueBy}
 use Rattle.model.specs.Laws.Choose.{choose-ind}
 use Rattle.model.specs.State.{Run, OnTheLine, Uart, lineOf}
 use Rattle.model.specs.Line.{timeoutAt, fate}
-use Rattle.model.specs.Settle.{Pass, Settled, nothingDue, timedOut, landed, inFrame, begun, beforeStart, idle, lineFree, passOn, pass, counted, passesFrom, begin, passes}
+use Rattle.model.specs.Settle.{Pass, Settled, nothingDue, timedOut, landed, inFrame, begun, beforeStart, idle, lineFree, passOn, pass}
+use Rattle.model.specs.Settle.{counted, passesFrom, begin, passes}
 use Rattle.model.specs.declared.Date.{Date}
 use Rattle.model.specs.declared.Settings.{Settings}
 
@@ -28,7 +29,8 @@ module _ {H W : Type 0} (s : Settings) (date : ℕ) (P : Uart H W → Pass H W �
     (out : (u : Uart H W) → dueBy date (timeoutAt s (lineOf u)) ≡ true → P u (timedOut s u))
     (nothing : (u : Uart H W) → P u (nothingDue u))
     (lands : (u : Uart H W) (l : OnTheLine H) → u .receiving ≡ some l → P u (landed s (fate s (length (u .rx)) (l .frame)) l u))
-    (starts : (u : Uart H W) (at : ℕ) (b : H) (bs : List H) (p : Pass H W) → u .receiving ≡ none → u .host ≡ b ∷ bs → P (begun s at b bs u) p → P u p) where
+    (starts : (u : Uart H W) (at : ℕ) (b : H) (bs : List H) (p : Pass H W) → u .receiving ≡ none → u .host ≡ b ∷ bs
+    → P (begun s at b bs u) p → P u p) where
   in-frame : (l : OnTheLine H) (u : Uart H W) → u .receiving ≡ some l → P u (inFrame s date l u)
   unfolding inFrame
   in-frame l u e = choose-ind (P u) _ (λ h. out u h) (λ _. choose-ind (P u) _ (λ _. nothing u) (λ _. lands u l e))

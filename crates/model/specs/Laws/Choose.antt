@@ -18,7 +18,8 @@ choose-ind P true p q = p refl
 choose-ind P false p q = q refl
 
 -- a function of the choice is the choice of what it gives
-pub choose-nat {ℓ κ} : {X : Type ℓ} {Y : Type κ} (g : X → Y) (t : Bool) {x y : X} {x′ y′ : Y} → x′ ≡ g x → y′ ≡ g y → choose t x′ y′ ≡ g (choose t x y)
+pub choose-nat {ℓ κ} : {X : Type ℓ} {Y : Type κ} (g : X → Y) (t : Bool) {x y : X} {x′ y′ : Y} → x′ ≡ g x → y′ ≡ g y
+    → choose t x′ y′ ≡ g (choose t x y)
 unfolding choose
 choose-nat g true p q = p
 choose-nat g false p q = q

@@ -96,7 +96,8 @@ module _ {A : Type 0} where
   front-refl l = record { less = 0; rest = refl }
 
   pub front-trans : (k l m : List A) → FromFront k l → FromFront l m → FromFront k m
-  front-trans k l m a b = record { less = a .less + b .less; rest = b .rest ∙ ap (drop (b .less)) (a .rest) ∙ drop-drop (b .less) (a .less) k }
+  front-trans k l m a b =
+      record { less = a .less + b .less; rest = b .rest ∙ ap (drop (b .less)) (a .rest) ∙ drop-drop (b .less) (a .less) k }
 
   pub front-length : (k l : List A) → FromFront k l → length l ≤ length k
   front-length k l a = rw (ap length (a .rest), length-drop) (omega arith)

@@ -8,7 +8,8 @@ use Rattle.model.specs.Replies.{ReadOf}
 use Rattle.model.specs.Registers.{Access, pop, gives, readPlace, storing, clearing, resetFifos, writePlace}
 use Rattle.model.specs.Calls.{Outcome, refusing, unless, send, writePlaced, writeAt}
 use Rattle.model.specs.declared.Place.{Place}
-use Rattle.model.specs.declared.Place.the-variants.{Fifo, IntRaw, IntSt, IntEna, IntClr, Clkdiv, Status, FsmStatus, Conf0, Conf1, ClkConf, IdleConf, Rs485Conf, AtCmdChar, MemConf, MemRxStatus, Unknown}
+use Rattle.model.specs.declared.Place.the-variants.{Fifo, IntRaw, IntSt, IntEna, IntClr, Clkdiv, Status, FsmStatus, Conf0, Conf1}
+use Rattle.model.specs.declared.Place.the-variants.{ClkConf, IdleConf, Rs485Conf, AtCmdChar, MemConf, MemRxStatus, Unknown}
 use Rattle.model.specs.declared.Refusal.{Refusal}
 use Rattle.model.specs.declared.Unsupported.{Unsupported}
 use Rattle.model.specs.declared.Write.{Write}
@@ -36,7 +37,8 @@ write-ind P now v u f g MemRxStatus = g MemRxStatus
 write-ind P now v u f g Unknown = g Unknown
 
 -- what holds of each refusal and of the work done holds of a call that may be refused
-pub unless-ind : {R H W : Type 0} (P : Outcome R H W → Type 0) (o : Option Refusal) (reply : Refusal → R) (work : Uart H W → Outcome R H W) (u : Uart H W)
+pub unless-ind : {R H W : Type 0} (P : Outcome R H W → Type 0) (o : Option Refusal) (reply : Refusal → R) (work : Uart H W → Outcome R H W)
+    (u : Uart H W)
     → ((r : Refusal) → P (refusing (reply r) u)) → P (work u) → P (unless o reply work u)
 unfolding unless
 unless-ind P none reply work u a b = b
@@ -44,7 +46,8 @@ unless-ind P (some r) reply work u a b = a r
 
 -- what a write does at a place other than FIFO is one of three things
 pub writePlace-ind : {H W : Type 0} (P : Place → Access Write H W → Type 0) (v : ℕ) (u : Uart H W)
-    → ((p : Place) → P p (storing p v u)) → P IntClr (clearing v u) → P Conf0 (storing Conf0 v (resetFifos v u)) → (p : Place) → P p (writePlace p v u)
+    → ((p : Place) → P p (storing p v u)) → P IntClr (clearing v u) → P Conf0 (storing Conf0 v (resetFifos v u)) → (p : Place)
+    → P p (writePlace p v u)
 unfolding writePlace
 writePlace-ind P v u s c r Fifo = s Fifo
 writePlace-ind P v u s c r IntRaw = s IntRaw

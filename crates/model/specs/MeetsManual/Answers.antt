@@ -10,14 +10,17 @@ use Rattle.model.specs.Numbers.{choose}
 use Rattle.model.specs.State.{Uart}
 use Rattle.model.specs.Line.{fifoBytes}
 use Rattle.model.specs.Replies.{ReadOf}
-use Rattle.model.specs.Registers.{Access, placeOf, pop, gives, readPlace, sendByte, sent, dropped, storing, clearing, resetFifos, writePlace}
+use Rattle.model.specs.Registers.{Access, placeOf, pop, gives, readPlace, sendByte, sent, dropped, storing, clearing, resetFifos}
+use Rattle.model.specs.Registers.{writePlace}
 use Rattle.model.specs.Tests.{dateEnd, pastEnd, wentBack, sentLimit, transmitFull, refuseIf, refuseDate}
 use Rattle.model.specs.Calls
-use Rattle.model.specs.Calls.{Outcome, refusing, unless, settleAt, readPlaced, readWork, writePlaced, writeWork, send, sendWork, writeAt}
+use Rattle.model.specs.Calls.{Outcome, refusing, unless, settleAt, readPlaced, readWork, writePlaced, writeWork, send, sendWork}
+use Rattle.model.specs.Calls.{writeAt}
 use Rattle.model.specs.Call.{Call, Written, reads, writes}
 use Rattle.model.specs.Run.{answering, stepBy, writing, step}
 use Rattle.model.specs.declared.Place.{Place}
-use Rattle.model.specs.declared.Place.the-variants.{Fifo, IntRaw, IntSt, IntEna, IntClr, Clkdiv, Status, FsmStatus, Conf0, Conf1, ClkConf, IdleConf, Rs485Conf, AtCmdChar, MemConf, MemRxStatus, Unknown}
+use Rattle.model.specs.declared.Place.the-variants.{Fifo, IntRaw, IntSt, IntEna, IntClr, Clkdiv, Status, FsmStatus, Conf0, Conf1}
+use Rattle.model.specs.declared.Place.the-variants.{ClkConf, IdleConf, Rs485Conf, AtCmdChar, MemConf, MemRxStatus, Unknown}
 use Rattle.model.specs.declared.Refusal.{Refusal}
 use Rattle.model.specs.declared.Refusal.the-variants.{DatePastEnd, DateWentBack, TransmitFull}
 use Rattle.model.specs.declared.Unsupported.{Unsupported}
@@ -32,17 +35,21 @@ pub record InTime {H W : Type 0} (now : ℕ) (u : Uart H W) : Type 0 where
   pub beforeEnd : now < dateEnd
   pub notBack : u .control .last ≤ now
 
-pub in-time : {H W : Type 0} {now : ℕ} {u : Uart H W} → InTime now u → (others : Option Refusal) → refuseDate now (u .control) others ≡ others
+pub in-time : {H W : Type 0} {now : ℕ} {u : Uart H W} → InTime now u → (others : Option Refusal)
+    → refuseDate now (u .control) others ≡ others
 unfolding refuseDate refuseIf pastEnd wentBack
 in-time {now = now} {u = u} h others =
-    ap₂ (λ (a b : Bool). refuseIf a DatePastEnd (refuseIf b DateWentBack others)) (lt-leb dateEnd now (h .beforeEnd)) (le-ltb now (u .control .last) (h .notBack))
+    ap₂ (λ (a b : Bool). refuseIf a DatePastEnd (refuseIf b DateWentBack others)) (lt-leb dateEnd now (h .beforeEnd))
+    (le-ltb now (u .control .last) (h .notBack))
 
-pub carried-out : {R H W : Type 0} {o : Option Refusal} (reply : Refusal → R) (work : Uart H W → Outcome R H W) (u : Uart H W) → o ≡ none → unless o reply work u ≡ work u
+pub carried-out : {R H W : Type 0} {o : Option Refusal} (reply : Refusal → R) (work : Uart H W → Outcome R H W) (u : Uart H W) → o ≡ none
+    → unless o reply work u ≡ work u
 unfolding unless
 carried-out reply work u e = ap (λ (o : Option Refusal). unless o reply work u) e
 
 module _ {now : ℕ} {u : Uart ℕ ℕ} (t : InTime now u) where
-  pub read-answer : (offset : ℕ) (p : Place) → placeOf (u .map .offsets) offset ≡ p → step (Call.read now offset) u ≡ answering reads (readWork now p u)
+  pub read-answer : (offset : ℕ) (p : Place) → placeOf (u .map .offsets) offset ≡ p
+      → step (Call.read now offset) u ≡ answering reads (readWork now p u)
   unfolding step stepBy Calls.read readPlaced
   read-answer offset p e =
       ap (λ (q : Place). answering reads (readPlaced now q u)) e ∙ ap (answering reads) (carried-out _ (readWork now p) u (in-time t none))
@@ -56,7 +63,8 @@ module _ {now : ℕ} {u : Uart ℕ ℕ} (t : InTime now u) where
       ∙ ap (answering writes) (carried-out _ (sendWork now (x .value % 256)) u
       (in-time t _ ∙ ap (λ (b : Bool). refuseIf b TransmitFull none) (lt-leb sentLimit (length (u .tx) + length (u .inFlight)) room)))
 
-  pub clear-answer : (x : Written) → placeOf (u .map .offsets) (x .offset) ≡ IntClr → step (Call.write now x) u ≡ answering writes (writeWork now IntClr (x .value) u)
+  pub clear-answer : (x : Written) → placeOf (u .map .offsets) (x .offset) ≡ IntClr
+      → step (Call.write now x) u ≡ answering writes (writeWork now IntClr (x .value) u)
   unfolding step stepBy writing Calls.write writeAt writePlaced
   clear-answer x e =
       ap (λ (q : Place). answering writes (writeAt now q (x .value) u)) e

@@ -12,7 +12,8 @@ use borrow.Author.Tests.{lt-ltb}
 use Rattle.model.specs.Manual
 use Rattle.model.specs.State.{Uart}
 use Rattle.model.specs.Timing.{settings}
-use Rattle.model.specs.Settle.{Settled, depart, pass, goesOn, lost, counted, passesFrom, passes, pending, begin, aboveFull, belowEmpty, inFifo, emptyThreshold, leveled, settingsOf, settleTo}
+use Rattle.model.specs.Settle.{Settled, depart, pass, goesOn, lost, counted, passesFrom, passes, pending, begin, aboveFull}
+use Rattle.model.specs.Settle.{belowEmpty, inFifo, emptyThreshold, leveled, settingsOf, settleTo}
 use Rattle.model.specs.Tests.{among}
 use Rattle.model.specs.Keeps.Rest.{settleTo-words}
 use Rattle.model.specs.MeetsManual.Rises.{rawBit, raisedBy, somePass, doneIn, passedIn, fullIn, emptyIn, settleTo-raises}
@@ -33,7 +34,8 @@ module _ {H W : Type 0} (q : ℕ → Found → Bool) (s : Settings) (date : ℕ)
   same-passes r h (suc k) false u = refl
   same-passes r h (suc k) true u = ap₂ _||_ (h (length (u .rx)) (pass s date u .found)) (same-passes r h k _ _)
 
-  on-some-pass : (b : Bool) (k : ℕ) (go : Bool) (u : Uart H W) → somePass (λ held f. b && q held f) s date k go u ≡ (b && somePass q s date k go u)
+  on-some-pass : (b : Bool) (k : ℕ) (go : Bool) (u : Uart H W)
+      → somePass (λ held f. b && q held f) s date k go u ≡ (b && somePass q s date k go u)
   unfolding somePass
   on-some-pass b zero false u = sym (and-false b)
   on-some-pass b zero true u = sym (and-false b)
@@ -146,7 +148,8 @@ module _ {H W : Type 0} (date : ℕ) (u : Uart H W) where
 
   timeouts-raise : passedIn 8 date u ≡ timeoutCame
   unfolding timeoutCame settingsOf
-  timeouts-raise = same-passes (raisedBy (settingsOf u) 8) (settingsOf u) date _ (timeout-raises (u .control .words) (u .control .period)) _ true _
+  timeouts-raise =
+      same-passes (raisedBy (settingsOf u) 8) (settingsOf u) date _ (timeout-raises (u .control .words) (u .control .period)) _ true _
 
   -- the only part that bears on the bit
   only : (n : ℕ) {d p f e : Bool} → doneIn n u after ≡ d → passedIn n date u ≡ p → fullIn n after ≡ f → emptyIn n after ≡ e
@@ -173,8 +176,12 @@ module _ {H W : Type 0} (date : ℕ) (u : Uart H W) where
   pub settling-rises : FiveBits after (settleTo date u .overflows)
   unfolding Manual.RXFIFO-FULL Manual.TXFIFO-EMPTY Manual.TX-DONE aboveFull belowEmpty inFifo emptyThreshold among
   settling-rises = record {
-    full = only 0 refl (no-pass-raises 0 refl refl) (words-same (λ (w : Words). aboveFull (w .conf1) (length (after .rx)))) refl ∙ simp or-false;
-    empty = only 1 refl (no-pass-raises 1 refl refl) refl (words-same (λ (w : Words). belowEmpty (w .conf1) (length (after .inFlight)))) ∙ simp or-false;
+    full =
+        only 0 refl (no-pass-raises 0 refl refl) (words-same (λ (w : Words). aboveFull (w .conf1) (length (after .rx)))) refl
+        ∙ simp or-false;
+    empty =
+        only 1 refl (no-pass-raises 1 refl refl) refl (words-same (λ (w : Words). belowEmpty (w .conf1) (length (after .inFlight))))
+        ∙ simp or-false;
     ovf = only 4 refl overflows-raise refl refl ∙ simp or-false;
     tout = only 8 refl timeouts-raise refl refl ∙ simp or-false;
     done = only 14 refl (no-pass-raises 14 refl refl) refl refl ∙ simp or-false;

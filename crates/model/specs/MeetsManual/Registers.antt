@@ -13,10 +13,12 @@ use Rattle.model.specs.Numbers.{bit}
 use Rattle.model.specs.Manual
 use Rattle.model.specs.Manual.{RXFIFO-CNT, TXFIFO-CNT}
 use Rattle.model.specs.State.{Uart, lineOf}
-use Rattle.model.specs.Settle.{inFifo, aboveFull, belowEmpty, emptyThreshold, intStatus, drive, levels, leveled, settleTo, settle, settlingDate}
+use Rattle.model.specs.Settle.{inFifo, aboveFull, belowEmpty, emptyThreshold, intStatus, drive, levels, leveled, settleTo, settle}
+use Rattle.model.specs.Settle.{settlingDate}
 use Rattle.model.specs.Arm.{arm}
 use Rattle.model.specs.Replies.{word, report}
-use Rattle.model.specs.Registers.{placeOf, loaded, looks, statusWord, pop, gives, readPlace, readLooking, readAt, clearing, writePlace, concluded}
+use Rattle.model.specs.Registers.{placeOf, loaded, looks, statusWord, pop, gives, readPlace, readLooking, readAt, clearing}
+use Rattle.model.specs.Registers.{writePlace, concluded}
 use Rattle.model.specs.SetUp.{fifoCounts}
 use Rattle.model.specs.Calls.{afterSettling, dated, settleAt, readWork, writeWork}
 use Rattle.model.specs.Call.{Call, Written, reads}
@@ -46,7 +48,8 @@ high-clear : (idle : ℕ) → bitAnd idle fifoCounts ≡ 0 → idle / 2 ^ 16 % 2
 high-clear idle h =
     let mask : bitAnd (idle / 2 ^ 16 % 2 ^ 10) 1023 ≡ idle / 2 ^ 16 % 2 ^ 10 % 2 ^ 10 = and-mask (idle / 2 ^ 16 % 2 ^ 10) 10 in
     let zero-mod : bitAnd (idle / 2 ^ 16 % 2 ^ 10) 1023 ≡ 0 =
-    sym (and-mod (idle / 2 ^ 16) (fifoCounts / 2 ^ 16) 10) ∙ ap (λ (x : ℕ). x % 2 ^ 10) (sym (and-shr idle fifoCounts 16)) ∙ ap (λ (x : ℕ). x / 2 ^ 16 % 2 ^ 10) h in
+    sym (and-mod (idle / 2 ^ 16) (fifoCounts / 2 ^ 16) 10) ∙ ap (λ (x : ℕ). x % 2 ^ 10) (sym (and-shr idle fifoCounts 16))
+    ∙ ap (λ (x : ℕ). x / 2 ^ 16 % 2 ^ 10) h in
     omega arith
 
 -- the low digits of an or of three, from theirs
@@ -62,11 +65,13 @@ low-count idle flying held h l =
     ap (λ (x : ℕ). x % 2 ^ 10) (div-one (statusWord idle flying held))
     ∙ or-low idle (inFifo flying * 2 ^ 16) held 10 {x = 0} {y = 0} {z = held} (low-clear idle h) (omega arith) (omega arith)
 
-high-count : (idle flying held : ℕ) → bitAnd idle fifoCounts ≡ 0 → held ≤ 128 → flying ≤ 129 → TXFIFO-CNT (statusWord idle flying held) ≡ flying - 1
+high-count : (idle flying held : ℕ) → bitAnd idle fifoCounts ≡ 0 → held ≤ 128 → flying ≤ 129
+    → TXFIFO-CNT (statusWord idle flying held) ≡ flying - 1
 unfolding statusWord inFifo
 high-count idle flying held h l m =
     ap (λ (x : ℕ). x % 2 ^ 10) (or-high idle ((flying - 1) * 2 ^ 16) held 16)
-    ∙ or-low (idle / 2 ^ 16) ((flying - 1) * 2 ^ 16 / 2 ^ 16) (held / 2 ^ 16) 10 {x = 0} {y = flying - 1} {z = 0} (high-clear idle h) (omega arith) (omega arith)
+    ∙ or-low (idle / 2 ^ 16) ((flying - 1) * 2 ^ 16 / 2 ^ 16) (held / 2 ^ 16) 10 {x = 0} {y = flying - 1} {z = 0} (high-clear idle h)
+    (omega arith) (omega arith)
     ∙ or-zero-r (flying - 1)
 
 -- ---- the level
@@ -100,21 +105,26 @@ module _ (now : ℕ) (u : Uart ℕ ℕ) (t : InTime now u) where
   pub level-read : (offset : ℕ) (p : Place) → placeOf (u .map .offsets) offset ≡ p
       → step (Call.read now offset) u .answer .report .level ≡ not (eqb (intStatus (settled now u .control)) 0)
   unfolding answering readWork afterSettling readAt report settleAt settle settleTo leveled levels drive intStatus
-  level-read offset p e = ap (λ (s : Step ℕ ℕ ℕ). s .answer .report .level) (read-answer t offset p e) ∙ level-kept (looks p) p (settled now u)
+  level-read offset p e =
+      ap (λ (s : Step ℕ ℕ ℕ). s .answer .report .level) (read-answer t offset p e) ∙ level-kept (looks p) p (settled now u)
 
   -- ---- INT_RAW, INT_ENA, INT_ST
 
-  pub raw-read : (offset : ℕ) → placeOf (u .map .offsets) offset ≡ IntRaw → step (Call.read now offset) u .answer .reply ≡ reads (word (lineOf (settled now u) .«int_raw»))
+  pub raw-read : (offset : ℕ) → placeOf (u .map .offsets) offset ≡ IntRaw
+      → step (Call.read now offset) u .answer .reply ≡ reads (word (lineOf (settled now u) .«int_raw»))
   unfolding answering readWork afterSettling readAt looks readLooking readPlace gives
   raw-read offset e = ap (λ (s : Step ℕ ℕ ℕ). s .answer .reply) (read-answer t offset IntRaw e)
 
-  pub ena-read : (offset : ℕ) → placeOf (u .map .offsets) offset ≡ IntEna → step (Call.read now offset) u .answer .reply ≡ reads (word (settled now u .control .words .«int_ena»))
+  pub ena-read : (offset : ℕ) → placeOf (u .map .offsets) offset ≡ IntEna
+      → step (Call.read now offset) u .answer .reply ≡ reads (word (settled now u .control .words .«int_ena»))
   unfolding answering readWork afterSettling readAt looks readLooking readPlace gives loaded
   ena-read offset e = ap (λ (s : Step ℕ ℕ ℕ). s .answer .reply) (read-answer t offset IntEna e)
 
   -- INT_ST reads, bit by bit, as what INT_RAW and INT_ENA would have read
-  pub status-of-interrupts : (st raw ena : ℕ) → placeOf (u .map .offsets) st ≡ IntSt → placeOf (u .map .offsets) raw ≡ IntRaw → placeOf (u .map .offsets) ena ≡ IntEna
-      → (w r e : ℕ) × (step (Call.read now st) u .answer .reply ≡ reads (word w)) × (step (Call.read now raw) u .answer .reply ≡ reads (word r))
+  pub status-of-interrupts : (st raw ena : ℕ) → placeOf (u .map .offsets) st ≡ IntSt → placeOf (u .map .offsets) raw ≡ IntRaw
+      → placeOf (u .map .offsets) ena ≡ IntEna
+      → (w r e : ℕ) × (step (Call.read now st) u .answer .reply ≡ reads (word w))
+      × (step (Call.read now raw) u .answer .reply ≡ reads (word r))
       × (step (Call.read now ena) u .answer .reply ≡ reads (word e)) × ((n : ℕ) → bit n w ≡ Manual.masked (bit n r) (bit n e))
   unfolding answering readWork afterSettling readAt looks readLooking readPlace gives intStatus
   status-of-interrupts st raw ena a b c =
@@ -137,7 +147,8 @@ module _ (now : ℕ) (u : Uart ℕ ℕ) (t : InTime now u) where
       ≡ (Manual.cleared (rawBit n v) (bit n (x .value))
       || (eqb n 0 && Manual.RXFIFO-FULL (v .control .words .conf1) (length (v .rx)))
       || (eqb n 1 && Manual.TXFIFO-EMPTY (v .control .words .conf1) (length (v .inFlight) - 1)))
-  unfolding answering writeWork afterSettling writePlace clearing concluded arm Manual.RXFIFO-FULL Manual.TXFIFO-EMPTY aboveFull belowEmpty inFifo emptyThreshold
+  unfolding answering writeWork afterSettling writePlace clearing concluded arm Manual.RXFIFO-FULL Manual.TXFIFO-EMPTY aboveFull belowEmpty
+      inFifo emptyThreshold
   clear-write x e small n h =
       let v : Uart ℕ ℕ = settled now u in
       let c : Uart ℕ ℕ = clearing (x .value) v .state in

@@ -8,8 +8,11 @@ use lib.Dec.{ltb, eqb}
 use lib.ListN.{length, length-drop}
 use Rattle.model.specs.Numbers.{choose, bit}
 use Rattle.model.specs.State.{Sent, OnTheLine, Uart, lineOf}
-use Rattle.model.specs.Line.{RXFIFO-FULL, TXFIFO-EMPTY, RXFIFO-OVF, RXFIFO-TOUT, TX-DONE, raiseIf, noteSource, opened, timeOut, frame, start, land}
-use Rattle.model.specs.Settle.{Pass, Settled, txDone, leave, depart, gone, nothingDue, timedOut, landed, begun, pass, goesOn, counted, passesFrom, pending, begin, passes, aboveFull, belowEmpty, levels, leveled, assertLevels, drive, settingsOf, settleTo}
+use Rattle.model.specs.Line.{RXFIFO-FULL, TXFIFO-EMPTY, RXFIFO-OVF, RXFIFO-TOUT, TX-DONE, raiseIf, noteSource, opened, timeOut, frame}
+use Rattle.model.specs.Line.{start, land}
+use Rattle.model.specs.Settle.{Pass, Settled, txDone, leave, depart, gone, nothingDue, timedOut, landed, begun, pass, goesOn, counted}
+use Rattle.model.specs.Settle.{passesFrom, pending, begin, passes, aboveFull, belowEmpty, levels, leveled, assertLevels, drive}
+use Rattle.model.specs.Settle.{settingsOf, settleTo}
 use Rattle.model.specs.Laws.Bits.{bit-raised}
 use Rattle.model.specs.Laws.Choose.{choose-ind}
 use Rattle.model.specs.Laws.Cases.{pass-cases}
@@ -62,7 +65,8 @@ module _ (s : Settings) (n : ℕ) where
   unfolding timeOut raisedBy noteSource
   timeOut-bit held l = raise-when n RXFIFO-TOUT (s .«rx_tout_en» && s .«rx_sclk_en») (ltb 0 held) _ _ refl
 
-  land-bit : (held : ℕ) (f : Fate) (g : Frame) (l : Line) → bit n (land s f g l .«int_raw») ≡ (bit n (l .«int_raw») || raisedBy s n held (Landed f))
+  land-bit : (held : ℕ) (f : Fate) (g : Frame) (l : Line)
+      → bit n (land s f g l .«int_raw») ≡ (bit n (l .«int_raw») || raisedBy s n held (Landed f))
   unfolding land opened noteSource raisedBy
   land-bit held Stored g l = nothing-raised _
   land-bit held Overflowed g l = raised n RXFIFO-OVF (not (s .«dis_rx_dat_ovf»)) l
@@ -91,14 +95,18 @@ module _ (s : Settings) (n : ℕ) where
     unfolding Raises landed
     landed-raises u f l = land-bit (length (u .rx)) f (l .frame) (lineOf u)
 
-    begun-raises : (u : Uart H W) (at : ℕ) (b : H) (bs : List H) (p : Pass H W) → u .receiving ≡ none → Raises (begun s at b bs u) p → Raises u p
+    begun-raises : (u : Uart H W) (at : ℕ) (b : H) (bs : List H) (p : Pass H W) → u .receiving ≡ none → Raises (begun s at b bs u) p
+        → Raises u p
     unfolding Raises begun
     begun-raises u at b bs p _ h = h ∙ ap (λ (w : ℕ). bit n w || raisedBy s n (length (u .rx)) (p .found)) (start-raw at (lineOf u))
 
     -- a pass raises RXFIFO_TOUT or RXFIFO_OVF as it found, and changes no other bit
-    pub pass-raises : (date : ℕ) (u : Uart H W) → rawBit n (pass s date u .state) ≡ (rawBit n u || raisedBy s n (length (u .rx)) (pass s date u .found))
+    pub pass-raises : (date : ℕ) (u : Uart H W) → rawBit n (pass s date u .state)
+        ≡ (rawBit n u || raisedBy s n (length (u .rx)) (pass s date u .found))
     unfolding Raises
-    pass-raises date = pass-cases s date Raises (λ u _. timedOut-raises u) nothingDue-raises (λ u l _. landed-raises u _ l) (λ u at b bs p e _. begun-raises u at b bs p e)
+    pass-raises date =
+        pass-cases s date Raises (λ u _. timedOut-raises u) nothingDue-raises (λ u l _. landed-raises u _ l)
+        (λ u at b bs p e _. begun-raises u at b bs p e)
 
 -- ---- the passes of a settling
 
@@ -121,7 +129,8 @@ passesFrom-raises s n date zero true t = nothing-raised _
 passesFrom-raises s n date (suc k) false t = nothing-raised _
 passesFrom-raises s n date (suc k) true t =
     let p = pass s date (t .state) in
-    either-again (rawBit n (t .state)) (raisedBy s n (length (t .state .rx)) (p .found)) (somePass (raisedBy s n) s date k (goesOn (p .found)) (p .state))
+    either-again (rawBit n (t .state)) (raisedBy s n (length (t .state .rx)) (p .found))
+    (somePass (raisedBy s n) s date k (goesOn (p .found)) (p .state))
     (pass-raises s n date (t .state)) (passesFrom-raises s n date k (goesOn (p .found)) (counted t p))
 
 -- ---- departures, levels, and the whole settling
@@ -142,7 +151,8 @@ module _ {H W : Type 0} (n : ℕ) where
   unfolding depart leave txDone
   depart-raises date u =
       raised n TX-DONE _ (lineOf u)
-      ∙ ap (λ (k : ℕ). rawBit n u || (eqb n TX-DONE && (ltb 0 (length (u .inFlight)) && eqb k 0))) (sym (length-drop (gone date (u .inFlight)) (u .inFlight)))
+      ∙ ap (λ (k : ℕ). rawBit n u || (eqb n TX-DONE && (ltb 0 (length (u .inFlight)) && eqb k 0)))
+      (sym (length-drop (gone date (u .inFlight)) (u .inFlight)))
 
   pub levels-raise : (u : Uart H W) → rawBit n (levels u) ≡ (rawBit n u || fullIn u || emptyIn u)
   unfolding levels drive assertLevels
@@ -162,6 +172,7 @@ unfolding settleTo leveled passes begin levels drive assertLevels
 settleTo-raises n date u =
     let v : Uart _ _ = settleTo date u .state in
     in-turn (rawBit n u) (doneIn n u v) (passedIn n date u) (fullIn n v) (emptyIn n v)
-    (depart-raises n date u ∙ ap (λ (l : List (Sent _)). rawBit n u || (eqb n TX-DONE && (ltb 0 (length (u .inFlight)) && eqb (length l) 0))) (sym (settleTo-inFlight date u)))
+    (depart-raises n date u ∙ ap (λ (l : List (Sent _)). rawBit n u
+    || (eqb n TX-DONE && (ltb 0 (length (u .inFlight)) && eqb (length l) 0))) (sym (settleTo-inFlight date u)))
     (passesFrom-raises (settingsOf u) n date (2 * pending (depart date u) + 2) true (begin (depart date u)))
     (levels-raise n (passes (settingsOf u) date (depart date u) .state))

@@ -36,12 +36,14 @@ stop-halves Manual.oneAndAHalf = refl
 stop-halves Manual.two = refl
 
 -- half bits are twice the frame's length in bits; a stop code of 0 is the code of no frame
-pub half-bits : (conf0 : ℕ) (stop : Manual.StopBits) → field 4 2 conf0 ≡ Manual.stopCode stop → frameHalfBits conf0 ≡ Manual.halfBits (Manual.frameOf conf0 stop)
+pub half-bits : (conf0 : ℕ) (stop : Manual.StopBits) → field 4 2 conf0 ≡ Manual.stopCode stop
+    → frameHalfBits conf0 ≡ Manual.halfBits (Manual.frameOf conf0 stop)
 unfolding frameHalfBits Manual.halfBits Manual.frameOf
 half-bits conf0 stop e = ap (λ (k : ℕ). 2 * (1 + (5 + field 2 2 conf0) + field 1 1 conf0) + k) (ap stopHalfBits e ∙ stop-halves stop)
 
 -- half a bit lasts, in subcycles, divider times source divider times the source's period
-pub half-bit-time : (w : Words) (period : ℕ) → halfBitTime w period ≡ Manual.bitTime (w .clkdiv) (w .«clk_conf») (sourcePeriod (w .«clk_conf») period)
+pub half-bit-time : (w : Words) (period : ℕ) → halfBitTime w period
+    ≡ Manual.bitTime (w .clkdiv) (w .«clk_conf») (sourcePeriod (w .«clk_conf») period)
 unfolding halfBitTime Manual.bitTime Manual.divider Manual.sourceDivider
 half-bit-time w period = refl
 
@@ -50,14 +52,16 @@ unfoldable pub periodOf : Manual.Source → ℕ → ℕ
 periodOf Manual.apb period = period
 periodOf Manual.crystal period = 4
 
-pub source-period : (clkConf period : ℕ) (source : Manual.Source) → field 20 2 clkConf ≡ Manual.sourceCode source → sourcePeriod clkConf period ≡ periodOf source period
+pub source-period : (clkConf period : ℕ) (source : Manual.Source) → field 20 2 clkConf ≡ Manual.sourceCode source
+    → sourcePeriod clkConf period ≡ periodOf source period
 unfolding sourcePeriod choose periodOf Manual.sourceCode
 source-period clkConf period Manual.apb e = ap (λ (k : ℕ). choose (eqb k 1) period xtalPeriod) e
 source-period clkConf period Manual.crystal e = ap (λ (k : ℕ). choose (eqb k 1) period xtalPeriod) e
 
 -- the receive timeout lasts RX_TOUT_THRHD bit times, of two half bits each
 pub timeout-lasts : (w : Words) (period : ℕ)
-    → timeoutTime w period ≡ Manual.timeoutBits (w .«mem_conf») * (2 * Manual.bitTime (w .clkdiv) (w .«clk_conf») (sourcePeriod (w .«clk_conf») period))
+    → timeoutTime w period ≡ Manual.timeoutBits (w .«mem_conf») *
+    (2 * Manual.bitTime (w .clkdiv) (w .«clk_conf») (sourcePeriod (w .«clk_conf») period))
 unfolding timeoutTime bitTime Manual.timeoutBits
 timeout-lasts w period = ap (λ (k : ℕ). field 16 10 (w .«mem_conf») * (2 * k)) (half-bit-time w period)
 
@@ -73,17 +77,20 @@ selection c = omega arith
 
 -- a bit lasts as long as with bits 0-11 taken as 0
 pub no-fraction : (clkdiv clkConf period : ℕ)
-    → Manual.bitTime clkdiv (withoutFraction clkConf) (sourcePeriod (withoutFraction clkConf) period) ≡ Manual.bitTime clkdiv clkConf (sourcePeriod clkConf period)
+    → Manual.bitTime clkdiv (withoutFraction clkConf) (sourcePeriod (withoutFraction clkConf) period)
+    ≡ Manual.bitTime clkdiv clkConf (sourcePeriod clkConf period)
 unfolding Manual.bitTime Manual.sourceDivider sourcePeriod
 no-fraction clkdiv clkConf period =
     ap₂ (λ (d s : ℕ). Manual.divider clkdiv * (d + 1) * choose (eqb s 1) period xtalPeriod) (div-num clkConf) (selection clkConf)
 
 -- how long a byte takes, in subcycles: its frame's half bits times half a bit
 abbrev pub frameTime : Words → ℕ → Manual.StopBits → ℕ
-frameTime w period stop = Manual.halfBits (Manual.frameOf (w .conf0) stop) * Manual.bitTime (w .clkdiv) (w .«clk_conf») (sourcePeriod (w .«clk_conf») period)
+frameTime w period stop =
+    Manual.halfBits (Manual.frameOf (w .conf0) stop) * Manual.bitTime (w .clkdiv) (w .«clk_conf») (sourcePeriod (w .«clk_conf») period)
 
 -- so long it takes on the way out and on the receive line
-pub byte-lasts : (w : Words) (period : ℕ) (stop : Manual.StopBits) → field 4 2 (w .conf0) ≡ Manual.stopCode stop → byteTime w period ≡ frameTime w period stop
+pub byte-lasts : (w : Words) (period : ℕ) (stop : Manual.StopBits) → field 4 2 (w .conf0) ≡ Manual.stopCode stop
+    → byteTime w period ≡ frameTime w period stop
 unfolding byteTime
 byte-lasts w period stop e = ap₂ _*_ (half-bits (w .conf0) stop e) (half-bit-time w period)
 
@@ -92,18 +99,23 @@ byte-lasts w period stop e = ap₂ _*_ (half-bits (w .conf0) stop e) (half-bit-t
 held-twice : (a d : ℕ) → held (held a + d) ≡ held (a + d)
 held-twice a d = omega arith
 
-module _ (now : ℕ) (u : Uart ℕ ℕ) (x : Written) (stop : Manual.StopBits) (t : InTime now u) (e : placeOf (u .map .offsets) (x .offset) ≡ Fifo)
+module _ (now : ℕ) (u : Uart ℕ ℕ) (x : Written) (stop : Manual.StopBits) (t : InTime now u)
+    (e : placeOf (u .map .offsets) (x .offset) ≡ Fifo)
     (room : length (u .tx) + length (u .inFlight) < sentLimit) (code : field 4 2 (u .control .words .conf0) ≡ Manual.stopCode stop) where
-  settled-lasts : byteTime (settled now u .control .words) (settled now u .control .period) ≡ frameTime (u .control .words) (u .control .period) stop
+  settled-lasts : byteTime (settled now u .control .words) (settled now u .control .period)
+      ≡ frameTime (u .control .words) (u .control .period) stop
   unfolding settleAt settle dated
-  settled-lasts = ap₂ byteTime (settleTo-words _ (dated now u)) (settleTo-period _ (dated now u)) ∙ byte-lasts (u .control .words) (u .control .period) stop code
+  settled-lasts =
+      ap₂ byteTime (settleTo-words _ (dated now u)) (settleTo-period _ (dated now u))
+      ∙ byte-lasts (u .control .words) (u .control .period) stop code
 
   -- a byte that is taken has gone a frame after it starts, which is now or when the last one in flight has gone
   pub fifo-write-gone : length (settled now u .inFlight) ≤ 128
       → step (Call.write now x) u .state .inFlight
       ≡ settled now u .inFlight
       ++ (record {
-        goneAt = after (startsAt (subcycles now) (lastGone (settled now u .inFlight))) (frameTime (u .control .words) (u .control .period) stop);
+        goneAt =
+            after (startsAt (subcycles now) (lastGone (settled now u .inFlight))) (frameTime (u .control .words) (u .control .period) stop);
         byte = x .value % 256;
       } ∷ [])
   unfolding answering sendWork afterSettling concluded arm levels sent goneAt
@@ -121,5 +133,6 @@ module _ (now : ℕ) (u : Uart ℕ ℕ) (x : Written) (stop : Manual.StopBits) (
   fifo-write-alone alone =
       let d : ℕ = frameTime (u .control .words) (u .control .period) stop in
       fifo-write-gone (rw alone (omega arith))
-      ∙ ap (λ (l : List (Sent ℕ)). l ++ (record { goneAt = after (startsAt (subcycles now) (lastGone l)) d; byte = x .value % 256 } ∷ [])) alone
+      ∙ ap (λ (l : List (Sent ℕ)). l ++ (record { goneAt = after (startsAt (subcycles now) (lastGone l)) d; byte = x .value % 256 }
+      ∷ [])) alone
       ∙ ap (λ (k : ℕ). record { goneAt = k; byte = x .value % 256 } ∷ []) (held-twice (now * 32) d)

@@ -10,9 +10,11 @@ use lib.ListN.{length, length-append, length-map, length-replicate}
 use Rattle.model.specs.State.{Uart}
 use Rattle.model.specs.Settle.{Settled}
 use Rattle.model.specs.Replies.{notices, noReport, report, ReadOf, readNumber, writeNumber, doneNumber, takenNumber}
-use Rattle.model.specs.Registers.{loaded, noteIf, sourceNotes, Access, pop, gives, readPlace, readLooking, readAt, conf0Notes, storedNotes, sent, dropped, sendByte}
+use Rattle.model.specs.Registers.{loaded, noteIf, sourceNotes, Access, pop, gives, readPlace, readLooking, readAt, conf0Notes}
+use Rattle.model.specs.Registers.{storedNotes, sent, dropped, sendByte}
 use Rattle.model.specs.Registers.{storing, clearing, writePlace, concluded}
-use Rattle.model.specs.Calls.{Outcome, unsettled, afterSettling, undated, filled, quiet, readWork, writeWork, sendWork, receiveWork, wakeWork, watchWork, powerDownWork}
+use Rattle.model.specs.Calls.{Outcome, unsettled, afterSettling, undated, filled, quiet, readWork, writeWork, sendWork, receiveWork}
+use Rattle.model.specs.Calls.{wakeWork, watchWork, powerDownWork}
 use Rattle.model.specs.Calls.{clockWork, resetWork, takeTxWork, takeWrittenWork, hasLeft, hostPending}
 use Rattle.model.specs.Call.{Call, Request, Reply, reads, writes, does, takes, left, pends, Answer}
 use Rattle.model.specs.Run.{numberOf, answering}
@@ -20,7 +22,8 @@ use Rattle.model.specs.Laws.Choose.{choose-ind}
 use Rattle.model.specs.Refuses.Conditions.{writtenAt, carriedOut}
 use Rattle.model.specs.declared.Source.{Source}
 use Rattle.model.specs.declared.Place.{Place}
-use Rattle.model.specs.declared.Place.the-variants.{Fifo, IntRaw, IntSt, IntEna, IntClr, Clkdiv, Status, FsmStatus, Conf0, Conf1, ClkConf, IdleConf, Rs485Conf, AtCmdChar, MemConf, MemRxStatus, Unknown}
+use Rattle.model.specs.declared.Place.the-variants.{Fifo, IntRaw, IntSt, IntEna, IntClr, Clkdiv, Status, FsmStatus, Conf0, Conf1}
+use Rattle.model.specs.declared.Place.the-variants.{ClkConf, IdleConf, Rs485Conf, AtCmdChar, MemConf, MemRxStatus, Unknown}
 use Rattle.model.specs.declared.Unsupported.{Unsupported}
 use Rattle.model.specs.declared.Report.{Report}
 use Rattle.model.specs.declared.Write.{Write}
@@ -36,7 +39,8 @@ pub no-report-few : Few noReport
 unfolding noReport
 no-report-few = record { noted = omega arith; places = refl }
 
-report-few : {H W : Type 0} (passes overflows : ℕ) (ns : List Unsupported) (u : Uart H W) → length ns ≤ 8 → Few (report passes overflows ns u)
+report-few : {H W : Type 0} (passes overflows : ℕ) (ns : List Unsupported) (u : Uart H W) → length ns ≤ 8
+    → Few (report passes overflows ns u)
 unfolding report notices
 report-few passes overflows ns u le = record { noted = le; places = simp (length-append, length-map, length-replicate) (omega arith) }
 
@@ -53,7 +57,9 @@ source-le notice Source.Sel2 = omega arith
 
 conf0-le : (v : ℕ) → length (conf0Notes v) ≤ 8
 unfolding conf0Notes
-conf0-le v = note-le _ _ _ (note-le _ _ _ (note-le _ _ _ (note-le _ _ _ (note-le _ _ _ (note-le _ _ _ (note-le _ _ _ (note-le _ _ _ (omega arith))))))))
+conf0-le v =
+    note-le _ _ _ (note-le _ _ _ (note-le _ _ _ (note-le _ _ _
+    (note-le _ _ _ (note-le _ _ _ (note-le _ _ _ (note-le _ _ _ (omega arith))))))))
 
 one-note : (b : Bool) (n : Unsupported) → length (noteIf b n []) ≤ 8
 one-note b n = omega (arith, note-le {k = 0} b n [] (omega arith))
@@ -202,7 +208,9 @@ carried-fine (Call.reset now) u = fine doneNumber does (λ r. refl) _ (quiet-goo
 carried-fine (Call.powerDown now) u = fine doneNumber does (λ r. refl) _ (unsettled-good doneNumber _ _ refl)
 carried-fine (Call.watch now b) u = fine doneNumber does (λ r. refl) _ (unsettled-good doneNumber _ _ refl)
 carried-fine (Call.clockChange now period) u = fine doneNumber does (λ r. refl) _ (quiet-good doneNumber _ _ _ (λ s. refl))
-carried-fine (Call.takeTx now lent) u = fine (λ t. takenNumber (t .taken)) takes (λ r. refl) _ (quiet-good (λ t. takenNumber (t .taken)) _ _ _ (λ s. refl))
-carried-fine (Call.takeWritten lent) u = fine (λ t. takenNumber (t .taken)) takes (λ r. refl) _ (undated-good (λ t. takenNumber (t .taken)) _ _ refl)
+carried-fine (Call.takeTx now lent) u =
+    fine (λ t. takenNumber (t .taken)) takes (λ r. refl) _ (quiet-good (λ t. takenNumber (t .taken)) _ _ _ (λ s. refl))
+carried-fine (Call.takeWritten lent) u =
+    fine (λ t. takenNumber (t .taken)) takes (λ r. refl) _ (undated-good (λ t. takenNumber (t .taken)) _ _ refl)
 carried-fine Call.hasLeft u = fine (λ r. 0) left (λ r. refl) _ (undated-good (λ r. 0) _ _ refl)
 carried-fine Call.hostPending u = fine (λ r. 0) pends (λ r. refl) _ (undated-good (λ r. 0) _ _ refl)

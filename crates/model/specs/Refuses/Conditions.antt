@@ -10,15 +10,18 @@ use Rattle.model.specs.State.{Run, Uart}
 use Rattle.model.specs.Numbers.{choose}
 use Rattle.model.specs.Replies.{refused, noReport}
 use Rattle.model.specs.Registers.{placeOf}
-use Rattle.model.specs.Calls.{Outcome, readWork, writeWork, sendWork, receiveWork, wakeWork, watchWork, powerDownWork, clockWork, resetWork, takeTxWork, takeWrittenWork}
+use Rattle.model.specs.Calls.{Outcome, readWork, writeWork, sendWork, receiveWork, wakeWork, watchWork, powerDownWork, clockWork}
+use Rattle.model.specs.Calls.{resetWork, takeTxWork, takeWrittenWork}
 use Rattle.model.specs.Calls.{hasLeft, hostPending}
 use Rattle.model.specs.Call.{Call, Written, Request, Reply, reads, writes, does, takes, left, pends}
 use Rattle.model.specs.Run.{Step, answering}
 use Rattle.model.specs.Limits.{All}
 use Rattle.model.specs.declared.Place.{Place}
-use Rattle.model.specs.declared.Place.the-variants.{Fifo, IntRaw, IntSt, IntEna, IntClr, Clkdiv, Status, FsmStatus, Conf0, Conf1, ClkConf, IdleConf, Rs485Conf, AtCmdChar, MemConf, MemRxStatus, Unknown}
+use Rattle.model.specs.declared.Place.the-variants.{Fifo, IntRaw, IntSt, IntEna, IntClr, Clkdiv, Status, FsmStatus, Conf0, Conf1}
+use Rattle.model.specs.declared.Place.the-variants.{ClkConf, IdleConf, Rs485Conf, AtCmdChar, MemConf, MemRxStatus, Unknown}
 use Rattle.model.specs.declared.Refusal.{Refusal}
-use Rattle.model.specs.declared.Refusal.the-variants.{DatePastEnd, DateWentBack, TransmitFull, HostFull, RunsFull, PeriodTooLong, BufferTooShort}
+use Rattle.model.specs.declared.Refusal.the-variants.{DatePastEnd, DateWentBack, TransmitFull, HostFull, RunsFull, PeriodTooLong}
+use Rattle.model.specs.declared.Refusal.the-variants.{BufferTooShort}
 use Rattle.model.specs.declared.Write.{Write}
 use Rattle.model.specs.declared.Done.{Done}
 use Rattle.model.specs.declared.Taken.{Taken}
@@ -50,7 +53,8 @@ pub data Condition (u : Uart ℕ ℕ) : Refusal → Request → Type 0 where
   -- 5: receive: waiting host bytes plus new ones exceed 1,024
   number5 : {now at : ℕ} {bs : List ℕ} → 1024 < length (u .host) + length bs → Condition u HostFull (Call.receive now at bs)
   -- 6: receive of a byte or more: 64 runs wait and the date, max(its cycle, now) × 32 held at 2^64 - 1, is later than the last run's
-  number6 : {now at : ℕ} {bs : List ℕ} (runs : List Run) (r : Run) → 1 ≤ length bs → 64 ≤ length (u .hostRuns) → u .hostRuns ≡ runs ++ (r ∷ [])
+  number6 : {now at : ℕ} {bs : List ℕ} (runs : List Run) (r : Run) → 1 ≤ length bs → 64 ≤ length (u .hostRuns)
+      → u .hostRuns ≡ runs ++ (r ∷ [])
       → r .date < min (max at now * 32) (2 ^ 64 - 1) → Condition u RunsFull (Call.receive now at bs)
   -- 7: clock change: period above 1,000,000
   number7 : {now period : ℕ} → 1000000 < period → Condition u PeriodTooLong (Call.clockChange now period)
@@ -77,7 +81,8 @@ pub data Refuses (r : Refusal) : Request → Reply ℕ ℕ ℕ → Type 0 where
   powerDown : {now : ℕ} → Refuses r (Call.powerDown now) (does (Done.Refused r))
   watch : {now : ℕ} {b : Bool} → Refuses r (Call.watch now b) (does (Done.Refused r))
   clockChange : {now period : ℕ} → Refuses r (Call.clockChange now period) (does (Done.Refused r))
-  takeTx : {now : ℕ} {lent : List ℕ} → Refuses r (Call.takeTx now lent) (takes (record { taken = Taken.Refused r; front = []; rest = lent }))
+  takeTx : {now : ℕ} {lent : List ℕ} → Refuses r (Call.takeTx now lent)
+      (takes (record { taken = Taken.Refused r; front = []; rest = lent }))
   takeWritten : {lent : List ℕ} → Refuses r (Call.takeWritten lent) (takes (record { taken = Taken.Refused r; front = []; rest = lent }))
 
 -- ---- a call that no condition stops

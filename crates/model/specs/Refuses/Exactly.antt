@@ -14,7 +14,8 @@ use Rattle.model.specs.Refuses.Conditions.{Condition, order, First, here
 use Rattle.model.specs.Refuses.Refusals.{step-result}
 use Rattle.model.specs.Refuses.Carried.{Few, no-report-few, carried-fine}
 use Rattle.model.specs.declared.Refusal.{Refusal}
-use Rattle.model.specs.declared.Refusal.the-variants.{RepeatedOffset, DatePastEnd, DateWentBack, TransmitFull, HostFull, RunsFull, PeriodTooLong, BufferTooShort}
+use Rattle.model.specs.declared.Refusal.the-variants.{RepeatedOffset, DatePastEnd, DateWentBack, TransmitFull, HostFull, RunsFull}
+use Rattle.model.specs.declared.Refusal.the-variants.{PeriodTooLong, BufferTooShort}
 
 -- ---- numbers
 
@@ -83,11 +84,13 @@ module _ {P : Refusal → Type 0} where
 -- ---- each number exactly when document 01 says
 
 module _ {c : Request} {u : Uart ℕ ℕ} where
-  refused-yes : {s : Step ℕ ℕ ℕ} (r : Refusal) → Result c u s → numberOf (s .answer .reply) ≡ number r → First (λ q. Condition u q c) order r
+  refused-yes : {s : Step ℕ ℕ ℕ} (r : Refusal) → Result c u s → numberOf (s .answer .reply) ≡ number r
+      → First (λ q. Condition u q c) order r
   refused-yes r (refusal {r = q} f a) e = subst (First (λ q. Condition u q c) order) (one-number q r (sym (refuses-number a) ∙ e)) f
   refused-yes r (done v) e = absurd (omega (arith, carried-fine c u .zero, number-positive r))
 
-  yes-refused : {s : Step ℕ ℕ ℕ} (r : Refusal) → Result c u s → First (λ q. Condition u q c) order r → numberOf (s .answer .reply) ≡ number r
+  yes-refused : {s : Step ℕ ℕ ℕ} (r : Refusal) → Result c u s → First (λ q. Condition u q c) order r
+      → numberOf (s .answer .reply) ≡ number r
   yes-refused r (refusal {r = q} f a) g = refuses-number a ∙ ap number (first-one f g)
   yes-refused r (done v) g = absurd (first-none g v)
 
@@ -106,7 +109,8 @@ refused-exactly c u r = (refused-yes r (step-result c u), yes-refused r (step-re
 
 -- it answers 0 exactly where no condition holds
 pub done-exactly : (c : Request) (u : Uart ℕ ℕ) → numberOf (step c u .answer .reply) ≡ 0 ↔ All (λ q. ¬ Condition u q c) order
-done-exactly c u = (done-yes (step-result c u), λ n. ap (λ s. numberOf (s .answer .reply)) (yes-done (step-result c u) n) ∙ carried-fine c u .zero)
+done-exactly c u =
+    (done-yes (step-result c u), λ n. ap (λ s. numberOf (s .answer .reply)) (yes-done (step-result c u) n) ∙ carried-fine c u .zero)
 
 -- every call with number 0 is carried out
 pub done-carried : (c : Request) (u : Uart ℕ ℕ) → numberOf (step c u .answer .reply) ≡ 0 → step c u ≡ carriedOut c u

@@ -59,7 +59,13 @@ unfolding repeated
 repeated-yes [] h = apart (cc)
 repeated-yes (o ∷ os) h =
     either (among o os) (repeated os)
-    (λ m. let r : Has o os = among-has o os m in record { i = 0; j = suc (r .at); before = omega arith; within = omega (arith, r .within); same = r .same })
+    (λ m. let r : Has o os = among-has o os m in record {
+      i = 0;
+      j = suc (r .at);
+      before = omega arith;
+      within = omega (arith, r .within);
+      same = r .same;
+    })
     (λ m. let r : Repeat os = repeated-yes os m in
     record { i = suc (r .i); j = suc (r .j); before = omega (arith, r .before); within = omega (arith, r .within); same = r .same }) h
 

@@ -12,20 +12,25 @@ use Rattle.model.specs.Numbers.{choose}
 use Rattle.model.specs.State.{Run, Uart}
 use Rattle.model.specs.Replies.{refused}
 use Rattle.model.specs.Registers.{placeOf}
-use Rattle.model.specs.Tests.{pastEnd, wentBack, transmitFull, hostFull, runsFull, periodTooLong, bufferTooShort, refuseIf, refuseDate}
+use Rattle.model.specs.Tests.{pastEnd, wentBack, transmitFull, hostFull, runsFull, periodTooLong, bufferTooShort, refuseIf}
+use Rattle.model.specs.Tests.{refuseDate}
 use Rattle.model.specs.Calls
-use Rattle.model.specs.Calls.{Outcome, refusing, unless, lastDate, hostDate, notTaken, readPlaced, writePlaced, send, writeAt, writeWork}
+use Rattle.model.specs.Calls.{Outcome, refusing, unless, lastDate, hostDate, notTaken, readPlaced, writePlaced, send, writeAt}
+use Rattle.model.specs.Calls.{writeWork}
 use Rattle.model.specs.Call.{Call, Written, Request, Reply, reads, writes, does, takes}
 use Rattle.model.specs.Run.{answering, stepBy, writing, step}
 use Rattle.model.specs.Limits.{All, nil, cons}
 use Rattle.model.specs.Ends.Passes.{apart}
-use Rattle.model.specs.Refuses.Conditions.{dateOf, Condition, number2, number3, number4, number5, number6, number7, number8, number8′, order, First, here, next, Refuses, isFifo}
+use Rattle.model.specs.Refuses.Conditions.{dateOf, Condition, number2, number3, number4, number5, number6, number7, number8, number8′}
+use Rattle.model.specs.Refuses.Conditions.{order, First, here, next, Refuses, isFifo}
 use Rattle.model.specs.Refuses.Conditions.{writtenAt, carriedOut, Result, refusal, done}
 use Rattle.model.specs.Refuses.FifoPlace.{first-is-fifo, fifo-is-first}
 use Rattle.model.specs.declared.Place.{Place}
-use Rattle.model.specs.declared.Place.the-variants.{Fifo, IntRaw, IntSt, IntEna, IntClr, Clkdiv, Status, FsmStatus, Conf0, Conf1, ClkConf, IdleConf, Rs485Conf, AtCmdChar, MemConf, MemRxStatus, Unknown}
+use Rattle.model.specs.declared.Place.the-variants.{Fifo, IntRaw, IntSt, IntEna, IntClr, Clkdiv, Status, FsmStatus, Conf0, Conf1}
+use Rattle.model.specs.declared.Place.the-variants.{ClkConf, IdleConf, Rs485Conf, AtCmdChar, MemConf, MemRxStatus, Unknown}
 use Rattle.model.specs.declared.Refusal.{Refusal}
-use Rattle.model.specs.declared.Refusal.the-variants.{DatePastEnd, DateWentBack, TransmitFull, HostFull, RunsFull, PeriodTooLong, BufferTooShort}
+use Rattle.model.specs.declared.Refusal.the-variants.{DatePastEnd, DateWentBack, TransmitFull, HostFull, RunsFull, PeriodTooLong}
+use Rattle.model.specs.declared.Refusal.the-variants.{BufferTooShort}
 use Rattle.model.specs.declared.Write.{Write}
 use Rattle.model.specs.declared.Done.{Done}
 
@@ -41,17 +46,22 @@ module _ {P : Refusal → Type 0} {rs : List Refusal} where
   skip n (clear v) = clear (cons n v)
   skip n (stopped v) = stopped (next n v)
 
-  tested : (b : Bool) (r : Refusal) {o : Option Refusal} → (b ≡ true → P r) → (b ≡ false → ¬ P r) → Verdict P rs o → Verdict P (r ∷ rs) (refuseIf b r o)
+  tested : (b : Bool) (r : Refusal) {o : Option Refusal} → (b ≡ true → P r) → (b ≡ false → ¬ P r) → Verdict P rs o
+      → Verdict P (r ∷ rs) (refuseIf b r o)
   unfolding refuseIf
   tested true r y n v = stopped (here (y refl))
   tested false r y n v = skip (n refl) v
 
   -- a test of two numbers, and the order of them that a condition states
-  tested-lt : (a b : ℕ) (r : Refusal) {o : Option Refusal} → (a < b → P r) → (P r → a < b) → Verdict P rs o → Verdict P (r ∷ rs) (refuseIf (ltb a b) r o)
-  tested-lt a b r to from v = tested (ltb a b) r (λ h. to (ltb-true a b h)) (λ h p. absurd (let lt : a < b = from p in omega (arith, ltb-false a b h))) v
+  tested-lt : (a b : ℕ) (r : Refusal) {o : Option Refusal} → (a < b → P r) → (P r → a < b) → Verdict P rs o
+      → Verdict P (r ∷ rs) (refuseIf (ltb a b) r o)
+  tested-lt a b r to from v =
+      tested (ltb a b) r (λ h. to (ltb-true a b h)) (λ h p. absurd (let lt : a < b = from p in omega (arith, ltb-false a b h))) v
 
-  tested-le : (a b : ℕ) (r : Refusal) {o : Option Refusal} → (a ≤ b → P r) → (P r → a ≤ b) → Verdict P rs o → Verdict P (r ∷ rs) (refuseIf (leb a b) r o)
-  tested-le a b r to from v = tested (leb a b) r (λ h. to (leb-true a b h)) (λ h p. absurd (let le : a ≤ b = from p in omega (arith, leb-false a b h))) v
+  tested-le : (a b : ℕ) (r : Refusal) {o : Option Refusal} → (a ≤ b → P r) → (P r → a ≤ b) → Verdict P rs o
+      → Verdict P (r ∷ rs) (refuseIf (leb a b) r o)
+  tested-le a b r to from v =
+      tested (leb a b) r (λ h. to (leb-true a b h)) (λ h p. absurd (let le : a ≤ b = from p in omega (arith, leb-false a b h))) v
 
 same-some : {A : Type 0} {a b : A} → some a ≡ some b → a ≡ b
 same-some e = cc
@@ -118,7 +128,8 @@ record LastRun (l : List Run) : Type 0 where
 last-run : (l : List Run) → 1 ≤ length l → LastRun l
 last-run [] h = absurd (omega arith)
 last-run (r ∷ []) h = record { runs = []; run = r; is = refl }
-last-run (r ∷ s ∷ rs) h = let l : LastRun (s ∷ rs) = last-run (s ∷ rs) (omega arith) in record { runs = r ∷ l .runs; run = l .run; is = ap (_∷_ r) (l .is) }
+last-run (r ∷ s ∷ rs) h =
+    let l : LastRun (s ∷ rs) = last-run (s ∷ rs) (omega arith) in record { runs = r ∷ l .runs; run = l .run; is = ap (_∷_ r) (l .is) }
 
 last-date : (runs : List Run) (r : Run) → lastDate (runs ++ (r ∷ [])) ≡ r .date
 unfolding lastDate
@@ -135,7 +146,8 @@ module _ (u : Uart ℕ ℕ) (now at : ℕ) (bs : List ℕ) where
   number6-yes h =
       let t : (1 ≤ length bs) × (64 ≤ length (u .hostRuns)) × (lastDate (u .hostRuns) < hostDate now at) = runs-yes _ _ _ _ h in
       let l : LastRun (u .hostRuns) = last-run (u .hostRuns) (omega arith) in
-      number6 {now = now} {at = at} (l .runs) (l .run) (t .0) (t .1) (l .is) (omega (arith, ap lastDate (l .is), last-date (l .runs) (l .run)))
+      number6 {now = now} {at = at} (l .runs) (l .run) (t .0) (t .1) (l .is)
+      (omega (arith, ap lastDate (l .is), last-date (l .runs) (l .run)))
 
   number6-no : tooMany ≡ false → ¬ Condition u RunsFull (Call.receive now at bs)
   unfolding tooMany hostDate
@@ -214,22 +226,29 @@ module _ (now : ℕ) (x : Written) (u : Uart ℕ ℕ) where
 -- every call is refused or carried out, as document 01's table and order say
 pub step-result : (c : Request) (u : Uart ℕ ℕ) → Result c u (step c u)
 unfolding step stepBy writing carriedOut dateOf hostFull periodTooLong bufferTooShort tooMany notTaken
-    Calls.read readPlaced Calls.write Calls.receive Calls.wake Calls.reset Calls.powerDown Calls.watch Calls.clockChange Calls.takeTx Calls.takeWritten
+    Calls.read readPlaced Calls.write Calls.receive Calls.wake Calls.reset Calls.powerDown Calls.watch Calls.clockChange Calls.takeTx
+    Calls.takeWritten
 step-result (Call.read now offset) u =
-    ends-as _ u reads refused _ _ (λ r. Refuses.read) refl (dates _ u now none refl (no-other (elim [ ]) (elim [ ]) (elim [ ]) (elim [ ]) (elim [ ])))
+    ends-as _ u reads refused _ _ (λ r. Refuses.read) refl
+    (dates _ u now none refl (no-other (elim [ ]) (elim [ ]) (elim [ ]) (elim [ ]) (elim [ ])))
 step-result (Call.write now x) u = write-result now x u
 step-result (Call.receive now at bs) u =
     ends-as _ u does Done.Refused _ _ (λ r. Refuses.receive) refl
     (dates _ u now _ refl (skip (elim [ ]) (skip (elim [ ]) (skip (elim [ ])
-    (tested-lt 1024 _ HostFull number5 (from5 u now at bs) (tested _ RunsFull (number6-yes u now at bs) (number6-no u now at bs) (clear nil)))))))
+    (tested-lt 1024 _ HostFull number5 (from5 u now at bs)
+    (tested _ RunsFull (number6-yes u now at bs) (number6-no u now at bs) (clear nil)))))))
 step-result (Call.wake now) u =
-    ends-as _ u does Done.Refused _ _ (λ r. Refuses.wake) refl (dates _ u now none refl (no-other (elim [ ]) (elim [ ]) (elim [ ]) (elim [ ]) (elim [ ])))
+    ends-as _ u does Done.Refused _ _ (λ r. Refuses.wake) refl
+    (dates _ u now none refl (no-other (elim [ ]) (elim [ ]) (elim [ ]) (elim [ ]) (elim [ ])))
 step-result (Call.reset now) u =
-    ends-as _ u does Done.Refused _ _ (λ r. Refuses.reset) refl (dates _ u now none refl (no-other (elim [ ]) (elim [ ]) (elim [ ]) (elim [ ]) (elim [ ])))
+    ends-as _ u does Done.Refused _ _ (λ r. Refuses.reset) refl
+    (dates _ u now none refl (no-other (elim [ ]) (elim [ ]) (elim [ ]) (elim [ ]) (elim [ ])))
 step-result (Call.powerDown now) u =
-    ends-as _ u does Done.Refused _ _ (λ r. Refuses.powerDown) refl (dates _ u now none refl (no-other (elim [ ]) (elim [ ]) (elim [ ]) (elim [ ]) (elim [ ])))
+    ends-as _ u does Done.Refused _ _ (λ r. Refuses.powerDown) refl
+    (dates _ u now none refl (no-other (elim [ ]) (elim [ ]) (elim [ ]) (elim [ ]) (elim [ ])))
 step-result (Call.watch now b) u =
-    ends-as _ u does Done.Refused _ _ (λ r. Refuses.watch) refl (dates _ u now none refl (no-other (elim [ ]) (elim [ ]) (elim [ ]) (elim [ ]) (elim [ ])))
+    ends-as _ u does Done.Refused _ _ (λ r. Refuses.watch) refl
+    (dates _ u now none refl (no-other (elim [ ]) (elim [ ]) (elim [ ]) (elim [ ]) (elim [ ])))
 step-result (Call.clockChange now period) u =
     ends-as _ u does Done.Refused _ _ (λ r. Refuses.clockChange) refl
     (dates _ u now _ refl (tested-lt 1000000 period PeriodTooLong number7 (from7 u)

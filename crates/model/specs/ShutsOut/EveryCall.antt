@@ -11,9 +11,12 @@ use Rattle.model.specs.State.{OnTheLine, Uart, withWake, withMistimed, w
 use Rattle.model.specs.Settle.{levels, noLaterThan, settlingDate, settleTo, settle}
 use Rattle.model.specs.Arm.{arm, called}
 use Rattle.model.specs.Replies.{ReadOf}
-use Rattle.model.specs.Registers.{Access, placeOf, pop, gives, readPlace, looks, readLooking, readAt, sendByte, sent, dropped, storing, clearing, resetFifos, writePlace, concluded}
+use Rattle.model.specs.Registers.{Access, placeOf, pop, gives, readPlace, looks, readLooking, readAt, sendByte, sent, dropped}
+use Rattle.model.specs.Registers.{storing, clearing, resetFifos, writePlace, concluded}
 use Rattle.model.specs.Calls
-use Rattle.model.specs.Calls.{Outcome, refusing, unless, unsettled, undated, quiet, settleAt, dated, added, clocked, reclocked, cleared, handOver, afterSettling, readWork, sendWork, writePlaced, writeWork, send, wakeWork, clockWork, resetWork}
+use Rattle.model.specs.Calls.{Outcome, refusing, unless, unsettled, undated, quiet, settleAt, dated, added, clocked, reclocked}
+use Rattle.model.specs.Calls.{cleared, handOver, afterSettling, readWork, sendWork, writePlaced, writeWork, send, wakeWork, clockWork}
+use Rattle.model.specs.Calls.{resetWork}
 use Rattle.model.specs.Call.{Call, Written, Request}
 use Rattle.model.specs.Run.{answering, stepBy, writing, step}
 use Rattle.model.specs.Laws.Choose.{choose-ind}
@@ -97,11 +100,13 @@ module _ (now : ℕ) (R : Uart ℕ ℕ → Uart ℕ ℕ → Type 0) (k : Walk no
   unfolding settleAt dated
   walk-settled u = k .on u (dated now u) _ (k .alike u _ refl) (walk-settle (dated now u))
 
-  walk-after : {A : Type 0} (u : Uart ℕ ℕ) (work : Uart ℕ ℕ → Access A ℕ ℕ) → ((v : Uart ℕ ℕ) → R v (work v .state)) → R u (afterSettling (settleAt now u) work .state)
+  walk-after : {A : Type 0} (u : Uart ℕ ℕ) (work : Uart ℕ ℕ → Access A ℕ ℕ) → ((v : Uart ℕ ℕ) → R v (work v .state))
+      → R u (afterSettling (settleAt now u) work .state)
   unfolding afterSettling
   walk-after u work h = k .on u (settleAt now u .state) _ (walk-settled u) (h (settleAt now u .state))
 
-  walk-unless : {A : Type 0} (o : Option Refusal) (reply : Refusal → A) (work : Uart ℕ ℕ → Outcome A ℕ ℕ) (u : Uart ℕ ℕ) → R u (work u .state) → R u (unless o reply work u .state)
+  walk-unless : {A : Type 0} (o : Option Refusal) (reply : Refusal → A) (work : Uart ℕ ℕ → Outcome A ℕ ℕ) (u : Uart ℕ ℕ)
+      → R u (work u .state) → R u (unless o reply work u .state)
   unfolding refusing
   walk-unless o reply work u h = unless-ind (λ (x : Outcome _ ℕ ℕ). R u (x .state)) o reply work u (λ r. k .alike u u refl) h
 
@@ -129,7 +134,8 @@ module _ (now : ℕ) (R : Uart ℕ ℕ → Uart ℕ ℕ → Type 0) (k : Walk no
 
   walk-concluded : {A : Type 0} (u : Uart ℕ ℕ) (a : Access A ℕ ℕ) → R u (a .state) → R u (concluded a .state)
   unfolding concluded arm
-  walk-concluded u a h = k .on u (a .state) _ h (k .on (a .state) (levels (a .state)) _ (k .raising (a .state)) (k .alike (levels (a .state)) _ refl))
+  walk-concluded u a h =
+      k .on u (a .state) _ h (k .on (a .state) (levels (a .state)) _ (k .raising (a .state)) (k .alike (levels (a .state)) _ refl))
 
   walk-send : (b : ℕ) (u : Uart ℕ ℕ) → R u (sendByte now b u .state)
   unfolding sendByte sent dropped
@@ -141,15 +147,18 @@ module _ (now : ℕ) (R : Uart ℕ ℕ → Uart ℕ ℕ → Type 0) (k : Walk no
       writePlace-ind (λ (p : Place) (a : Access Write ℕ ℕ). (p ≡ IntClr → R u (clearing v u .state)) → R u (a .state)) v u
       (λ p _. k .alike u _ refl) (λ h. h refl) (λ _. k .alike u _ refl)
 
-  walk-write : (x : Written) (u : Uart ℕ ℕ) → (placeOf (u .map .offsets) (x .offset) ≡ IntClr → (v : ℕ) (s : Uart ℕ ℕ) → R s (clearing v s .state))
+  walk-write : (x : Written) (u : Uart ℕ ℕ) → (placeOf (u .map .offsets) (x .offset) ≡ IntClr → (v : ℕ) (s : Uart ℕ ℕ)
+      → R s (clearing v s .state))
       → R u (Calls.write now (x .offset) (x .value) u .state)
   unfolding Calls.write send sendWork writePlaced writeWork
   walk-write x u =
-      write-ind (λ (p : Place) (o : Outcome Write ℕ ℕ). (p ≡ IntClr → (v : ℕ) (s : Uart ℕ ℕ) → R s (clearing v s .state)) → R u (o .state)) now (x .value) u
+      write-ind (λ (p : Place) (o : Outcome Write ℕ ℕ). (p ≡ IntClr → (v : ℕ) (s : Uart ℕ ℕ) → R s (clearing v s .state)) → R u (o .state))
+      now (x .value) u
       (λ _. walk-unless _ Write.Refused (sendWork now (x .value % 256)) u
       (walk-after u (λ s. concluded (sendByte now (x .value % 256) s)) (λ v. walk-concluded v _ (walk-send (x .value % 256) v))))
       (λ p clr. walk-unless _ Write.Refused (writeWork now p (x .value)) u
-      (walk-after u (λ s. concluded (writePlace p (x .value) s)) (λ v. walk-concluded v _ (walk-write-place (x .value) v p (λ e. clr e (x .value) v)))))
+      (walk-after u (λ s. concluded (writePlace p (x .value) s))
+      (λ v. walk-concluded v _ (walk-write-place (x .value) v p (λ e. clr e (x .value) v)))))
       (placeOf (u .map .offsets) (x .offset))
 
   -- ---- the other calls
@@ -162,7 +171,8 @@ module _ (now : ℕ) (R : Uart ℕ ℕ → Uart ℕ ℕ → Type 0) (k : Walk no
   -- a settling after a change elsewhere, and the next wake armed
   walk-armed : (u v : Uart ℕ ℕ) → watchedParts v ≡ watchedParts u → R u (arm (settleAt now v .state))
   unfolding arm
-  walk-armed u v e = k .on u v _ (k .alike u v e) (k .on v (settleAt now v .state) _ (walk-settled v) (k .alike (settleAt now v .state) _ refl))
+  walk-armed u v e =
+      k .on u v _ (k .alike u v e) (k .on v (settleAt now v .state) _ (walk-settled v) (k .alike (settleAt now v .state) _ refl))
 
   walk-wake : (u : Uart ℕ ℕ) → R u (wakeWork now u .state)
   unfolding wakeWork afterSettling quiet
@@ -174,7 +184,8 @@ module _ (now : ℕ) (R : Uart ℕ ℕ → Uart ℕ ℕ → Type 0) (k : Walk no
   walk-clock period u =
       let v : Uart ℕ ℕ = settleAt now u .state in
       let w : Uart ℕ ℕ = clocked period v in
-      k .on u v _ (walk-settled u) (k .on v w _ (k .alike v w refl) (k .on w (settle now w .state) _ (walk-settle w) (k .alike (settle now w .state) _ refl)))
+      k .on u v _ (walk-settled u) (k .on v w _ (k .alike v w refl)
+      (k .on w (settle now w .state) _ (walk-settle w) (k .alike (settle now w .state) _ refl)))
 
   walk-reset : (u : Uart ℕ ℕ) → ((s : Uart ℕ ℕ) → R s (cleared s)) → R u (resetWork now u .state)
   unfolding resetWork afterSettling quiet arm
@@ -182,19 +193,24 @@ module _ (now : ℕ) (R : Uart ℕ ℕ → Uart ℕ ℕ → Type 0) (k : Walk no
       let v : Uart ℕ ℕ = withControl (withPoweredDownAt Date.None (u .control)) u in
       let w : Uart ℕ ℕ = settleAt now v .state in
       k .on u v _ (k .alike u v refl)
-      (k .on v w _ (walk-settled v) (k .on w (cleared w) _ (clr w) (k .on (cleared w) (levels (cleared w)) _ (k .raising (cleared w)) (k .alike (levels (cleared w)) _ refl))))
+      (k .on v w _ (walk-settled v) (k .on w (cleared w) _ (clr w)
+      (k .on (cleared w) (levels (cleared w)) _ (k .raising (cleared w)) (k .alike (levels (cleared w)) _ refl))))
 
 -- every call leads from its state to the next
 pub every-call : (c : Request) (u : Uart ℕ ℕ) (R : Uart ℕ ℕ → Uart ℕ ℕ → Type 0) → Walk (nowOf c) R
-    → (Clears c u → (v : ℕ) (s : Uart ℕ ℕ) → R s (clearing v s .state)) → (Resets c → (s : Uart ℕ ℕ) → R s (cleared s)) → R u (step c u .state)
-unfolding nowOf step stepBy answering writing undated unsettled quiet arm Calls.read Calls.readPlaced Calls.readWork Calls.receive Calls.receiveWork Calls.wake
-    Calls.powerDown Calls.powerDownWork Calls.watch Calls.watchWork Calls.clockChange Calls.reset Calls.takeTx Calls.takeTxWork Calls.takeWritten
+    → (Clears c u → (v : ℕ) (s : Uart ℕ ℕ) → R s (clearing v s .state)) → (Resets c → (s : Uart ℕ ℕ) → R s (cleared s))
+    → R u (step c u .state)
+unfolding nowOf step stepBy answering writing undated unsettled quiet arm Calls.read Calls.readPlaced Calls.readWork Calls.receive
+    Calls.receiveWork Calls.wake
+    Calls.powerDown Calls.powerDownWork Calls.watch Calls.watchWork Calls.clockChange Calls.reset Calls.takeTx Calls.takeTxWork
+    Calls.takeWritten
     Calls.takeWrittenWork Calls.hasLeft Calls.hostPending
 every-call (Call.read now r) u R k clr rst =
     let p : Place = placeOf (u .map .offsets) r in
     walk-unless now R k _ _ (readWork now p) u (walk-after now R k u (readAt p) (walk-read now R k p))
 every-call (Call.write now x) u R k clr rst = walk-write now R k x u clr
-every-call (Call.receive now at bs) u R k clr rst = walk-unless now R k _ Done.Refused _ u (walk-after now R k u _ (walk-hand-over now R k _ bs))
+every-call (Call.receive now at bs) u R k clr rst =
+    walk-unless now R k _ Done.Refused _ u (walk-after now R k u _ (walk-hand-over now R k _ bs))
 every-call (Call.wake now) u R k clr rst = walk-unless now R k _ Done.Refused _ u (walk-wake now R k u)
 every-call (Call.reset now) u R k clr rst = walk-unless now R k _ Done.Refused _ u (walk-reset now R k u (rst tt))
 every-call (Call.powerDown now) u R k clr rst = walk-unless now R k _ Done.Refused _ u (k .alike u _ refl)

@@ -14,7 +14,9 @@ use Rattle.model.specs.Numbers.{choose, bit, dueBy}
 use Rattle.model.specs.State.{OnTheLine, Uart, lineOf}
 use Rattle.model.specs.Timing.{settings}
 use Rattle.model.specs.Line.{raiseIf, fifoBytes, afterDate, timeoutAt, frame, fate}
-use Rattle.model.specs.Settle.{Pass, txDone, leave, depart, received, nothingDue, timedOut, landed, inFrame, begun, passOn, pass, goesOn, lost, counted, passesFrom, pending, begin, passes, levels, leveled, settingsOf, settleTo, settle, settlingDate}
+use Rattle.model.specs.Settle.{Pass, txDone, leave, depart, received, nothingDue, timedOut, landed, inFrame, begun, passOn, pass}
+use Rattle.model.specs.Settle.{goesOn, lost, counted, passesFrom, pending, begin, passes, levels, leveled, settingsOf, settleTo}
+use Rattle.model.specs.Settle.{settle, settlingDate}
 use Rattle.model.specs.Replies.{byte}
 use Rattle.model.specs.Registers.{placeOf, pop, looks, readPlace, readLooking, readAt}
 use Rattle.model.specs.Calls.{dated, settleAt, afterSettling, readWork}
@@ -35,10 +37,12 @@ use Rattle.model.specs.declared.Found.the-variants.{NothingDue, TimedOut
 -- ---- a heard byte with room
 
 module _ {H W : Type 0} (s : Settings) (date : ℕ) (u : Uart H W) (l : OnTheLine H) where
-  room-stores : l .frame .heard ≡ true → s .«rx_sclk_en» ≡ true → s .«rxfifo_rst» ≡ false → length (u .rx) < 128 → fate s (length (u .rx)) (l .frame) ≡ Stored
+  room-stores : l .frame .heard ≡ true → s .«rx_sclk_en» ≡ true → s .«rxfifo_rst» ≡ false → length (u .rx) < 128
+      → fate s (length (u .rx)) (l .frame) ≡ Stored
   unfolding fate choose
   room-stores a b c d =
-      (λ i. choose (a i) (choose (b i) (choose (c i) Cleared (choose (lt-ltb (length (u .rx)) fifoBytes d i) Stored Overflowed)) ClockOff) Unheard)
+      (λ i. choose (a i) (choose (b i) (choose (c i) Cleared (choose (lt-ltb (length (u .rx)) fifoBytes d i) Stored Overflowed))
+      ClockOff) Unheard)
 
   no-timeout : lineOf u .«idle_since» ≡ Date.None → dueBy date (timeoutAt s (lineOf u)) ≡ false
   unfolding timeoutAt afterDate dueBy
@@ -46,7 +50,8 @@ module _ {H W : Type 0} (s : Settings) (date : ℕ) (u : Uart H W) (l : OnTheLin
 
   -- a heard byte whose landing date has come, with room, the clock on and RXFIFO_RST clear, is the last in the receive FIFO
   -- after the pass, and the line is free. Within the limits no idle line is open beside it
-  pub byte-lands : lineOf u .«idle_since» ≡ Date.None → u .receiving ≡ some l → l .frame .heard ≡ true → s .«rx_sclk_en» ≡ true → s .«rxfifo_rst» ≡ false
+  pub byte-lands : lineOf u .«idle_since» ≡ Date.None → u .receiving ≡ some l → l .frame .heard ≡ true → s .«rx_sclk_en» ≡ true
+      → s .«rxfifo_rst» ≡ false
       → length (u .rx) < 128 → lineOf u .«line_free_at» ≤ date
       → (pass s date u .state .rx ≡ u .rx ++ (l .byte ∷ [])) × (pass s date u .state .receiving ≡ none)
   unfolding pass passOn inFrame landed received choose
@@ -86,8 +91,10 @@ pass-grows s date =
     (λ u l _. received-grows _ (l .byte) (u .rx)) (λ u at b bs p _ _ h. h)
 
 -- the byte that is due is stored before whatever the later passes store
-landing-settled : {H W : Type 0} (date : ℕ) (u : Uart H W) (l : OnTheLine H) → lineOf u .«idle_since» ≡ Date.None → u .receiving ≡ some l → l .frame .heard ≡ true
-    → bit 25 (u .control .words .«clk_conf») ≡ true → bit 17 (u .control .words .conf0) ≡ false → length (u .rx) < 128 → lineOf u .«line_free_at» ≤ date
+landing-settled : {H W : Type 0} (date : ℕ) (u : Uart H W) (l : OnTheLine H) → lineOf u .«idle_since» ≡ Date.None → u .receiving ≡ some l
+    → l .frame .heard ≡ true
+    → bit 25 (u .control .words .«clk_conf») ≡ true → bit 17 (u .control .words .conf0) ≡ false → length (u .rx) < 128
+    → lineOf u .«line_free_at» ≤ date
     → Grown (u .rx ++ (l .byte ∷ [])) (settleTo date u .state .rx)
 unfolding settleTo leveled levels passes begin counted passesFrom depart leave txDone raiseIf settingsOf settings
 landing-settled {H} {W} date u l closed on heard clock rst room come =
@@ -97,19 +104,22 @@ landing-settled {H} {W} date u l closed on heard clock rst room come =
     let k : ℕ = 2 * pending v in
     let first : p .state .rx ≡ u .rx ++ (l .byte ∷ []) = byte-lands s date v l closed on heard clock rst room come .0 in
     let more : Grown (p .state .rx) (passesFrom s date (suc k) (goesOn (p .found)) (counted (begin v) p) .state .rx) =
-    passes-on (λ (a b : Uart H W). Grown (a .rx) (b .rx)) s date (λ a. as-it-was (a .rx)) (λ a b c. and-on (a .rx) (b .rx) (c .rx)) (pass-grows s date)
+    passes-on (λ (a b : Uart H W). Grown (a .rx) (b .rx)) s date (λ a. as-it-was (a .rx)) (λ a b c. and-on (a .rx) (b .rx) (c .rx))
+    (pass-grows s date)
     (suc k) (goesOn (p .found)) (counted (begin v) p) in (
       more .0,
       ap (λ (n : ℕ). passesFrom s date n true (begin v) .state .rx) (add-two k) ∙ more .1 ∙ ap (λ (x : List H). x ++ more .0) first,
     )
 
-pop-first : {H W : Type 0} (ns : List Unsupported) (bs : List H) (u : Uart H W) (b : H) (more : List H) → bs ≡ b ∷ more → pop ns bs u .reply ≡ byte b
+pop-first : {H W : Type 0} (ns : List Unsupported) (bs : List H) (u : Uart H W) (b : H) (more : List H) → bs ≡ b ∷ more
+    → pop ns bs u .reply ≡ byte b
 unfolding pop
 pop-first ns bs u b more e = ap (λ (x : List _). pop ns x u .reply) e
 
 -- a byte on the line is what the firmware reads once its landing date has come: heard, with the clock on, RXFIFO_RST clear and
 -- no byte held before it
-pub byte-read : (now offset : ℕ) (u : Uart ℕ ℕ) (l : OnTheLine ℕ) → InTime now u → Within u → placeOf (u .map .offsets) offset ≡ Fifo → u .receiving ≡ some l
+pub byte-read : (now offset : ℕ) (u : Uart ℕ ℕ) (l : OnTheLine ℕ) → InTime now u → Within u → placeOf (u .map .offsets) offset ≡ Fifo
+    → u .receiving ≡ some l
     → l .frame .heard ≡ true → bit 25 (u .control .words .«clk_conf») ≡ true → bit 17 (u .control .words .conf0) ≡ false → u .rx ≡ []
     → lineOf u .«line_free_at» ≤ settlingDate now (u .control)
     → step (Call.read now offset) u .answer .reply ≡ reads (byte (l .byte))
@@ -133,7 +143,8 @@ heardOn s none = s .«rx_sclk_en»
 heardOn s (some l) = l .frame .heard
 
 lost-when : (h c r t : Bool)
-    → ltb 0 (lost (Landed (choose h (choose c (choose r Cleared (choose t Stored Overflowed)) ClockOff) Unheard))) ≡ (h && c && not r && not t)
+    → ltb 0 (lost (Landed (choose h (choose c (choose r Cleared (choose t Stored Overflowed)) ClockOff) Unheard)))
+    ≡ (h && c && not r && not t)
 unfolding lost choose
 lost-when false c r t = refl
 lost-when true false r t = refl
@@ -150,7 +161,8 @@ pub overflows-when : {H W : Type 0} (s : Settings) (date : ℕ) (u : Uart H W)
     → ltb 0 (lost (pass s date u .found)) ≡ (isLanding (pass s date u .found) && tooMany s (heardOn s (u .receiving)) (length (u .rx)))
 unfolding timedOut nothingDue landed begun isLanding lost heardOn fate frame
 overflows-when s date =
-    pass-cases s date (λ (u : Uart _ _) (p : Pass _ _). ltb 0 (lost (p .found)) ≡ (isLanding (p .found) && tooMany s (heardOn s (u .receiving)) (length (u .rx))))
+    pass-cases s date (λ (u : Uart _ _) (p : Pass _ _). ltb 0 (lost (p .found))
+    ≡ (isLanding (p .found) && tooMany s (heardOn s (u .receiving)) (length (u .rx))))
     (λ u _. refl) (λ u. refl)
     (λ u l e. lost-when (l .frame .heard) (s .«rx_sclk_en») (s .«rxfifo_rst») (ltb (length (u .rx)) fifoBytes)
     ∙ ap (λ (o : Option (OnTheLine _)). tooMany s (heardOn s o) (length (u .rx))) (sym e))

@@ -10,11 +10,13 @@ use Rattle.dates.specs.Dates.{subcycles}
 use Rattle.model.specs.Numbers.{bit}
 use Rattle.model.specs.State.{OnTheLine, Uart, lineOf}
 use Rattle.model.specs.Line.{raiseIf, noteSource, timeOut}
-use Rattle.model.specs.Settle.{Pass, txDone, leave, depart, nothingDue, timedOut, inFrame, passOn, pass, begin, passes, assertLevels, drive, levels, leveled, settingsOf, settleTo}
+use Rattle.model.specs.Settle.{Pass, txDone, leave, depart, nothingDue, timedOut, inFrame, passOn, pass, begin, passes, assertLevels}
+use Rattle.model.specs.Settle.{drive, levels, leveled, settingsOf, settleTo}
 use Rattle.model.specs.Arm.{arm}
 use Rattle.model.specs.Registers.{Access, placeOf, sendByte, sent, dropped, storing, clearing, resetFifos, writePlace, concluded}
 use Rattle.model.specs.Calls
-use Rattle.model.specs.Calls.{Outcome, refusing, clearedLine, cleared, settleAt, afterSettling, sendWork, writeWork, writePlaced, send}
+use Rattle.model.specs.Calls.{Outcome, refusing, clearedLine, cleared, settleAt, afterSettling, sendWork, writeWork, writePlaced}
+use Rattle.model.specs.Calls.{send}
 use Rattle.model.specs.Call.{Call, Written, Request, writes}
 use Rattle.model.specs.Run.{Step, answering, stepBy, writing, step}
 use Rattle.model.specs.Laws.Choose.{choose-ind}
@@ -57,7 +59,8 @@ pub write-leaves-line : (now : ℕ) (x : Written) (u : Uart ℕ ℕ) → LineLef
 unfolding step stepBy answering writing Calls.write send sendWork writePlaced writeWork afterSettling refusing
 write-leaves-line now x u =
     write-ind (λ (p : Place) (o : Outcome Write ℕ ℕ). LineLeft now u (answering writes o)) now (x .value) u
-    (unless-ind Left _ Write.Refused (sendWork now b) u (λ r. refused r refl refl) (settled (concluded-line (sendByte now b v) ∙ send-line now b v)))
+    (unless-ind Left _ Write.Refused (sendWork now b) u (λ r. refused r refl refl)
+    (settled (concluded-line (sendByte now b v) ∙ send-line now b v)))
     (λ p. unless-ind Left _ Write.Refused (writeWork now p (x .value)) u (λ r. refused r refl refl)
     (settled (concluded-line (writePlace p (x .value) v) ∙ place-line (x .value) v p)))
     (placeOf (u .map .offsets) (x .offset))
@@ -95,12 +98,14 @@ module _ {H W : Type 0} (date : ℕ) where
   stayed-on : (u v w : Uart H W) → Stayed date u v → Stayed date v w → Stayed date u w
   stayed-on u v w a b l e early =
       let q : onLine v ≡ onLine u = a l e early in
-      b l (ap (λ (x : Option (OnTheLine H) × ℕ). x .0) q ∙ e) (subst (λ (d : ℕ). date < d) (sym (ap (λ (x : Option (OnTheLine H) × ℕ). x .1) q)) early) ∙ q
+      b l (ap (λ (x : Option (OnTheLine H) × ℕ). x .0) q ∙ e)
+      (subst (λ (d : ℕ). date < d) (sym (ap (λ (x : Option (OnTheLine H) × ℕ). x .1) q)) early) ∙ q
 
   settling-stayed : (u : Uart H W) → Stayed date u (settleTo date u .state)
   unfolding settleTo leveled levels drive assertLevels raiseIf passes begin depart leave txDone
   settling-stayed u =
-      passes-on (Stayed date) (settingsOf u) date (λ v l e early. refl) stayed-on (pass-stayed (settingsOf u)) _ true (begin (depart date u))
+      passes-on (Stayed date) (settingsOf u) date (λ v l e early. refl) stayed-on (pass-stayed (settingsOf u)) _ true
+      (begin (depart date u))
 
 stayed-walk : (now : ℕ) → Walk now (Stayed (subcycles now))
 unfolding levels drive assertLevels raiseIf
@@ -113,10 +118,12 @@ stayed-walk now = record {
 
 -- whatever is called before its landing date, the byte on the line stays and lands when it would have: no write, no clock change
 -- and no reset gives it a new rate
-pub byte-keeps-its-date : (c : Request) (u : Uart ℕ ℕ) (l : OnTheLine ℕ) → u .receiving ≡ some l → subcycles (nowOf c) < lineOf u .«line_free_at»
+pub byte-keeps-its-date : (c : Request) (u : Uart ℕ ℕ) (l : OnTheLine ℕ) → u .receiving ≡ some l
+    → subcycles (nowOf c) < lineOf u .«line_free_at»
     → onLine (step c u .state) ≡ onLine u
 unfolding clearing cleared clearedLine
-byte-keeps-its-date c u = every-call c u (Stayed (subcycles (nowOf c))) (stayed-walk (nowOf c)) (λ _ v s l e early. refl) (λ _ s l e early. refl)
+byte-keeps-its-date c u =
+    every-call c u (Stayed (subcycles (nowOf c))) (stayed-walk (nowOf c)) (λ _ v s l e early. refl) (λ _ s l e early. refl)
 
 -- ---- no bit of INT_RAW falls but by INT_CLR and reset
 

@@ -17,7 +17,8 @@ use Rattle.model.specs.Replies.{Take, report}
 use Rattle.model.specs.Registers.{Access, placeOf, sourceNotes, goneAt, sent, dropped, sendByte, concluded}
 use Rattle.model.specs.Tests.{dateEnd, sentLimit, hostLimit, hostFull, runsFull, bufferTooShort, refuseIf}
 use Rattle.model.specs.Calls
-use Rattle.model.specs.Calls.{Outcome, afterSettling, quiet, settleAt, dated, filled, hostDate, lastDate, sendWork, takeTxWork, receiveWork}
+use Rattle.model.specs.Calls.{Outcome, afterSettling, quiet, settleAt, dated, filled, hostDate, lastDate, sendWork, takeTxWork}
+use Rattle.model.specs.Calls.{receiveWork}
 use Rattle.model.specs.Call.{Call, Written, writes, does, takes}
 use Rattle.model.specs.Run.{Step, answering, stepBy, step}
 use Rattle.model.specs.SetUp.{mapOf, newControl, new}
@@ -95,7 +96,8 @@ byte-leaves date u s ss e h = (
 )
 
 -- take_tx hands it out
-pub byte-handed-out : (now : ℕ) (u : Uart ℕ ℕ) (lent : List ℕ) (s : Sent ℕ) (ss : List (Sent ℕ)) → InTime now u → sentLimit ≤ length lent → u .inFlight ≡ s ∷ ss
+pub byte-handed-out : (now : ℕ) (u : Uart ℕ ℕ) (lent : List ℕ) (s : Sent ℕ) (ss : List (Sent ℕ)) → InTime now u → sentLimit ≤ length lent
+    → u .inFlight ≡ s ∷ ss
     → s .goneAt ≤ settlingDate now (u .control)
     → step (Call.takeTx now lent) u .answer .reply
     ≡ takes (filled (u .tx ++ (s .byte ∷ map (λ x. x .byte) (take (gone (settlingDate now (u .control)) ss) ss))) lent)
@@ -123,21 +125,27 @@ module _ (offsets ws : List ℕ) (now : ℕ) (early : now < dateEnd) where
   -- neither 4 nor any other number at a first write to FIFO: the byte is in flight
   pub first-write : (x : Written) → placeOf offsets (x .offset) ≡ Fifo
       → (step (Call.write now x) (new offsets ws) .answer .reply ≡ writes Write.Accepted)
-      × (step (Call.write now x) (new offsets ws) .state .inFlight ≡ record { goneAt = goneAt now (settled now (new offsets ws)); byte = x .value % 256 } ∷ [])
+      × (step (Call.write now x) (new offsets ws) .state .inFlight
+      ≡ record { goneAt = goneAt now (settled now (new offsets ws)); byte = x .value % 256 } ∷ [])
   unfolding new mapOf
   first-write x e =
-      let w = write-taken now fresh x new-in-time e (omega arith) (rw none-flying (omega arith)) in
-      (w .0, w .1 ∙ ap (λ (l : List (Sent ℕ)). l ++ (record { goneAt = goneAt now (settled now fresh); byte = x .value % 256 } ∷ [])) none-flying)
+      let w = write-taken now fresh x new-in-time e (omega arith) (rw none-flying (omega arith)) in (
+        w .0,
+        w .1 ∙ ap (λ (l : List (Sent ℕ)). l ++ (record { goneAt = goneAt now (settled now fresh); byte = x .value % 256 } ∷ []))
+            none-flying,
+      )
 
   no-run : (n d : ℕ) → runsFull n 0 0 d ≡ false
   unfolding runsFull
   no-run n d = and-false (ltb 0 n)
 
   -- neither 5 nor any other number at a first hand-over of up to 1,024 bytes
-  pub first-hand-over : (at : ℕ) (bs : List ℕ) → length bs ≤ hostLimit → step (Call.receive now at bs) (new offsets ws) .answer .reply ≡ does Done.Done
+  pub first-hand-over : (at : ℕ) (bs : List ℕ) → length bs ≤ hostLimit
+      → step (Call.receive now at bs) (new offsets ws) .answer .reply ≡ does Done.Done
   unfolding step stepBy answering Calls.receive receiveWork afterSettling quiet new refuseIf hostFull lastDate
   first-hand-over at bs h =
       ap (λ (o : Outcome Done ℕ ℕ). does (o .reply))
       (carried-out Done.Refused (receiveWork now at bs) fresh
       (in-time new-in-time _
-      ∙ ap₂ (λ (a b : Bool). refuseIf a HostFull (refuseIf b RunsFull none)) (le-ltb hostLimit (0 + length bs) (omega arith)) (no-run (length bs) (hostDate now at))))
+      ∙ ap₂ (λ (a b : Bool). refuseIf a HostFull (refuseIf b RunsFull none)) (le-ltb hostLimit (0 + length bs) (omega arith))
+      (no-run (length bs) (hostDate now at))))

@@ -12,7 +12,9 @@ use Rattle.model.specs.Numbers.{choose, bit, dueBy}
 use Rattle.model.specs.Manual
 use Rattle.model.specs.State.{Run, OnTheLine, Uart, lineOf}
 use Rattle.model.specs.Line.{raiseIf, noteSource, afterDate, timeoutAt, timeOut, start}
-use Rattle.model.specs.Settle.{Pass, Settled, txDone, leave, depart, nothingDue, timedOut, landed, begun, idle, lineFree, passOn, pass, counted, passesFrom, pending, begin, passes, assertLevels, drive, levels, leveled, settingsOf, settleTo, settle, settlingDate}
+use Rattle.model.specs.Settle.{Pass, Settled, txDone, leave, depart, nothingDue, timedOut, landed, begun, idle, lineFree, passOn}
+use Rattle.model.specs.Settle.{pass, counted, passesFrom, pending, begin, passes, assertLevels, drive, levels, leveled, settingsOf}
+use Rattle.model.specs.Settle.{settleTo, settle, settlingDate}
 use Rattle.model.specs.Registers.{Access, pop, gives, readPlace, readLooking, readAt, looks, placeOf}
 use Rattle.model.specs.Calls.{dated, settleAt, afterSettling, readWork}
 use Rattle.model.specs.Call.{Call}
@@ -34,7 +36,8 @@ module _ (s : Settings) where
   -- the idle line closes, enabled or not, with a byte held or not
   pub timeOut-closes : (held : ℕ) (l : Line) → timeOut s held l .«idle_since» ≡ Date.None
   unfolding timeOut raiseIf noteSource
-  timeOut-closes held l = choose-ind (λ (k : Line). k .«idle_since» ≡ Date.None) (s .«rx_tout_en» && s .«rx_sclk_en») (λ _. refl) (λ _. refl)
+  timeOut-closes held l =
+      choose-ind (λ (k : Line). k .«idle_since» ≡ Date.None) (s .«rx_tout_en» && s .«rx_sclk_en») (λ _. refl) (λ _. refl)
 
   abbrev Due : ℕ → Line → Type 0
   Due date l = dueBy date (timeoutAt s l) ≡ true
@@ -61,13 +64,16 @@ module _ (s : Settings) where
     unfolding landed isTimeout
     landed-closes date u v f l = record { due = λ h. absurd (false≢true h); closed = λ h. absurd (false≢true h) }
 
-    begun-closes : (date : ℕ) (u : Uart H W) (at : ℕ) (b : H) (bs : List H) (p : Pass H W) → u .receiving ≡ none → Closes date (begun s at b bs u) p → Closes date u p
+    begun-closes : (date : ℕ) (u : Uart H W) (at : ℕ) (b : H) (bs : List H) (p : Pass H W) → u .receiving ≡ none
+        → Closes date (begun s at b bs u) p → Closes date u p
     unfolding begun
     begun-closes date u at b bs p _ h = record { due = λ e. start-due date at (lineOf u) (h .due e); closed = h .closed }
 
     -- a pass takes a timeout only when it is due, and then the idle line is closed
     pub pass-closes : (date : ℕ) (u : Uart H W) → Closes date u (pass s date u)
-    pass-closes date = pass-cases s date (Closes date) (timedOut-closes date) (λ u. nothingDue-closes date u u) (λ u l _. landed-closes date u u _ l) (λ u at b bs p e _. begun-closes date u at b bs p e)
+    pass-closes date =
+        pass-cases s date (Closes date) (timedOut-closes date) (λ u. nothingDue-closes date u u) (λ u l _. landed-closes date u u _ l)
+        (λ u at b bs p e _. begun-closes date u at b bs p e)
 
 -- ---- with no host byte on the line or waiting
 
@@ -88,7 +94,8 @@ module _ {H W : Type 0} (s : Settings) (date : ℕ) where
   still-pass : (u : Uart H W) → Still u → pass s date u ≡ idle s date u
   unfolding pass passOn
   still-pass u h =
-      ap (λ (o : Option (OnTheLine H)). passOn s date o u) (h .line) ∙ ap (λ (bs : List H). lineFree s date (u .hostRuns) bs u) (h .waiting) ∙ no-host (u .hostRuns) u
+      ap (λ (o : Option (OnTheLine H)). passOn s date o u) (h .line) ∙ ap (λ (bs : List H). lineFree s date (u .hostRuns) bs u) (h .waiting)
+      ∙ no-host (u .hostRuns) u
 
   idle-due : (u : Uart H W) (b : Bool) → dueBy date (timeoutAt s (lineOf u)) ≡ b → idle s date u ≡ choose b (timedOut s u) (nothingDue u)
   unfolding idle
@@ -96,7 +103,8 @@ module _ {H W : Type 0} (s : Settings) (date : ℕ) where
 
   closed-pass : (u : Uart H W) → Closed u → pass s date u ≡ nothingDue u
   unfolding choose timeoutAt afterDate dueBy
-  closed-pass u h = still-pass u (h .still) ∙ idle-due u false (ap (λ (d : Date). dueBy date (afterDate (s .«timeout_time») d)) (h .idleLine))
+  closed-pass u h =
+      still-pass u (h .still) ∙ idle-due u false (ap (λ (d : Date). dueBy date (afterDate (s .«timeout_time») d)) (h .idleLine))
 
   closed-passes : (k : ℕ) (go : Bool) (t : Settled H W) → Closed (t .state) → Closed (passesFrom s date k go t .state)
   unfolding nothingDue
@@ -110,7 +118,8 @@ module _ {H W : Type 0} (s : Settings) (date : ℕ) where
       subst (λ (p : Pass H W). Closed (p .state)) (sym (still-pass u h ∙ idle-due u true due))
       (record { still = record { line = h .line; waiting = h .waiting }; idleLine = timeOut-closes s (length (u .rx)) (lineOf u) })
 
-  due-passes : (k : ℕ) (t : Settled H W) → Still (t .state) → dueBy date (timeoutAt s (lineOf (t .state))) ≡ true → Closed (passesFrom s date (suc k) true t .state)
+  due-passes : (k : ℕ) (t : Settled H W) → Still (t .state) → dueBy date (timeoutAt s (lineOf (t .state))) ≡ true
+      → Closed (passesFrom s date (suc k) true t .state)
   unfolding passesFrom counted
   due-passes k t h due = closed-passes k _ _ (due-pass (t .state) h due)
 
@@ -119,8 +128,10 @@ settling-closes : {H W : Type 0} (date : ℕ) (u : Uart H W) → Still u → due
     → lineOf (settleTo date u .state) .«idle_since» ≡ Date.None
 unfolding settleTo leveled levels drive assertLevels raiseIf passes begin depart leave txDone timeoutAt
 settling-closes date u h due =
-    ap (λ (k : ℕ). lineOf (passesFrom (settingsOf u) date k true (begin (depart date u)) .state) .«idle_since») (add-two (2 * pending (depart date u)))
-    ∙ due-passes (settingsOf u) date (suc (2 * pending (depart date u))) (begin (depart date u)) (record { line = h .line; waiting = h .waiting }) due .idleLine
+    ap (λ (k : ℕ). lineOf (passesFrom (settingsOf u) date k true (begin (depart date u)) .state) .«idle_since»)
+    (add-two (2 * pending (depart date u)))
+    ∙ due-passes (settingsOf u) date (suc (2 * pending (depart date u))) (begin (depart date u))
+    (record { line = h .line; waiting = h .waiting }) due .idleLine
 
 -- ---- of step
 
@@ -143,7 +154,8 @@ module _ {H W : Type 0} where
   looking-idle false p u = given-idle [] p u
 
 -- once its date has come, the timeout has closed the idle line, enabled or not: seen after a read anywhere
-pub timeout-closes-line : (now offset : ℕ) (u : Uart ℕ ℕ) → InTime now u → Still u → dueBy (settlingDate now (u .control)) (timeoutAt (settingsOf u) (lineOf u)) ≡ true
+pub timeout-closes-line : (now offset : ℕ) (u : Uart ℕ ℕ) → InTime now u → Still u
+    → dueBy (settlingDate now (u .control)) (timeoutAt (settingsOf u) (lineOf u)) ≡ true
     → lineOf (step (Call.read now offset) u .state) .«idle_since» ≡ Date.None
 unfolding answering readWork afterSettling readAt settleAt settle settlingDate dated settingsOf
 timeout-closes-line now offset u t h due =
@@ -162,5 +174,6 @@ pub disabled-raises-nothing : (now : ℕ) (u : Uart ℕ ℕ) → bit 21 (u .cont
 unfolding settleAt settle dated timeoutCame
 disabled-raises-nothing now u e =
     settling-rises _ (dated now u) .tout
-    ∙ ap (λ (b : Bool). rawBit 8 u || b) (no-pass _ _ _ (λ held f. off-tout (u .control .words .conf1) (u .control .words .«clk_conf») held (isTimeout f) e) _ true _)
+    ∙ ap (λ (b : Bool). rawBit 8 u || b) (no-pass _ _ _
+    (λ held f. off-tout (u .control .words .conf1) (u .control .words .«clk_conf») held (isTimeout f) e) _ true _)
     ∙ or-false (rawBit 8 u)

@@ -111,7 +111,8 @@ pub data Shape (fifo : ℕ) (c : Request) : Bare → Type 0 where
 -- read of FIFO that has UartEmptyRead gives 0
 pub data Agree (fifo : ℕ) (cs ds : List Request) (h w : ℕ) (c : Request) : Bare → Bare → Type 0 where
   fifoByte : {n : ℕ} {r : Report} (s : Source) → readsFifo fifo c ≡ true → noted r ≡ noticesOf (mistimed s) → n < h
-      → Agree fifo cs ds h w c (record { reply = reads (byte (hostByte cs n)); report = r }) (record { reply = reads (byte (hostByte ds n)); report = r })
+      → Agree fifo cs ds h w c (record { reply = reads (byte (hostByte cs n)); report = r })
+      (record { reply = reads (byte (hostByte ds n)); report = r })
   fifoEmpty : {r : Report} (s : Source) → readsFifo fifo c ≡ true → noted r ≡ noticesOf (mistimed s ++ (UartEmptyRead ∷ []))
       → Agree fifo cs ds h w c (record { reply = reads (word 0); report = r }) (record { reply = reads (word 0); report = r })
   fifoRefused : {x : Refusal} {r : Report} → readsFifo fifo c ≡ true

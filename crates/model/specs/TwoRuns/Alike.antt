@@ -25,7 +25,8 @@ fifoOffset offsets = getD offsets 0 0
 pub data Alike (fifo : ℕ) : Request → Request → Type 0 where
   same : {c : Request} → Alike fifo c c
   hostBytes : {now at : ℕ} {bs bs′ : List ℕ} → length bs ≡ length bs′ → Alike fifo (Call.receive now at bs) (Call.receive now at bs′)
-  fifoWord : {now v v′ : ℕ} → Alike fifo (Call.write now (record { offset = fifo; value = v })) (Call.write now (record { offset = fifo; value = v′ }))
+  fifoWord : {now v v′ : ℕ} → Alike fifo (Call.write now (record { offset = fifo; value = v }))
+      (Call.write now (record { offset = fifo; value = v′ }))
   lentToTakeTx : {now : ℕ} {lent lent′ : List ℕ} → length lent ≡ length lent′ → Alike fifo (Call.takeTx now lent) (Call.takeTx now lent′)
   lentToTakeWritten : {lent lent′ : List ℕ} → length lent ≡ length lent′ → Alike fifo (Call.takeWritten lent) (Call.takeWritten lent′)
 

@@ -15,10 +15,12 @@ use Rattle.model.specs.Limits.{All}
 use Rattle.model.specs.Replies.{ReadOf, word, byte, noValue, refused}
 use Rattle.model.specs.Call.{Request, Reply, reads, writes, does, takes, left, pends}
 use Rattle.model.specs.Run.{Step, runBy}
-use Rattle.model.specs.TwoRuns.Alike.{hostOf, writesOf, fifoBytesOf, hostGiven, fifoWritten, itself, mapReadOf, mapTake, mapReply, mapAnswer}
+use Rattle.model.specs.TwoRuns.Alike.{hostOf, writesOf, fifoBytesOf, hostGiven, fifoWritten, itself, mapReadOf, mapTake, mapReply}
+use Rattle.model.specs.TwoRuns.Alike.{mapAnswer}
 use Rattle.model.specs.TwoRuns.Placed.{Put, Placed, placed, stepPlaced}
 use Rattle.model.specs.TwoRuns.NaturalCalls.{mapPut, mapPlaced, mapStep, stepPlaced-nat}
-use Rattle.model.specs.TwoRuns.Numbering.{changed-twice, putOf, writtenOf, upFrom, numbered, number, host-of-placed, written-of-placed}
+use Rattle.model.specs.TwoRuns.Numbering.{changed-twice, putOf, writtenOf, upFrom, numbered, number, host-of-placed}
+use Rattle.model.specs.TwoRuns.Numbering.{written-of-placed}
 use Rattle.model.specs.TwoRuns.Agree.{byteRead, bytesRead, bytesSent, Bare, Below, EachBelow}
 
 -- ---- the bytes in an answer with other bytes
@@ -91,10 +93,12 @@ put-fixed n g p w (Put.byte b) le = ap Put.byte (p w (omega arith))
 put-fixed n g p w (Put.word q v) le = refl
 
 module _ {H W L : Type 0} (h w : ℕ) (c : Placed H W L) where
-  call-fixed : (f g : ℕ → ℕ) → Keeps (h + length (hostOf c)) f → Keeps (w + length (writtenOf c)) g → mapPlaced f g itself (numbered h w c) ≡ numbered h w c
+  call-fixed : (f g : ℕ → ℕ) → Keeps (h + length (hostOf c)) f → Keeps (w + length (writtenOf c)) g
+      → mapPlaced f g itself (numbered h w c) ≡ numbered h w c
   unfolding mapPlaced numbered writtenOf
   call-fixed f g p q =
-      changed-twice _ _ _ _ _ _ _ _ _ c (λ x r. put-fixed _ g q w x (ap-le r)) (upFrom-fixed _ f p h (length (hostOf c)) (omega arith)) (λ l. map-id _)
+      changed-twice _ _ _ _ _ _ _ _ _ c (λ x r. put-fixed _ g q w x (ap-le r)) (upFrom-fixed _ f p h (length (hostOf c)) (omega arith))
+      (λ l. map-id _)
     where
       ap-le : {x : Put W} → writesOf c ≡ x ∷ [] → w + length (flatMap putOf (x ∷ [])) ≤ w + length (flatMap putOf (writesOf c))
       ap-le {x} r = rw r (omega arith)
@@ -109,7 +113,8 @@ module _ {H W L : Type 0} (h w : ℕ) (c : Placed H W L) (u : Uart ℕ ℕ) (k :
   step-fixed : (f g : ℕ → ℕ) → Keeps (h + length (hostOf c)) f → Keeps (w + length (writtenOf c)) g
       → mapStep f g itself (stepPlaced (numbered h w c) u) ≡ stepPlaced (numbered h w c) u
   step-fixed f g p q =
-      sym (stepPlaced-nat f g itself (numbered h w c) u) ∙ ap₂ stepPlaced (call-fixed h w c f g p q) (k f g (λ n l. p n (omega arith)) (λ n l. q n (omega arith)))
+      sym (stepPlaced-nat f g itself (numbered h w c) u)
+      ∙ ap₂ stepPlaced (call-fixed h w c f g p q) (k f g (λ n l. p n (omega arith)) (λ n l. q n (omega arith)))
 
   state-fixed : Fixed (h + length (hostOf c)) (w + length (writtenOf c)) (stepPlaced (numbered h w c) u .state)
   unfolding mapStep
@@ -123,17 +128,21 @@ module _ {H W L : Type 0} (h w : ℕ) (c : Placed H W L) (u : Uart ℕ ℕ) (k :
         sent = all-below _ _ (sym (bytesSent-nat _ _ itself _) ∙ ap (λ s. bytesSent (s .answer .reply)) fixed);
       }
     where
-      fixed : mapStep (shifted (h + length (hostOf c))) (shifted (w + length (writtenOf c))) itself (stepPlaced (numbered h w c) u) ≡ stepPlaced (numbered h w c) u
+      fixed : mapStep (shifted (h + length (hostOf c))) (shifted (w + length (writtenOf c))) itself (stepPlaced (numbered h w c) u)
+          ≡ stepPlaced (numbered h w c) u
       fixed = step-fixed _ _ (shifted-keeps _) (shifted-keeps _)
 
 module _ (fifo : ℕ) (others : List ℕ) where
-  pub run-below : (h w : ℕ) (cs : List Request) (u : Uart ℕ ℕ) → Fixed h w u → EachBelow fifo h w cs (runBy stepPlaced (number h w (map (placed (fifo ∷ others)) cs)) u)
+  pub run-below : (h w : ℕ) (cs : List Request) (u : Uart ℕ ℕ) → Fixed h w u
+      → EachBelow fifo h w cs (runBy stepPlaced (number h w (map (placed (fifo ∷ others)) cs)) u)
   unfolding runBy number
   run-below h w [] u k = EachBelow.nil
   run-below h w (c ∷ cs) u k =
       EachBelow.cons
-      (subst₂ (λ i j. Below (h + length i) (w + length j) (next .answer)) (host-of-placed (fifo ∷ others) c) (written-of-placed fifo others c) (answer-below h w pc u k))
-      (subst₂ (λ i j. EachBelow fifo (h + length i) (w + length j) cs further) (host-of-placed (fifo ∷ others) c) (written-of-placed fifo others c)
+      (subst₂ (λ i j. Below (h + length i) (w + length j) (next .answer)) (host-of-placed (fifo ∷ others) c)
+      (written-of-placed fifo others c) (answer-below h w pc u k))
+      (subst₂ (λ i j. EachBelow fifo (h + length i) (w + length j) cs further) (host-of-placed (fifo ∷ others) c)
+      (written-of-placed fifo others c)
       (run-below (h + length (hostOf pc)) (w + length (writtenOf pc)) cs (next .state) (state-fixed h w pc u k)))
     where
       pc : Placed ℕ ℕ ℕ
@@ -143,7 +152,8 @@ module _ (fifo : ℕ) (others : List ℕ) where
       next = stepPlaced (numbered h w pc) u
 
       further : List Bare
-      further = runBy stepPlaced (number (h + length (hostOf pc)) (w + length (writtenOf pc)) (map (placed (fifo ∷ others)) cs)) (next .state)
+      further =
+          runBy stepPlaced (number (h + length (hostOf pc)) (w + length (writtenOf pc)) (map (placed (fifo ∷ others)) cs)) (next .state)
 
 -- ---- on a first part of the list
 
@@ -160,5 +170,10 @@ pub first-below : (fifo h w : ℕ) (front back : List Request) {t : List Bare} �
 unfolding flatMap
 first-below fifo h w [] back bs = All.nil
 first-below fifo h w (c ∷ front) back (EachBelow.cons {t = t} b bs) =
-    rw (length-append (hostOf c) (hostGiven front), length-append (fifoBytesOf fifo c) (fifoWritten fifo front), ← add-assoc h _ _, ← add-assoc w _ _)
+    rw (
+      length-append (hostOf c) (hostGiven front),
+      length-append (fifoBytesOf fifo c) (fifoWritten fifo front),
+      ← add-assoc h _ _,
+      ← add-assoc w _ _,
+    )
     (All.cons (below-weaken (omega arith) (omega arith) b) (first-below fifo _ _ front back bs))

@@ -18,19 +18,22 @@ SameMap u v = v .map ≡ u .map
 
 map-walk : (now : ℕ) → Walk now SameMap
 unfolding levels
-map-walk now = record { on = λ u v w a b. b ∙ a; alike = λ u v e. ap (λ x. x .3) e; settling = λ date h u. settleTo-map date u; raising = λ u. refl }
+map-walk now =
+    record { on = λ u v w a b. b ∙ a; alike = λ u v e. ap (λ x. x .3) e; settling = λ date h u. settleTo-map date u; raising = λ u. refl }
 
 -- every call keeps the register map
 pub step-kept : (c : Request) (u : Uart ℕ ℕ) → step c u .state .map ≡ u .map
 unfolding clearing cleared
 step-kept c u = every-call c u SameMap (map-walk (nowOf c)) (λ _ v s. refl) (λ _ s. refl)
 
-run-placed-by : (m : RegisterMap) (cs : List Request) (u : Uart ℕ ℕ) → u .map ≡ m → run cs u ≡ runBy stepPlaced (map (placed (m .offsets)) cs) u
+run-placed-by : (m : RegisterMap) (cs : List Request) (u : Uart ℕ ℕ) → u .map ≡ m
+    → run cs u ≡ runBy stepPlaced (map (placed (m .offsets)) cs) u
 unfolding run runBy
 run-placed-by m [] u k = refl
 run-placed-by m (c ∷ cs) u k =
     let same : step c u ≡ stepPlaced (placed (m .offsets) c) u = step-placed c u ∙ ap (λ n. stepPlaced (placed (n .offsets) c) u) k in
-    ap₂ (λ s r. s .answer ∷ r) same (run-placed-by m cs (step c u .state) (step-kept c u ∙ k) ∙ ap (λ s. runBy stepPlaced (map (placed (m .offsets)) cs) (s .state)) same)
+    ap₂ (λ s r. s .answer ∷ r) same (run-placed-by m cs (step c u .state) (step-kept c u ∙ k)
+    ∙ ap (λ s. runBy stepPlaced (map (placed (m .offsets)) cs) (s .state)) same)
 
 -- so the map of the first state places a whole list of calls
 pub run-placed : (cs : List Request) (u : Uart ℕ ℕ) → run cs u ≡ runBy stepPlaced (map (placed (u .map .offsets)) cs) u

@@ -9,7 +9,9 @@ use lib.ListN.{take, drop, length-map}
 use Rattle.model.specs.Numbers.{choose}
 use Rattle.model.specs.State.{Sent, Run, OnTheLine, Uart, lineOf, withLineOf, mapSent, mapOnTheLine, mapReceiving, mapUart}
 use Rattle.model.specs.Line.{frame}
-use Rattle.model.specs.Settle.{gone, leave, depart, Pass, received, nothingDue, timedOut, landed, inFrame, begun, beforeStart, idle, lineFree, passOn, pass, Settled, goesOn, onTheLine, counted, passesFrom, pending, begin, passes, levels, leveled, settingsOf, settleTo, settle}
+use Rattle.model.specs.Settle.{gone, leave, depart, Pass, received, nothingDue, timedOut, landed, inFrame, begun, beforeStart, idle}
+use Rattle.model.specs.Settle.{lineFree, passOn, pass, Settled, goesOn, onTheLine, counted, passesFrom, pending, begin, passes}
+use Rattle.model.specs.Settle.{levels, leveled, settingsOf, settleTo, settle}
 use Rattle.model.specs.Arm.{nthGone, firstGone, lastGone, belowThresholdAt, nextStart, landingOf, nextLanding, instants, arm}
 use Rattle.model.specs.declared.Fate.{Fate}
 use Rattle.model.specs.declared.Fate.the-variants.{Stored, Overflowed, Cleared, ClockOff, Unheard}
@@ -89,16 +91,20 @@ module _ {H H′ W W′ : Type 0} (f : H → H′) (g : W → W′) where
     unfolding landed mapPass mapReceiving
     landed-nat k l u = rw (received-nat f k (l .byte) (u .rx))
 
-    inFrame-nat : (date : ℕ) (l : OnTheLine H) (u : Uart H W) → inFrame s date (mapOnTheLine f l) (mapUart f g u) ≡ mapPass f g (inFrame s date l u)
+    inFrame-nat : (date : ℕ) (l : OnTheLine H) (u : Uart H W)
+        → inFrame s date (mapOnTheLine f l) (mapUart f g u) ≡ mapPass f g (inFrame s date l u)
     unfolding inFrame
     inFrame-nat date l u =
-        rw (length-map (u .rx) f) (choose-nat (mapPass f g) _ (timedOut-nat u) (choose-nat (mapPass f g) _ (nothingDue-nat u) (landed-nat _ l u)))
+        rw (length-map (u .rx) f) (choose-nat (mapPass f g) _ (timedOut-nat u)
+        (choose-nat (mapPass f g) _ (nothingDue-nat u) (landed-nat _ l u)))
 
-    begun-nat : (at : ℕ) (b : H) (bs : List H) (u : Uart H W) → begun s at (f b) (map f bs) (mapUart f g u) ≡ mapUart f g (begun s at b bs u)
+    begun-nat : (at : ℕ) (b : H) (bs : List H) (u : Uart H W)
+        → begun s at (f b) (map f bs) (mapUart f g u) ≡ mapUart f g (begun s at b bs u)
     unfolding begun mapReceiving
     begun-nat at b bs u = refl
 
-    beforeStart-nat : (date at : ℕ) (b : H) (bs : List H) (u : Uart H W) → beforeStart s date at (f b) (map f bs) (mapUart f g u) ≡ mapPass f g (beforeStart s date at b bs u)
+    beforeStart-nat : (date at : ℕ) (b : H) (bs : List H) (u : Uart H W)
+        → beforeStart s date at (f b) (map f bs) (mapUart f g u) ≡ mapPass f g (beforeStart s date at b bs u)
     unfolding beforeStart
     beforeStart-nat date at b bs u =
         choose-nat (mapPass f g) _ (timedOut-nat u) (choose-nat (mapPass f g) _ (nothingDue-nat u)
@@ -108,13 +114,15 @@ module _ {H H′ W W′ : Type 0} (f : H → H′) (g : W → W′) where
     unfolding idle
     idle-nat date u = choose-nat (mapPass f g) _ (timedOut-nat u) (nothingDue-nat u)
 
-    lineFree-nat : (date : ℕ) (rs : List Run) (bs : List H) (u : Uart H W) → lineFree s date rs (map f bs) (mapUart f g u) ≡ mapPass f g (lineFree s date rs bs u)
+    lineFree-nat : (date : ℕ) (rs : List Run) (bs : List H) (u : Uart H W)
+        → lineFree s date rs (map f bs) (mapUart f g u) ≡ mapPass f g (lineFree s date rs bs u)
     unfolding lineFree
     lineFree-nat date [] bs u = idle-nat date u
     lineFree-nat date (r ∷ rs) [] u = idle-nat date u
     lineFree-nat date (r ∷ rs) (b ∷ bs) u = beforeStart-nat date _ b bs u
 
-    passOn-nat : (date : ℕ) (l : Option (OnTheLine H)) (u : Uart H W) → passOn s date (mapReceiving f l) (mapUart f g u) ≡ mapPass f g (passOn s date l u)
+    passOn-nat : (date : ℕ) (l : Option (OnTheLine H)) (u : Uart H W)
+        → passOn s date (mapReceiving f l) (mapUart f g u) ≡ mapPass f g (passOn s date l u)
     unfolding passOn mapReceiving
     passOn-nat date none u = lineFree-nat date (u .hostRuns) (u .host) u
     passOn-nat date (some l) u = inFrame-nat date l u
@@ -133,13 +141,15 @@ module _ {H H′ W W′ : Type 0} (f : H → H′) (g : W → W′) where
     unfolding mapPass
     found-nat date u = ap (λ p. p .found) (pass-nat date u)
 
-    passesFrom-nat : (date k : ℕ) (more : Bool) (t : Settled H W) → passesFrom s date k more (mapSettled f g t) ≡ mapSettled f g (passesFrom s date k more t)
+    passesFrom-nat : (date k : ℕ) (more : Bool) (t : Settled H W)
+        → passesFrom s date k more (mapSettled f g t) ≡ mapSettled f g (passesFrom s date k more t)
     unfolding passesFrom mapSettled
     passesFrom-nat date zero false t = refl
     passesFrom-nat date zero true t = refl
     passesFrom-nat date (suc k) false t = refl
     passesFrom-nat date (suc k) true t =
-        ap₂ (λ m r. passesFrom s date k m r) (ap goesOn (found-nat date (t .state))) (ap (counted (mapSettled f g t)) (pass-nat date (t .state)) ∙ counted-nat t _)
+        ap₂ (λ m r. passesFrom s date k m r) (ap goesOn (found-nat date (t .state)))
+        (ap (counted (mapSettled f g t)) (pass-nat date (t .state)) ∙ counted-nat t _)
         ∙ passesFrom-nat date k _ (counted t (pass s date (t .state)))
 
   pub pending-nat : (u : Uart H W) → pending (mapUart f g u) ≡ pending u
@@ -148,7 +158,8 @@ module _ {H H′ W W′ : Type 0} (f : H → H′) (g : W → W′) where
 
   passes-nat : (s : Settings) (date : ℕ) (u : Uart H W) → passes s date (mapUart f g u) ≡ mapSettled f g (passes s date u)
   unfolding passes begin mapSettled
-  passes-nat s date u = ap (λ n. passesFrom s date (2 * n + 2) true (begin (mapUart f g u))) (pending-nat u) ∙ passesFrom-nat s date _ true (begin u)
+  passes-nat s date u =
+      ap (λ n. passesFrom s date (2 * n + 2) true (begin (mapUart f g u))) (pending-nat u) ∙ passesFrom-nat s date _ true (begin u)
 
   -- ---- levels and the interrupt
 
@@ -170,7 +181,8 @@ module _ {H H′ W W′ : Type 0} (f : H → H′) (g : W → W′) where
 
   -- ---- arming
 
-  landingOf-nat : (time : ℕ) (l : Option (OnTheLine H)) (u : Uart H W) → landingOf time (mapReceiving f l) (mapUart f g u) ≡ landingOf time l u
+  landingOf-nat : (time : ℕ) (l : Option (OnTheLine H)) (u : Uart H W)
+      → landingOf time (mapReceiving f l) (mapUart f g u) ≡ landingOf time l u
   unfolding landingOf mapReceiving
   landingOf-nat time none u = rw (nextStart-nat f (lineOf u .«line_free_at») (u .hostRuns) (u .host))
   landingOf-nat time (some l) u = refl

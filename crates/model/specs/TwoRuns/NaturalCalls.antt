@@ -10,16 +10,21 @@ use Rattle.model.specs.State.{Uart, withHost, mapSent, mapUart}
 use Rattle.model.specs.Settle.{Settled, settle, levels}
 use Rattle.model.specs.Arm.{arm}
 use Rattle.model.specs.Replies.{ReadOf, word, byte, report}
-use Rattle.model.specs.Registers.{Access, loaded, pop, gives, readPlace, readLooking, readAt, goneAt, sent, dropped, sendByte, resetFifos, storing, clearing, writePlace, concluded}
+use Rattle.model.specs.Registers.{Access, loaded, pop, gives, readPlace, readLooking, readAt, goneAt, sent, dropped, sendByte}
+use Rattle.model.specs.Registers.{resetFifos, storing, clearing, writePlace, concluded}
 use Rattle.model.specs.Calls
-use Rattle.model.specs.Calls.{Outcome, refusing, unless, unsettled, afterSettling, undated, filled, notTaken, dated, settleAt, quiet, readWork, readPlaced, writeWork, writePlaced, sendWork, send, joined, handOver, receiveWork, wakeWork, watchWork, powerDownWork, added, clocked, reclocked, clockWork, cleared, resetWork, written, takeTxWork, takeWrittenWork}
+use Rattle.model.specs.Calls.{Outcome, refusing, unless, unsettled, afterSettling, undated, filled, notTaken, dated, settleAt, quiet}
+use Rattle.model.specs.Calls.{readWork, readPlaced, writeWork, writePlaced, sendWork, send, joined, handOver, receiveWork, wakeWork}
+use Rattle.model.specs.Calls.{watchWork, powerDownWork, added, clocked, reclocked, clockWork, cleared, resetWork, written, takeTxWork}
+use Rattle.model.specs.Calls.{takeWrittenWork}
 use Rattle.model.specs.Call.{Call, Reply}
 use Rattle.model.specs.Run.{Step, answering, stepBy, runBy}
 use Rattle.model.specs.TwoRuns.Natural.{mapSettled, bytes-nat, lastGone-nat, pending-nat, levels-nat, settle-nat, arm-nat}
 use Rattle.model.specs.TwoRuns.Placed.{Put, Placed, changed, putting, stepPlaced}
 use Rattle.model.specs.TwoRuns.Alike.{mapReadOf, mapTake, mapReply, mapAnswer, itself}
 use Rattle.model.specs.declared.Place.{Place}
-use Rattle.model.specs.declared.Place.the-variants.{Fifo, IntRaw, IntSt, IntEna, IntClr, Clkdiv, Status, FsmStatus, Conf0, Conf1, ClkConf, IdleConf, Rs485Conf, AtCmdChar, MemConf, MemRxStatus, Unknown}
+use Rattle.model.specs.declared.Place.the-variants.{Fifo, IntRaw, IntSt, IntEna, IntClr, Clkdiv, Status, FsmStatus, Conf0, Conf1}
+use Rattle.model.specs.declared.Place.the-variants.{ClkConf, IdleConf, Rs485Conf, AtCmdChar, MemConf, MemRxStatus, Unknown}
 use Rattle.model.specs.declared.Refusal.{Refusal}
 use Rattle.model.specs.declared.Unsupported.{Unsupported}
 use Rattle.model.specs.declared.Write.{Write}
@@ -44,27 +49,35 @@ module _ {R R′ H H′ W W′ : Type 0} (m : R → R′) (f : H → H′) (g : 
   unfoldable mapOutcome : Outcome R H W → Outcome R′ H′ W′
   mapOutcome o = record { reply = m (o .reply); report = o .report; state = mapUart f g (o .state) }
 
-  unless-nat : (o : Option Refusal) (reply : Refusal → R) (reply′ : Refusal → R′) (work : Uart H W → Outcome R H W) (work′ : Uart H′ W′ → Outcome R′ H′ W′) (u : Uart H W)
-      → ((r : Refusal) → reply′ r ≡ m (reply r)) → work′ (mapUart f g u) ≡ mapOutcome (work u) → unless o reply′ work′ (mapUart f g u) ≡ mapOutcome (unless o reply work u)
+  unless-nat : (o : Option Refusal) (reply : Refusal → R) (reply′ : Refusal → R′) (work : Uart H W → Outcome R H W)
+      (work′ : Uart H′ W′ → Outcome R′ H′ W′) (u : Uart H W)
+      → ((r : Refusal) → reply′ r ≡ m (reply r)) → work′ (mapUart f g u) ≡ mapOutcome (work u)
+      → unless o reply′ work′ (mapUart f g u) ≡ mapOutcome (unless o reply work u)
   unfolding unless refusing mapOutcome
   unless-nat none reply reply′ work work′ u p q = q
   unless-nat (some r) reply reply′ work work′ u p q = ap (λ x. refusing x (mapUart f g u)) (p r)
 
   after-nat : (t : Settled H W) (work : Uart H W → Access R H W) (work′ : Uart H′ W′ → Access R′ H′ W′)
-      → ((v : Uart H W) → work′ (mapUart f g v) ≡ mapAccess (work v)) → afterSettling (mapSettled f g t) work′ ≡ mapOutcome (afterSettling t work)
+      → ((v : Uart H W) → work′ (mapUart f g v) ≡ mapAccess (work v))
+      → afterSettling (mapSettled f g t) work′ ≡ mapOutcome (afterSettling t work)
   unfolding afterSettling mapSettled mapAccess mapOutcome report
-  after-nat t work work′ p = ap (λ a. record { reply = a .reply; report = report (t .passes) (t .overflows) (a .notes) (a .state); state = a .state }) (p (t .state))
+  after-nat t work work′ p =
+      ap (λ a. record { reply = a .reply; report = report (t .passes) (t .overflows) (a .notes) (a .state); state = a .state })
+      (p (t .state))
 
   -- settled, and then the work
   settled-nat : (now : ℕ) (u : Uart H W) (work : Uart H W → Access R H W) (work′ : Uart H′ W′ → Access R′ H′ W′)
-      → ((v : Uart H W) → work′ (mapUart f g v) ≡ mapAccess (work v)) → afterSettling (settle now (mapUart f g u)) work′ ≡ mapOutcome (afterSettling (settle now u) work)
+      → ((v : Uart H W) → work′ (mapUart f g v) ≡ mapAccess (work v))
+      → afterSettling (settle now (mapUart f g u)) work′ ≡ mapOutcome (afterSettling (settle now u) work)
   settled-nat now u work work′ p = ap (λ t. afterSettling t work′) (settle-nat f g now u) ∙ after-nat (settle now u) work work′ p
 
-  undated-nat : (r : R) (u : Uart H W) {r′ : R′} {u′ : Uart H′ W′} → r′ ≡ m r → u′ ≡ mapUart f g u → undated r′ u′ ≡ mapOutcome (undated r u)
+  undated-nat : (r : R) (u : Uart H W) {r′ : R′} {u′ : Uart H′ W′} → r′ ≡ m r → u′ ≡ mapUart f g u
+      → undated r′ u′ ≡ mapOutcome (undated r u)
   unfolding undated mapOutcome
   undated-nat r u p q = ap₂ undated p q
 
-  unsettled-nat : (r : R) (u : Uart H W) {r′ : R′} {u′ : Uart H′ W′} → r′ ≡ m r → u′ ≡ mapUart f g u → unsettled r′ u′ ≡ mapOutcome (unsettled r u)
+  unsettled-nat : (r : R) (u : Uart H W) {r′ : R′} {u′ : Uart H′ W′} → r′ ≡ m r → u′ ≡ mapUart f g u
+      → unsettled r′ u′ ≡ mapOutcome (unsettled r u)
   unfolding unsettled mapOutcome report
   unsettled-nat r u p q = ap₂ unsettled p q
 
@@ -74,17 +87,21 @@ module _ {R R′ H H′ W W′ : Type 0} (m : R → R′) (f : H → H′) (g : 
 
   concluded-nat : (a : Access R H W) → concluded (mapAccess a) ≡ mapAccess (concluded a)
   unfolding concluded mapAccess
-  concluded-nat a = ap (λ v. record { reply = m (a .reply); notes = a .notes; state = v }) (ap arm (levels-nat f g (a .state)) ∙ arm-nat f g (levels (a .state)))
+  concluded-nat a =
+      ap (λ v. record { reply = m (a .reply); notes = a .notes; state = v })
+      (ap arm (levels-nat f g (a .state)) ∙ arm-nat f g (levels (a .state)))
 
 module _ {H H′ W W′ : Type 0} (f : H → H′) (g : W → W′) where
   -- ---- register access
 
-  pop-nat : (ns : List Unsupported) (bs : List H) (u : Uart H W) → pop ns (map f bs) (mapUart f g u) ≡ mapAccess (mapReadOf f) f g (pop ns bs u)
+  pop-nat : (ns : List Unsupported) (bs : List H) (u : Uart H W)
+      → pop ns (map f bs) (mapUart f g u) ≡ mapAccess (mapReadOf f) f g (pop ns bs u)
   unfolding pop mapAccess mapReadOf
   pop-nat ns [] u = refl
   pop-nat ns (b ∷ bs) u = refl
 
-  readPlace-nat : (ns : List Unsupported) (p : Place) (u : Uart H W) → readPlace ns p (mapUart f g u) ≡ mapAccess (mapReadOf f) f g (readPlace ns p u)
+  readPlace-nat : (ns : List Unsupported) (p : Place) (u : Uart H W)
+      → readPlace ns p (mapUart f g u) ≡ mapAccess (mapReadOf f) f g (readPlace ns p u)
   unfolding readPlace gives loaded mapAccess mapReadOf
   readPlace-nat ns Fifo u = pop-nat ns (u .rx) u
   readPlace-nat ns IntRaw u = refl
@@ -104,14 +121,17 @@ module _ {H H′ W W′ : Type 0} (f : H → H′) (g : W → W′) where
   readPlace-nat ns MemRxStatus u = refl
   readPlace-nat ns Unknown u = refl
 
-  readLooking-nat : (b : Bool) (p : Place) (u : Uart H W) → readLooking b p (mapUart f g u) ≡ mapAccess (mapReadOf f) f g (readLooking b p u)
+  readLooking-nat : (b : Bool) (p : Place) (u : Uart H W)
+      → readLooking b p (mapUart f g u) ≡ mapAccess (mapReadOf f) f g (readLooking b p u)
   unfolding readLooking
   readLooking-nat true p u = readPlace-nat _ p _
   readLooking-nat false p u = readPlace-nat _ p u
 
-  readPlaced-nat : (now : ℕ) (p : Place) (u : Uart H W) → readPlaced now p (mapUart f g u) ≡ mapOutcome (mapReadOf f) f g (readPlaced now p u)
+  readPlaced-nat : (now : ℕ) (p : Place) (u : Uart H W)
+      → readPlaced now p (mapUart f g u) ≡ mapOutcome (mapReadOf f) f g (readPlaced now p u)
   unfolding readPlaced readWork readAt settleAt dated mapReadOf
-  readPlaced-nat now p u = unless-nat (mapReadOf f) f g _ _ _ _ _ u (λ r. refl) (settled-nat (mapReadOf f) f g now _ _ _ (λ v. readLooking-nat _ p v))
+  readPlaced-nat now p u =
+      unless-nat (mapReadOf f) f g _ _ _ _ _ u (λ r. refl) (settled-nat (mapReadOf f) f g now _ _ _ (λ v. readLooking-nat _ p v))
 
   storing-nat : (p : Place) (v : ℕ) (u : Uart H W) → storing p v (mapUart f g u) ≡ mapAccess itself f g (storing p v u)
   unfolding storing mapAccess
@@ -149,7 +169,8 @@ module _ {H H′ W W′ : Type 0} (f : H → H′) (g : W → W′) where
 
   sent-nat : (now : ℕ) (b : W) (u : Uart H W) → sent now (g b) (mapUart f g u) ≡ mapAccess itself f g (sent now b u)
   unfolding sent goneAt mapAccess
-  sent-nat now b u = rw (lastGone-nat g (u .inFlight), map-append (mapSent g) (u .inFlight) (record { goneAt = goneAt now u; byte = b } ∷ []))
+  sent-nat now b u =
+      rw (lastGone-nat g (u .inFlight), map-append (mapSent g) (u .inFlight) (record { goneAt = goneAt now u; byte = b } ∷ []))
 
   dropped-nat : (u : Uart H W) → dropped (mapUart f g u) ≡ mapAccess itself f g (dropped u)
   unfolding dropped mapAccess
@@ -163,9 +184,11 @@ module _ {H H′ W W′ : Type 0} (f : H → H′) (g : W → W′) where
   unfolding putting mapPut send sendWork writePlaced writeWork settleAt dated
   putting-nat now (Put.byte b) u =
       rw (length-map (u .tx) g, length-map (u .inFlight) (mapSent g))
-      (unless-nat itself f g _ _ _ _ _ u (λ r. refl) (settled-nat itself f g now _ _ _ (λ v. ap concluded (sendByte-nat now b v) ∙ concluded-nat itself f g _)))
+      (unless-nat itself f g _ _ _ _ _ u (λ r. refl)
+      (settled-nat itself f g now _ _ _ (λ v. ap concluded (sendByte-nat now b v) ∙ concluded-nat itself f g _)))
   putting-nat now (Put.word p x) u =
-      unless-nat itself f g _ _ _ _ _ u (λ r. refl) (settled-nat itself f g now _ _ _ (λ v. ap concluded (writePlace-nat p x v) ∙ concluded-nat itself f g _))
+      unless-nat itself f g _ _ _ _ _ u (λ r. refl)
+      (settled-nat itself f g now _ _ _ (λ v. ap concluded (writePlace-nat p x v) ∙ concluded-nat itself f g _))
 
   -- ---- the host
 
@@ -173,13 +196,16 @@ module _ {H H′ W W′ : Type 0} (f : H → H′) (g : W → W′) where
   unfolding handOver
   handOver-nat date [] u = refl
   handOver-nat date (b ∷ bs) u =
-      rw (length-map bs f, ← map-append f (u .host) (b ∷ bs)) (arm-nat f g (withHost (u .host ++ (b ∷ bs)) (joined date (length (b ∷ bs)) (u .hostRuns)) u))
+      rw (length-map bs f, ← map-append f (u .host) (b ∷ bs))
+      (arm-nat f g (withHost (u .host ++ (b ∷ bs)) (joined date (length (b ∷ bs)) (u .hostRuns)) u))
 
-  receive-nat : (now at : ℕ) (bs : List H) (u : Uart H W) → Calls.receive now at (map f bs) (mapUart f g u) ≡ mapOutcome itself f g (Calls.receive now at bs u)
+  receive-nat : (now at : ℕ) (bs : List H) (u : Uart H W)
+      → Calls.receive now at (map f bs) (mapUart f g u) ≡ mapOutcome itself f g (Calls.receive now at bs u)
   unfolding Calls.receive receiveWork settleAt dated
   receive-nat now at bs u =
       rw (length-map (u .host) f, length-map bs f)
-      (unless-nat itself f g _ _ _ _ _ u (λ r. refl) (settled-nat itself f g now _ _ _ (λ v. quiet-nat itself f g Done.Done _ refl (handOver-nat _ bs v))))
+      (unless-nat itself f g _ _ _ _ _ u (λ r. refl)
+      (settled-nat itself f g now _ _ _ (λ v. quiet-nat itself f g Done.Done _ refl (handOver-nat _ bs v))))
 
   hostPending-nat : (u : Uart H W) → Calls.hostPending (mapUart f g u) ≡ mapOutcome itself f g (Calls.hostPending u)
   unfolding Calls.hostPending
@@ -213,9 +239,11 @@ module _ {H H′ W W′ : Type 0} (f : H → H′) (g : W → W′) where
   reclocked-nat : (now period : ℕ) (t : Settled H W) → reclocked now period (mapSettled f g t) ≡ mapSettled f g (reclocked now period t)
   unfolding reclocked
   reclocked-nat now period t =
-      ap (λ v. added (mapSettled f g t) (settle now v)) (clocked-nat period t) ∙ ap (added (mapSettled f g t)) (settle-nat f g now (clocked period (t .state))) ∙ added-nat t _
+      ap (λ v. added (mapSettled f g t) (settle now v)) (clocked-nat period t)
+      ∙ ap (added (mapSettled f g t)) (settle-nat f g now (clocked period (t .state))) ∙ added-nat t _
 
-  clockChange-nat : (now period : ℕ) (u : Uart H W) → Calls.clockChange now period (mapUart f g u) ≡ mapOutcome itself f g (Calls.clockChange now period u)
+  clockChange-nat : (now period : ℕ) (u : Uart H W)
+      → Calls.clockChange now period (mapUart f g u) ≡ mapOutcome itself f g (Calls.clockChange now period u)
   unfolding Calls.clockChange clockWork settleAt dated
   clockChange-nat now period u =
       unless-nat itself f g _ _ _ _ _ u (λ r. refl)
@@ -227,7 +255,8 @@ module _ {H H′ W W′ : Type 0} (f : H → H′) (g : W → W′) where
   unfolding Calls.reset resetWork settleAt dated cleared
   reset-nat now u =
       unless-nat itself f g _ _ _ _ _ u (λ r. refl)
-      (settled-nat itself f g now _ _ _ (λ v. ap (λ w. quiet Done.Done (arm w)) (levels-nat f g (cleared v)) ∙ armed-nat (levels (cleared v))))
+      (settled-nat itself f g now _ _ _ (λ v. ap (λ w. quiet Done.Done (arm w)) (levels-nat f g (cleared v))
+      ∙ armed-nat (levels (cleared v))))
 
   -- ---- taking what was sent
 
@@ -248,14 +277,16 @@ module _ {H H′ W W′ : Type 0} (f : H → H′) (g : W → W′) where
     unfolding notTaken mapTake
     notTaken-nat lent r = refl
 
-    takeTx-nat : (now : ℕ) (lent : List L) (u : Uart H W) → Calls.takeTx now (map h lent) (mapUart f g u) ≡ mapOutcome (mapTake g h) f g (Calls.takeTx now lent u)
+    takeTx-nat : (now : ℕ) (lent : List L) (u : Uart H W)
+        → Calls.takeTx now (map h lent) (mapUart f g u) ≡ mapOutcome (mapTake g h) f g (Calls.takeTx now lent u)
     unfolding Calls.takeTx takeTxWork settleAt dated
     takeTx-nat now lent u =
         rw (length-map lent h)
         (unless-nat (mapTake g h) f g _ _ _ _ _ u (notTaken-nat lent)
         (settled-nat (mapTake g h) f g now _ _ _ (λ v. quiet-nat (mapTake g h) f g _ _ (filled-nat (v .tx) lent) refl)))
 
-    takeWritten-nat : (lent : List L) (u : Uart H W) → Calls.takeWritten (map h lent) (mapUart f g u) ≡ mapOutcome (mapTake g h) f g (Calls.takeWritten lent u)
+    takeWritten-nat : (lent : List L) (u : Uart H W)
+        → Calls.takeWritten (map h lent) (mapUart f g u) ≡ mapOutcome (mapTake g h) f g (Calls.takeWritten lent u)
     unfolding Calls.takeWritten takeWrittenWork
     takeWritten-nat lent u =
         rw (length-map lent h)
@@ -264,17 +295,22 @@ module _ {H H′ W W′ : Type 0} (f : H → H′) (g : W → W′) where
 
     -- ---- a call
 
-    answering-nat : {R R′ : Type 0} (m : R → R′) (k : R → Reply H W L) (k′ : R′ → Reply H′ W′ L′) (o : Outcome R H W) (o′ : Outcome R′ H′ W′)
+    answering-nat : {R R′ : Type 0} (m : R → R′) (k : R → Reply H W L) (k′ : R′ → Reply H′ W′ L′) (o : Outcome R H W)
+        (o′ : Outcome R′ H′ W′)
         → ((r : R) → k′ (m r) ≡ mapReply f g h (k r)) → o′ ≡ mapOutcome m f g o → answering k′ o′ ≡ mapStep f g h (answering k o)
     unfolding answering mapStep mapAnswer mapOutcome
-    answering-nat m k k′ o o′ p q = ap (answering k′) q ∙ ap (λ r. record { answer = record { reply = r; report = o .report }; state = mapUart f g (o .state) }) (p (o .reply))
+    answering-nat m k k′ o o′ p q =
+        ap (answering k′) q ∙ ap (λ r. record { answer = record { reply = r; report = o .report }; state = mapUart f g (o .state) })
+        (p (o .reply))
 
     -- a call is natural where its read and its write are
-    stepBy-nat : {R R′ X X′ : Type 0} (a : R → R′) (b : X → X′) (rd : ℕ → R → Uart H W → Outcome (ReadOf H) H W) (rd′ : ℕ → R′ → Uart H′ W′ → Outcome (ReadOf H′) H′ W′)
+    stepBy-nat : {R R′ X X′ : Type 0} (a : R → R′) (b : X → X′) (rd : ℕ → R → Uart H W → Outcome (ReadOf H) H W)
+        (rd′ : ℕ → R′ → Uart H′ W′ → Outcome (ReadOf H′) H′ W′)
         (wr : ℕ → X → Uart H W → Outcome Write H W) (wr′ : ℕ → X′ → Uart H′ W′ → Outcome Write H′ W′)
         → ((now : ℕ) (r : R) (u : Uart H W) → rd′ now (a r) (mapUart f g u) ≡ mapOutcome (mapReadOf f) f g (rd now r u))
         → ((now : ℕ) (x : X) (u : Uart H W) → wr′ now (b x) (mapUart f g u) ≡ mapOutcome itself f g (wr now x u))
-        → (c : Call R X H L) (u : Uart H W) → stepBy rd′ wr′ (changed a b (map f) (map h) c) (mapUart f g u) ≡ mapStep f g h (stepBy rd wr c u)
+        → (c : Call R X H L) (u : Uart H W) → stepBy rd′ wr′ (changed a b (map f) (map h) c) (mapUart f g u)
+        ≡ mapStep f g h (stepBy rd wr c u)
     unfolding stepBy changed mapReply
     stepBy-nat a b rd rd′ wr wr′ p q (Call.read now r) u = answering-nat (mapReadOf f) _ _ _ _ (λ x. refl) (p now r u)
     stepBy-nat a b rd rd′ wr wr′ p q (Call.write now x) u = answering-nat itself _ _ _ _ (λ y. refl) (q now x u)
@@ -283,7 +319,8 @@ module _ {H H′ W W′ : Type 0} (f : H → H′) (g : W → W′) where
     stepBy-nat a b rd rd′ wr wr′ p q (Call.reset now) u = answering-nat itself _ _ _ _ (λ y. refl) (reset-nat now u)
     stepBy-nat a b rd rd′ wr wr′ p q (Call.powerDown now) u = answering-nat itself _ _ _ _ (λ y. refl) (powerDown-nat now u)
     stepBy-nat a b rd rd′ wr wr′ p q (Call.watch now w) u = answering-nat itself _ _ _ _ (λ y. refl) (watch-nat now w u)
-    stepBy-nat a b rd rd′ wr wr′ p q (Call.clockChange now period) u = answering-nat itself _ _ _ _ (λ y. refl) (clockChange-nat now period u)
+    stepBy-nat a b rd rd′ wr wr′ p q (Call.clockChange now period) u =
+        answering-nat itself _ _ _ _ (λ y. refl) (clockChange-nat now period u)
     stepBy-nat a b rd rd′ wr wr′ p q (Call.takeTx now lent) u = answering-nat (mapTake g h) _ _ _ _ (λ y. refl) (takeTx-nat now lent u)
     stepBy-nat a b rd rd′ wr wr′ p q (Call.takeWritten lent) u = answering-nat (mapTake g h) _ _ _ _ (λ y. refl) (takeWritten-nat lent u)
     stepBy-nat a b rd rd′ wr wr′ p q Call.hasLeft u = answering-nat itself _ _ _ _ (λ y. refl) (hasLeft-nat u)
@@ -295,7 +332,8 @@ module _ {H H′ W W′ : Type 0} (f : H → H′) (g : W → W′) where
     stepPlaced-nat c u = stepBy-nat itself (mapPut g) _ _ _ _ readPlaced-nat putting-nat c u
 
     -- and so does a whole list of them
-    pub runPlaced-nat : (cs : List (Placed H W L)) (u : Uart H W) → runBy stepPlaced (map (mapPlaced f g h) cs) (mapUart f g u) ≡ map (mapAnswer f g h) (runBy stepPlaced cs u)
+    pub runPlaced-nat : (cs : List (Placed H W L)) (u : Uart H W)
+        → runBy stepPlaced (map (mapPlaced f g h) cs) (mapUart f g u) ≡ map (mapAnswer f g h) (runBy stepPlaced cs u)
     unfolding runBy mapStep
     runPlaced-nat [] u = refl
     runPlaced-nat (c ∷ cs) u =

@@ -14,17 +14,20 @@ use Rattle.model.specs.Registers.{placeAmong, placeOf}
 use Rattle.model.specs.Limits.{All, nil, cons}
 use Rattle.model.specs.Call.{Call, Written, Request}
 use Rattle.model.specs.TwoRuns.Placed.{Put, Placed, changed, putAt, placed}
-use Rattle.model.specs.TwoRuns.Alike.{Each, Alike, same, hostBytes, fifoWord, lentToTakeTx, lentToTakeWritten, hostOf, writesOf, fifoByte, hostGiven, fifoWritten, itself, forget}
+use Rattle.model.specs.TwoRuns.Alike.{Each, Alike, same, hostBytes, fifoWord, lentToTakeTx, lentToTakeWritten, hostOf, writesOf}
+use Rattle.model.specs.TwoRuns.Alike.{fifoByte, hostGiven, fifoWritten, itself, forget}
 use Rattle.model.specs.TwoRuns.NaturalCalls.{mapPut, mapPlaced}
 use Rattle.model.specs.declared.Place.{Place}
-use Rattle.model.specs.declared.Place.the-variants.{Fifo, IntRaw, IntSt, IntEna, IntClr, Clkdiv, Status, FsmStatus, Conf0, Conf1, ClkConf, IdleConf, Rs485Conf, AtCmdChar, MemConf, MemRxStatus, Unknown}
+use Rattle.model.specs.declared.Place.the-variants.{Fifo, IntRaw, IntSt, IntEna, IntClr, Clkdiv, Status, FsmStatus, Conf0, Conf1}
+use Rattle.model.specs.declared.Place.the-variants.{ClkConf, IdleConf, Rs485Conf, AtCmdChar, MemConf, MemRxStatus, Unknown}
 
 -- ---- laws of a call with other parts
 
 module _ {R X X′ X″ H H′ H″ L L′ L″ : Type 0} (x : X → X′) (h : List H → List H′) (l : List L → List L′)
     (x′ : X′ → X″) (h′ : List H′ → List H″) (l′ : List L′ → List L″) (x″ : X → X″) (h″ : List H → List H″) (l″ : List L → List L″) where
   -- two changes are one where they are on what the call writes, gives and lends
-  pub changed-twice : (c : Call R X H L) → ((a : X) → writesOf c ≡ a ∷ [] → x′ (x a) ≡ x″ a) → h′ (h (hostOf c)) ≡ h″ (hostOf c) → ((bs : List L) → l′ (l bs) ≡ l″ bs)
+  pub changed-twice : (c : Call R X H L) → ((a : X) → writesOf c ≡ a ∷ [] → x′ (x a) ≡ x″ a) → h′ (h (hostOf c)) ≡ h″ (hostOf c)
+      → ((bs : List L) → l′ (l bs) ≡ l″ bs)
       → changed itself x′ h′ l′ (changed itself x h l c) ≡ changed itself x″ h″ l″ c
   unfolding changed writesOf hostOf
   changed-twice (Call.read now a) p q s = refl
@@ -74,7 +77,9 @@ module _ {R R′ X X′ H L : Type 0} (r : R → R′) (x : X → X′) where
 -- ---- the places other than FIFO
 
 abbrev pub otherPlaces : List Place
-otherPlaces = IntRaw ∷ IntSt ∷ IntEna ∷ IntClr ∷ Clkdiv ∷ Status ∷ FsmStatus ∷ Conf0 ∷ Conf1 ∷ ClkConf ∷ IdleConf ∷ Rs485Conf ∷ AtCmdChar ∷ MemConf ∷ MemRxStatus ∷ []
+otherPlaces =
+    IntRaw ∷ IntSt ∷ IntEna ∷ IntClr ∷ Clkdiv ∷ Status ∷ FsmStatus ∷ Conf0 ∷ Conf1 ∷ ClkConf ∷ IdleConf ∷ Rs485Conf ∷ AtCmdChar ∷ MemConf
+    ∷ MemRxStatus ∷ []
 
 module _ (fifo : ℕ) (others : List ℕ) where
   -- what holds of every other place holds where the offset is not FIFO's
@@ -120,7 +125,8 @@ number h w (c ∷ cs) = numbered h w c ∷ number (h + length (hostOf c)) (w + l
 
 -- ---- the bytes of a caller's list are those of the placed one
 
-flatMap-map : {A B C : Type 0} (k : B → List C) (x : A → B) (k′ : A → List C) → ((a : A) → k (x a) ≡ k′ a) → (l : List A) → flatMap k (map x l) ≡ flatMap k′ l
+flatMap-map : {A B C : Type 0} (k : B → List C) (x : A → B) (k′ : A → List C) → ((a : A) → k (x a) ≡ k′ a) → (l : List A)
+    → flatMap k (map x l) ≡ flatMap k′ l
 unfolding flatMap
 flatMap-map k x k′ p [] = refl
 flatMap-map k x k′ p (a ∷ l) = ap₂ _++_ (p a) (flatMap-map k x k′ p l)
@@ -137,11 +143,14 @@ module _ (fifo : ℕ) (others : List ℕ) where
   unfolding fifoByte choose putOf putAt
   put-placed x = go (eqb (x .offset) fifo) refl
     where
-      go : (b : Bool) → eqb (x .offset) fifo ≡ b → putOf (putAt (placeOf (fifo ∷ others) (x .offset)) (x .value)) ≡ choose b (x .value % 256 ∷ []) []
+      go : (b : Bool) → eqb (x .offset) fifo ≡ b → putOf (putAt (placeOf (fifo ∷ others) (x .offset)) (x .value))
+          ≡ choose b (x .value % 256 ∷ []) []
       go true e = ap (λ p. putOf (putAt p (x .value))) (fifo-place fifo others (x .offset) e)
       go false e =
           other-place fifo others (λ p. putOf (putAt p (x .value)) ≡ []) refl
-          (cons refl (cons refl (cons refl (cons refl (cons refl (cons refl (cons refl (cons refl (cons refl (cons refl (cons refl (cons refl (cons refl (cons refl (cons refl nil)))))))))))))))
+          (cons refl (cons refl (cons refl (cons refl
+          (cons refl (cons refl (cons refl (cons refl
+          (cons refl (cons refl (cons refl (cons refl (cons refl (cons refl (cons refl nil)))))))))))))))
           (x .offset) e
 
   pub written-of-placed : (c : Request) → writtenOf (placed (fifo ∷ others) c) ≡ flatMap (fifoByte fifo) (writesOf c)
@@ -160,12 +169,14 @@ module _ {A : Type 0} (d : A) (all : List A) where
   upFrom-back : (n : ℕ) (bs rest : List A) → drop n all ≡ bs ++ rest → map (λ k. getD all k d) (upFrom n (length bs)) ≡ bs
   unfolding upFrom
   upFrom-back n [] rest e = refl
-  upFrom-back n (b ∷ bs) rest e = ap₂ (λ x t. x ∷ t) (head-back n b (bs ++ rest) e) (upFrom-back (n + 1) bs rest (sym (drop-drop 1 n all) ∙ ap (drop 1) e))
+  upFrom-back n (b ∷ bs) rest e =
+      ap₂ (λ x t. x ∷ t) (head-back n b (bs ++ rest) e) (upFrom-back (n + 1) bs rest (sym (drop-drop 1 n all) ∙ ap (drop 1) e))
 
   past : (n : ℕ) (bs rest : List A) → drop n all ≡ bs ++ rest → drop (n + length bs) all ≡ rest
   past n bs rest e = sym (drop-drop (length bs) n all) ∙ ap (drop (length bs)) e ∙ drop-append-seam bs rest
 
-  put-back : (n : ℕ) (x : Put A) (rest : List A) → drop n all ≡ flatMap putOf (x ∷ []) ++ rest → mapPut (λ k. getD all k d) (mapPut (λ b. n) x) ≡ mapPut itself x
+  put-back : (n : ℕ) (x : Put A) (rest : List A) → drop n all ≡ flatMap putOf (x ∷ []) ++ rest
+      → mapPut (λ k. getD all k d) (mapPut (λ b. n) x) ≡ mapPut itself x
   unfolding flatMap putOf mapPut
   put-back n (Put.byte b) rest e = ap Put.byte (head-back n b rest e)
   put-back n (Put.word p v) rest e = refl
@@ -187,7 +198,8 @@ module _ {H W L : Type 0} (d : H) (e : W) (hs : List H) (ws : List W) where
   calls-back n m [] p q = refl
   calls-back n m (c ∷ cs) p q =
       ap₂ (λ x t. x ∷ t) (call-back n m c (flatMap hostOf cs) (flatMap writtenOf cs) p q)
-      (calls-back (n + length (hostOf c)) (m + length (writtenOf c)) cs (past d hs n (hostOf c) (flatMap hostOf cs) p) (past e ws m (writtenOf c) (flatMap writtenOf cs) q))
+      (calls-back (n + length (hostOf c)) (m + length (writtenOf c)) cs (past d hs n (hostOf c) (flatMap hostOf cs) p)
+      (past e ws m (writtenOf c) (flatMap writtenOf cs) q))
 
 -- ---- alike lists have one numbering
 
@@ -222,16 +234,19 @@ module _ (fifo : ℕ) (others : List ℕ) where
   host-alike (lentToTakeTx e) = refl
   host-alike (lentToTakeWritten e) = refl
 
-  written-alike : {c d : Request} → Alike fifo c d → length (writtenOf (placed (fifo ∷ others) c)) ≡ length (writtenOf (placed (fifo ∷ others) d))
+  written-alike : {c d : Request} → Alike fifo c d
+      → length (writtenOf (placed (fifo ∷ others) c)) ≡ length (writtenOf (placed (fifo ∷ others) d))
   unfolding writtenOf placed changed writesOf flatMap putOf
   written-alike same = refl
   written-alike (hostBytes e) = refl
-  written-alike (fifoWord {v = v} {v′ = v′}) = ap (λ x. length (putOf x ++ [])) (put-fifo v) ∙ ap (λ x. length (putOf x ++ [])) (sym (put-fifo v′))
+  written-alike (fifoWord {v = v} {v′ = v′}) =
+      ap (λ x. length (putOf x ++ [])) (put-fifo v) ∙ ap (λ x. length (putOf x ++ [])) (sym (put-fifo v′))
   written-alike (lentToTakeTx e) = refl
   written-alike (lentToTakeWritten e) = refl
 
   -- lists of calls that are alike are one list of numbered calls
-  pub calls-alike : (h w : ℕ) {cs ds : List Request} → Each (Alike fifo) cs ds → number h w (map (placed (fifo ∷ others)) cs) ≡ number h w (map (placed (fifo ∷ others)) ds)
+  pub calls-alike : (h w : ℕ) {cs ds : List Request} → Each (Alike fifo) cs ds
+      → number h w (map (placed (fifo ∷ others)) cs) ≡ number h w (map (placed (fifo ∷ others)) ds)
   unfolding number
   calls-alike h w Each.nil = refl
   calls-alike h w (Each.cons {a = c} {b = d} {m = ds} e es) =

@@ -10,7 +10,8 @@ use Rattle.model.specs.Calls.{Outcome, readPlaced, writePlaced, send, wr
 use Rattle.model.specs.Call.{Call, Request}
 use Rattle.model.specs.Run.{Step, answering, stepBy, writing, step}
 use Rattle.model.specs.declared.Place.{Place}
-use Rattle.model.specs.declared.Place.the-variants.{Fifo, IntRaw, IntSt, IntEna, IntClr, Clkdiv, Status, FsmStatus, Conf0, Conf1, ClkConf, IdleConf, Rs485Conf, AtCmdChar, MemConf, MemRxStatus, Unknown}
+use Rattle.model.specs.declared.Place.the-variants.{Fifo, IntRaw, IntSt, IntEna, IntClr, Clkdiv, Status, FsmStatus, Conf0, Conf1}
+use Rattle.model.specs.declared.Place.the-variants.{ClkConf, IdleConf, Rs485Conf, AtCmdChar, MemConf, MemRxStatus, Unknown}
 use Rattle.model.specs.declared.Write.{Write}
 
 -- what is written where: a byte to FIFO, or a word to another place
@@ -23,7 +24,8 @@ Placed H W L = Call Place (Put W) H L
 
 -- ---- a call with other parts
 
-unfoldable pub changed : {R R′ X X′ H H′ L L′ : Type 0} → (R → R′) → (X → X′) → (List H → List H′) → (List L → List L′) → Call R X H L → Call R′ X′ H′ L′
+unfoldable pub changed : {R R′ X X′ H H′ L L′ : Type 0} → (R → R′) → (X → X′) → (List H → List H′) → (List L → List L′) → Call R X H L
+    → Call R′ X′ H′ L′
 changed r x h l (Call.read now a) = Call.read now (r a)
 changed r x h l (Call.write now a) = Call.write now (x a)
 changed r x h l (Call.receive now at bs) = Call.receive now at (h bs)

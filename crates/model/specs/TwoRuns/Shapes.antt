@@ -35,7 +35,10 @@ noted-report passes overflows ns u = take-at (map (λ n. record { what = n }) ns
 
 module _ (fifo : ℕ) (c : Request) (e : readsFifo fifo c ≡ true) where
   pop-shape : (passes overflows : ℕ) (s : Source) (bs : List ℕ) (u : Uart ℕ ℕ)
-      → Shape fifo c (record { reply = reads (pop (mistimed s) bs u .reply); report = report passes overflows (pop (mistimed s) bs u .notes) (pop (mistimed s) bs u .state) })
+      → Shape fifo c (record {
+        reply = reads (pop (mistimed s) bs u .reply);
+        report = report passes overflows (pop (mistimed s) bs u .notes) (pop (mistimed s) bs u .state);
+      })
   unfolding pop
   pop-shape passes overflows s [] u = Shape.fifoEmpty s e (noted-report passes overflows _ _)
   pop-shape passes overflows s (b ∷ bs) u = Shape.fifoByte s e (noted-report passes overflows _ _)
@@ -44,7 +47,10 @@ module _ (fifo : ℕ) (c : Request) (e : readsFifo fifo c ≡ true) where
   unfolding stepPlaced stepBy answering readPlaced unless refusing readWork afterSettling readAt looks readLooking readPlace mistimed
   fifo-shape now u = go (refuseDate now (u .control) none)
     where
-      go : (o : Option Refusal) → Shape fifo c (record { reply = reads (unless o refused (readWork now Fifo) u .reply); report = unless o refused (readWork now Fifo) u .report })
+      go : (o : Option Refusal) → Shape fifo c (record {
+        reply = reads (unless o refused (readWork now Fifo) u .reply);
+        report = unless o refused (readWork now Fifo) u .report;
+      })
       go (some r) = Shape.fifoRefused e
       go none = pop-shape _ _ (lineOf (settleAt now u .state) .«rx_mistimed») (settleAt now u .state .rx) _
 
@@ -81,10 +87,12 @@ module _ (fifo : ℕ) (others : List ℕ) where
       nothing : (ns : List Unsupported) (u : Uart ℕ ℕ) → _≡_ {A = List ℕ} [] []
       nothing ns u = refl
 
-  read-shape : (now o : ℕ) (u : Uart ℕ ℕ) (b : Bool) → eqb o fifo ≡ b → Shape fifo (Call.read now o) (stepPlaced (Call.read now (placeOf (fifo ∷ others) o)) u .answer)
+  read-shape : (now o : ℕ) (u : Uart ℕ ℕ) (b : Bool) → eqb o fifo ≡ b
+      → Shape fifo (Call.read now o) (stepPlaced (Call.read now (placeOf (fifo ∷ others) o)) u .answer)
   unfolding readsFifo stepPlaced stepBy answering bytesRead bytesSent
   read-shape now o u true e =
-      subst (λ p. Shape fifo (Call.read now o) (stepPlaced (Call.read now p) u .answer)) (sym (fifo-place fifo others o e)) (fifo-shape fifo (Call.read now o) e now u)
+      subst (λ p. Shape fifo (Call.read now o) (stepPlaced (Call.read now p) u .answer)) (sym (fifo-place fifo others o e))
+      (fifo-shape fifo (Call.read now o) e now u)
   read-shape now o u false e = Shape.noByte e (placed-noByte _ (other-noByte o e) now u) refl
 
   step-shape : (h w : ℕ) (c : Request) (u : Uart ℕ ℕ) → Shape fifo c (stepPlaced (numbered h w (placed (fifo ∷ others) c)) u .answer)
@@ -103,7 +111,8 @@ module _ (fifo : ℕ) (others : List ℕ) where
   step-shape h w Call.hostPending u = Shape.noByte refl refl refl
 
   -- every answer of a numbered list has its call's shape
-  pub run-shape : (h w : ℕ) (cs : List Request) (u : Uart ℕ ℕ) → Each (Shape fifo) cs (runBy stepPlaced (number h w (map (placed (fifo ∷ others)) cs)) u)
+  pub run-shape : (h w : ℕ) (cs : List Request) (u : Uart ℕ ℕ)
+      → Each (Shape fifo) cs (runBy stepPlaced (number h w (map (placed (fifo ∷ others)) cs)) u)
   unfolding runBy number
   run-shape h w [] u = Each.nil
   run-shape h w (c ∷ cs) u = Each.cons (step-shape h w c u) (run-shape _ _ cs _)

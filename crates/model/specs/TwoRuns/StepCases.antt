@@ -10,7 +10,8 @@ use Rattle.model.specs.Run.{answering, stepBy, writing, step}
 
 pub record StepCases (u : Uart ℕ ℕ) : Type 0 where
   pub read : (now offset : ℕ) → step (Call.read now offset) u ≡ answering reads (Calls.read now offset u)
-  pub write : (now offset value : ℕ) → step (Call.write now (record { offset = offset; value = value })) u ≡ answering writes (Calls.write now offset value u)
+  pub write : (now offset value : ℕ) → step (Call.write now (record { offset = offset; value = value })) u
+      ≡ answering writes (Calls.write now offset value u)
   pub receive : (now at : ℕ) (bytes : List ℕ) → step (Call.receive now at bytes) u ≡ answering does (Calls.receive now at bytes u)
   pub wake : (now : ℕ) → step (Call.wake now) u ≡ answering does (Calls.wake now u)
   pub reset : (now : ℕ) → step (Call.reset now) u ≡ answering does (Calls.reset now u)

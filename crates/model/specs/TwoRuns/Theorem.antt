@@ -11,7 +11,8 @@ use Rattle.model.specs.Limits.{All}
 use Rattle.model.specs.Replies.{word, byte, noValue, refused}
 use Rattle.model.specs.Call.{Request, Reply, reads, writes, does, takes, left, pends}
 use Rattle.model.specs.Run.{runBy, run}
-use Rattle.model.specs.TwoRuns.Alike.{Each, Alike, fifoOffset, hostGiven, fifoWritten, hostByte, writeByte, itself, forget, mapReadOf, mapTake, mapReply, mapAnswer, withoutRest, withBytesOf}
+use Rattle.model.specs.TwoRuns.Alike.{Each, Alike, fifoOffset, hostGiven, fifoWritten, hostByte, writeByte, itself, forget, mapReadOf}
+use Rattle.model.specs.TwoRuns.Alike.{mapTake, mapReply, mapAnswer, withoutRest, withBytesOf}
 use Rattle.model.specs.TwoRuns.Agree.{byteRead, bytesRead, bytesSent, readsFifo, Bare, Below, EachBelow, Shape, Agree, Agreeing}
 use Rattle.model.specs.TwoRuns.Placed.{Placed, placed, stepPlaced}
 use Rattle.model.specs.TwoRuns.MapKept.{run-placed}
@@ -33,10 +34,12 @@ module _ {H H′ W W′ L L′ : Type 0} (f : H → H′) (g : W → W′) (h : 
   -- from set-up on, a list with other bytes answers the same with other bytes
   runNew-nat : (offsets ws : List ℕ) (cs : List (Placed H W L))
       → runBy stepPlaced (map (mapPlaced f g h) cs) (new offsets ws) ≡ map (mapAnswer f g h) (runBy stepPlaced cs (new offsets ws))
-  runNew-nat offsets ws cs = ap (runBy stepPlaced (map (mapPlaced f g h) cs)) (sym (new-nat f g offsets ws)) ∙ runPlaced-nat f g h cs (new offsets ws)
+  runNew-nat offsets ws cs =
+      ap (runBy stepPlaced (map (mapPlaced f g h) cs)) (sym (new-nat f g offsets ws)) ∙ runPlaced-nat f g h cs (new offsets ws)
 
 module _ (fifo : ℕ) (others ws : List ℕ) where
-  run-numbered : (cs : List Request) → map withoutRest (run cs (new (fifo ∷ others) ws)) ≡ map (withBytesOf fifo cs) (numberedAnswers (fifo ∷ others) ws cs)
+  run-numbered : (cs : List Request) → map withoutRest (run cs (new (fifo ∷ others) ws))
+      ≡ map (withBytesOf fifo cs) (numberedAnswers (fifo ∷ others) ws cs)
   unfolding withoutRest withBytesOf numberedAnswers new mapOf
   run-numbered cs =
       ap (map (mapAnswer itself itself forget)) (run-placed cs (new (fifo ∷ others) ws))
@@ -47,8 +50,11 @@ module _ (fifo : ℕ) (others ws : List ℕ) where
       placedCalls : List (Placed ℕ ℕ ℕ)
       placedCalls = map (placed (fifo ∷ others)) cs
 
-      looked-up : map (mapPlaced (hostByte cs) (writeByte fifo cs) itself) (number 0 0 placedCalls) ≡ map (mapPlaced itself itself forget) placedCalls
-      looked-up = calls-back 0 0 (hostGiven cs) (fifoWritten fifo cs) 0 0 placedCalls (sym (host-placed (fifo ∷ others) cs)) (sym (written-placed fifo others cs))
+      looked-up : map (mapPlaced (hostByte cs) (writeByte fifo cs) itself) (number 0 0 placedCalls)
+          ≡ map (mapPlaced itself itself forget) placedCalls
+      looked-up =
+          calls-back 0 0 (hostGiven cs) (fifoWritten fifo cs) 0 0 placedCalls (sym (host-placed (fifo ∷ others) cs))
+          (sym (written-placed fifo others cs))
 
 -- ---- the first statement
 
@@ -63,22 +69,27 @@ pub record OneList (offsets ws : List ℕ) (cs ds : List Request) : Type 0 where
   pub shape : Each (Shape (fifoOffset offsets)) cs answers
 
 -- demand 3, for every register map of sixteen offsets, those that set-up refuses too, and all reset words
-pub two-runs : (offsets ws : List ℕ) → length offsets ≡ 16 → (cs ds : List Request) → Each (Alike (fifoOffset offsets)) cs ds → OneList offsets ws cs ds
+pub two-runs : (offsets ws : List ℕ) → length offsets ≡ 16 → (cs ds : List Request) → Each (Alike (fifoOffset offsets)) cs ds
+    → OneList offsets ws cs ds
 unfolding numberedAnswers
 two-runs [] ws e cs ds a = absurd (suc-ne-zero _ (sym e))
 two-runs (fifo ∷ others) ws e cs ds a = record {
   answers = numberedAnswers (fifo ∷ others) ws cs;
   first = run-numbered fifo others ws cs;
-  second = run-numbered fifo others ws ds ∙ ap (λ l. map (withBytesOf fifo ds) (runBy stepPlaced l (new (fifo ∷ others) ws))) (sym (calls-alike fifo others 0 0 a));
+  second =
+      run-numbered fifo others ws ds ∙ ap (λ l. map (withBytesOf fifo ds) (runBy stepPlaced l (new (fifo ∷ others) ws)))
+      (sym (calls-alike fifo others 0 0 a));
   below = run-below fifo others 0 0 cs (new (fifo ∷ others) ws) (λ f g p q. new-nat f g (fifo ∷ others) ws);
   shape = run-shape fifo others 0 0 cs (new (fifo ∷ others) ws);
 }
 
 -- the same bound on a first part of the list: its answers hold numbers of its own bytes alone
-pub first-part-below : (offsets ws : List ℕ) (cs ds : List Request) (o : OneList offsets ws cs ds) (front back : List Request) → cs ≡ front ++ back
+pub first-part-below : (offsets ws : List ℕ) (cs ds : List Request) (o : OneList offsets ws cs ds) (front back : List Request)
+    → cs ≡ front ++ back
     → All (Below (length (hostGiven front)) (length (fifoWritten (fifoOffset offsets) front))) (take (length front) (o .answers))
 first-part-below offsets ws cs ds o front back e =
-    simp zero-add at (first-below (fifoOffset offsets) 0 0 front back (subst (λ l. EachBelow (fifoOffset offsets) 0 0 l (o .answers)) e (o .below)))
+    simp zero-add at (first-below (fifoOffset offsets) 0 0 front back
+    (subst (λ l. EachBelow (fifoOffset offsets) 0 0 l (o .answers)) e (o .below)))
 
 -- ---- the second statement, in the demand's words
 
@@ -92,7 +103,8 @@ module _ {H H′ W W′ L L′ : Type 0} (f f′ : H → H′) (g g′ : W → W
   plain (reads (refused r)) p q = refl
   plain (writes r) p q = refl
   plain (does r) p q = refl
-  plain (takes t) p q = ap (λ l. takes (record { taken = t .taken; front = l; rest = map h (t .rest) })) (ap (map g) q ∙ sym (ap (map g′) q))
+  plain (takes t) p q =
+      ap (λ l. takes (record { taken = t .taken; front = l; rest = map h (t .rest) })) (ap (map g) q ∙ sym (ap (map g′) q))
   plain (left b) p q = refl
   plain (pends n) p q = refl
 
@@ -104,10 +116,13 @@ module _ (fifo : ℕ) (cs ds : List Request) where
       → Agree fifo cs ds h w c (withBytesOf fifo cs a) (withBytesOf fifo ds a)
   unfolding withBytesOf mapAnswer
   agree-noByte h w c a e p q =
-      subst (λ r. Agree fifo cs ds h w c (withBytesOf fifo cs a) (record { reply = r; report = a .report })) (plain _ _ _ _ itself (a .reply) p q)
-      (Agree.noByte e (bytesRead-nat _ _ itself (a .reply) ∙ ap (map (hostByte cs)) p) (bytesSent-nat _ _ itself (a .reply) ∙ ap (map (writeByte fifo cs)) q))
+      subst (λ r. Agree fifo cs ds h w c (withBytesOf fifo cs a) (record { reply = r; report = a .report }))
+      (plain _ _ _ _ itself (a .reply) p q)
+      (Agree.noByte e (bytesRead-nat _ _ itself (a .reply) ∙ ap (map (hostByte cs)) p)
+      (bytesSent-nat _ _ itself (a .reply) ∙ ap (map (writeByte fifo cs)) q))
 
-  agree : {h w : ℕ} {c : Request} {a : Bare} → Shape fifo c a → Below h w a → Agree fifo cs ds h w c (withBytesOf fifo cs a) (withBytesOf fifo ds a)
+  agree : {h w : ℕ} {c : Request} {a : Bare} → Shape fifo c a → Below h w a
+      → Agree fifo cs ds h w c (withBytesOf fifo cs a) (withBytesOf fifo ds a)
   unfolding withBytesOf mapAnswer mapReply mapReadOf mapTake bytesRead byteRead bytesSent
   agree (Shape.fifoByte s e p) b = Agree.fifoByte s e p (all-head (b .read))
   agree (Shape.fifoEmpty s e p) b = Agree.fifoEmpty s e p
@@ -126,4 +141,5 @@ pub runs-agree : (offsets ws : List ℕ) → length offsets ≡ 16 → (cs ds : 
     → Agreeing (fifoOffset offsets) cs ds 0 0 cs (map withoutRest (run cs (new offsets ws))) (map withoutRest (run ds (new offsets ws)))
 runs-agree offsets ws e cs ds a =
     let o : OneList offsets ws cs ds = two-runs offsets ws e cs ds a in
-    subst₂ (Agreeing (fifoOffset offsets) cs ds 0 0 cs) (sym (o .first)) (sym (o .second)) (agreeing (fifoOffset offsets) cs ds (o .shape) (o .below))
+    subst₂ (Agreeing (fifoOffset offsets) cs ds 0 0 cs) (sym (o .first)) (sym (o .second))
+    (agreeing (fifoOffset offsets) cs ds (o .shape) (o .below))

@@ -17,13 +17,22 @@ source-period-requires : tie.Need-source-period-requires
 source-period-requires c κs = tt
 
 mul-result : tie.Need-mul-result
-mul-result c = omega (arith, product-most (c .before .before .divider .result) (c .before .source-divider .result) 65535 256 (omega arith) (omega arith))
+mul-result c =
+    omega (
+      arith,
+      product-most (c .before .before .divider .result) (c .before .source-divider .result) 65535 256 (omega arith)
+          (omega arith),
+    )
 
 mul-result-2 : tie.Need-mul-result-2
 unfolding halfBitTime
 mul-result-2 c =
     rw (c .before .before .divider .ensures, c .before .source-divider .ensures, c .source-period .ensures)
-    (omega (arith, half-bit-most (c .before .before .before .args .w) (c .before .before .before .args .period) (c .before .before .before .pre)))
+    (omega (
+      arith,
+      half-bit-most (c .before .before .before .args .w) (c .before .before .before .args .period)
+          (c .before .before .before .pre),
+    ))
 
 returns : tie.Need-returns
 unfolding halfBitTime

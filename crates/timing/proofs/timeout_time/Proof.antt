@@ -16,7 +16,11 @@ mul-result : tie.Need-mul-result
 unfolding timeoutTime
 mul-result c =
     rw (c .before .wide .ensures, c .before .before .rx-tout-thrhd .ensures, c .bit-time .ensures)
-    (omega (arith, timeout-most (c .before .before .before .args .w) (c .before .before .before .args .period) (c .before .before .before .pre)))
+    (omega (
+      arith,
+      timeout-most (c .before .before .before .args .w) (c .before .before .before .args .period)
+          (c .before .before .before .pre),
+    ))
 
 returns : tie.Need-returns
 unfolding timeoutTime

@@ -1,4 +1,5 @@
--- `load::read_place` meets its contract: a mistimed reception is told of where the firmware looks, and then the byte or the word is given. Assumes nothing.
+-- `load::read_place` meets its contract: a mistimed reception is told of where the firmware looks, and then the byte or the word is
+-- given. Assumes nothing.
 use mathlib.Core.Path.{refl}
 use mathlib.Core.List.{[], _∷_}
 use Prim.Native.Nat.{_≤_}
@@ -34,7 +35,8 @@ word-at-requires : tie.Need-word-at-requires
 word-at-requires c κs =
     let pre = c .before .before .before .before .before .before .before .pre in
     rw (c .before .forget-mistimed .ensures)
-    (choose-ind (λ (x : Core). (x .flight .count ≤ 129) × (x .rx .count ≤ 128)) _ (λ _. (pre .0 .few, pre .1 .few)) (λ _. (pre .0 .few, pre .1 .few)))
+    (choose-ind (λ (x : Core). (x .flight .count ≤ 129) × (x .rx .count ≤ 128)) _ (λ _. (pre .0 .few, pre .1 .few))
+    (λ _. (pre .0 .few, pre .1 .few)))
 
 returns : tie.Need-returns
 returns c = λ a e k.
@@ -49,8 +51,38 @@ returns-2 c = λ a e k.
     let place = c .before .before .before .before .before .before .before .before .args .place in
     reads-word _ _ a k (at .before .before .before .before .before .looks .ensures) (at .before .before .mistimed-at .ensures)
     (at .before .receive-clock-notices .ensures) (at .forget-mistimed .ensures)
-    (place-keys Words 1 (2 ∷ 3 ∷ 4 ∷ 5 ∷ 6 ∷ 7 ∷ 8 ∷ 9 ∷ 10 ∷ 11 ∷ 12 ∷ 13 ∷ 14 ∷ 15 ∷ 16 ∷ []) place
-    (λ _ _ _. refl, (λ _ _ _. refl, (λ _ _ _. refl, (λ _ _ _. refl, (λ _ _ _. refl, (status-words, (fsm-words, (λ _ _ _. refl, (λ _ _ _. refl, (λ _ _ _. refl, (λ _ _ _. refl, (λ _ _ _. refl, (λ _ _ _. refl, (λ _ _ _. refl, (λ _ _ _. refl, (λ _ _ _. refl, tt)))))))))))))))) (c .before .match .keys2))
+    (place-keys Words 1 (2 ∷ 3 ∷ 4 ∷ 5 ∷ 6 ∷ 7 ∷ 8 ∷ 9 ∷ 10 ∷ 11 ∷ 12 ∷ 13 ∷ 14 ∷ 15 ∷ 16 ∷ []) place (
+      λ _ _ _. refl,
+      (
+        λ _ _ _. refl,
+        (
+          λ _ _ _. refl,
+          (
+            λ _ _ _. refl,
+            (
+              λ _ _ _. refl,
+              (
+                status-words,
+                (
+                  fsm-words,
+                  (
+                    λ _ _ _. refl,
+                    (
+                      λ _ _ _. refl,
+                      (
+                        λ _ _ _. refl,
+                        (λ _ _ _. refl, (λ _ _ _. refl, (λ _ _ _. refl, (λ _ _ _. refl, (λ _ _ _. refl, (λ _ _ _. refl, tt)))))),
+                      ),
+                    ),
+                  ),
+                ),
+              ),
+            ),
+          ),
+        ),
+      ),
+    )
+    (c .before .match .keys2))
     (c .word-at .ensures)
 
 pub read-place-spec : {M : Type 1} → statement M

@@ -43,7 +43,8 @@ unfolding wordAt
 returns-6 c =
     let o = c .before .before .before .before .before .before .args in
     c .read .ensures
-    ∙ place-keys (λ p. asRead (loaded (o .core .control .words) p) ≡ asRead (wordAt (o .core) p)) 0 (3 ∷ 4 ∷ 5 ∷ 8 ∷ 9 ∷ 10 ∷ 11 ∷ 12 ∷ 13 ∷ 14 ∷ 16 ∷ []) (o .place)
+    ∙ place-keys (λ p. asRead (loaded (o .core .control .words) p) ≡ asRead (wordAt (o .core) p)) 0
+    (3 ∷ 4 ∷ 5 ∷ 8 ∷ 9 ∷ 10 ∷ 11 ∷ 12 ∷ 13 ∷ 14 ∷ 16 ∷ []) (o .place)
     (refl, (refl, (refl, (refl, (refl, (refl, (refl, (refl, (refl, (refl, (refl, (refl, tt)))))))))))) (c .before .match .keys6)
 
 pub word-at-spec : {M : Type 1} → statement M

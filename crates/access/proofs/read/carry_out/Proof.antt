@@ -15,7 +15,9 @@ returns : tie.Need-returns
 unfolding readWork
 returns c =
     let s = c .before .before .before .before .before .before .settle-at .ensures in
-    rw (c .answer .ensures) (after asRead s (readAt (c .before .before .before .before .before .before .before .before .before .before .args .place)) (c .before .before .before .read-place .ensures _ refl (s .ok .shape)))
+    rw (c .answer .ensures) (after asRead s (readAt
+    (c .before .before .before .before .before .before .before .before .before .before .args .place))
+    (c .before .before .before .read-place .ensures _ refl (s .ok .shape)))
 
 pub carry-out-spec : {M : Type 1} → statement M
 carry-out-spec = tie.close (tie.spec (λ c κs. search needs) (λ c κs. search needs) answer-requires returns)

@@ -29,7 +29,11 @@ enum-told c = c .match .keys2
 
 carry-out-requires : tie.Need-carry-out-requires
 unfolding datesOnly
-carry-out-requires c κs = (c .before .before .before .before .before .before .before .before .before .before .pre, in-time _ _ none (passes (c .before .before .before .before .before .date-refusal .ensures) (c .before .before .before .enum-told .given .1)) .0)
+carry-out-requires c κs = (
+  c .before .before .before .before .before .before .before .before .before .before .pre,
+  in-time _ _ none (passes (c .before .before .before .before .before .date-refusal .ensures)
+      (c .before .before .before .enum-told .given .1)) .0,
+)
 
 returns : tie.Need-returns
 unfolding Calls.read asRead
@@ -47,9 +51,12 @@ returns-2 c =
     let start = c .before .before .before .before .before .before .before .before .before .before .before in
     let o = start .args in
     let place = placeOf (o .core .map .offsets) (o .offset) in
-    let tests = passes (c .before .before .before .before .before .before .date-refusal .ensures) (c .before .before .before .before .enum-told .given .1) in
+    let tests =
+    passes (c .before .before .before .before .before .before .date-refusal .ensures)
+    (c .before .before .before .before .enum-told .given .1) in
     carried asRead readNumber refused (readWork (o .cycle) place) _ _ (read-tests (o .cycle) _ place) tests
-    (read-within (o .cycle) (o .offset) _ (start .pre .within)) (looking-proper _ _ _ .zero) (rw (c .before .before .before .before .before .before .before .before .place-of .ensures) at (c .carry-out .ensures))
+    (read-within (o .cycle) (o .offset) _ (start .pre .within)) (looking-proper _ _ _ .zero)
+    (rw (c .before .before .before .before .before .before .before .before .place-of .ensures) at (c .carry-out .ensures))
 
 pub read-spec : {M : Type 1} → statement M
 read-spec =

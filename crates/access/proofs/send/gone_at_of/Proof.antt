@@ -13,7 +13,14 @@ after-requires : tie.Need-after-requires
 after-requires c κs = tt
 
 returns : tie.Need-returns
-returns c = λ bytes. rw (c .after .ensures, c .before .byte-time .ensures, c .before .before .starts-at .ensures, c .before .before .before .subcycles .ensures, c .before .before .before .before .last-gone .ensures bytes)
+returns c =
+    λ bytes. rw (
+      c .after .ensures,
+      c .before .byte-time .ensures,
+      c .before .before .starts-at .ensures,
+      c .before .before .before .subcycles .ensures,
+      c .before .before .before .before .last-gone .ensures bytes,
+    )
 
 pub gone-at-of-spec : {M : Type 1} → statement M
 gone-at-of-spec =

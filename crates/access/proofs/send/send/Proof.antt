@@ -23,13 +23,17 @@ clock-notices-requires c κs = tt
 returns : tie.Need-returns
 returns c =
     let o = c .before .before .before .args in
-    drops-any (o .cycle) (o .byte) (o .core) _ _ (c .before .before .fifo-full .ensures) (c .before .if1 .taken) (c .overflow-notices .ensures)
+    drops-any (o .cycle) (o .byte) (o .core) _ _ (c .before .before .fifo-full .ensures) (c .before .if1 .taken)
+    (c .overflow-notices .ensures)
 
 returns-2 : tie.Need-returns-2
 returns-2 c =
     let o = c .before .before .before .before .before .before .before .before .before .before .args in
-    sends-any (o .cycle) (o .byte) (o .core) _ _ (c .before .before .before .before .before .before .before .before .before .fifo-full .ensures) (c .before .before .before .before .before .before .before .before .if1 .left) (c .before .before .before .gone-at-of .ensures) (c .before .before .before .before .before .back .ensures .0)
-    (c .clock-notices .ensures ∙ ap (λ s. noted (sourceNotes Unsupported.UartClock s)) (c .before .unmodelled-source .ensures)) (c .before .before .pushed .ensures)
+    sends-any (o .cycle) (o .byte) (o .core) _ _ (c .before .before .before .before .before .before .before .before .before .fifo-full
+    .ensures) (c .before .before .before .before .before .before .before .before .if1 .left)
+    (c .before .before .before .gone-at-of .ensures) (c .before .before .before .before .before .back .ensures .0)
+    (c .clock-notices .ensures ∙ ap (λ s. noted (sourceNotes Unsupported.UartClock s)) (c .before .unmodelled-source .ensures))
+    (c .before .before .pushed .ensures)
 
 pub send-spec : {M : Type 1} → statement M
 send-spec =

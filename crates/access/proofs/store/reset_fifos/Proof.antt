@@ -18,7 +18,8 @@ empty-if-requires c κs = tt
 returns : tie.Need-returns
 returns c =
     let o = c .before .before .before .before .args in
-    resets (o .conf0) (o .core) (c .before .cut-if .ensures) (c .before .before .before .txfifo-rst .ensures) (c .empty-if .ensures) (c .before .before .rxfifo-rst .ensures)
+    resets (o .conf0) (o .core) (c .before .cut-if .ensures) (c .before .before .before .txfifo-rst .ensures) (c .empty-if .ensures)
+    (c .before .before .rxfifo-rst .ensures)
 
 pub reset-fifos-spec : {M : Type 1} → statement M
 reset-fifos-spec = tie.close (tie.spec txfifo-rst-requires rxfifo-rst-requires cut-if-requires empty-if-requires returns)

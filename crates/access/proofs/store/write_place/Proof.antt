@@ -36,8 +36,31 @@ unfolding writePlace
 returns-3 c = λ a k.
     let o = c .before .before .args in
     other-puts _ a k (o .value) (o .place)
-    (place-keys (Stores (o .value)) 0 (1 ∷ 2 ∷ 3 ∷ 5 ∷ 6 ∷ 7 ∷ 9 ∷ 10 ∷ 11 ∷ 12 ∷ 13 ∷ 14 ∷ 15 ∷ 16 ∷ []) (o .place)
-    (λ _. refl, (λ _. refl, (λ _. refl, (λ _. refl, (λ _. refl, (λ _. refl, (λ _. refl, (λ _. refl, (λ _. refl, (λ _. refl, (λ _. refl, (λ _. refl, (λ _. refl, (λ _. refl, (λ _. refl, tt))))))))))))))) (c .before .match .keys3))
+    (place-keys (Stores (o .value)) 0 (1 ∷ 2 ∷ 3 ∷ 5 ∷ 6 ∷ 7 ∷ 9 ∷ 10 ∷ 11 ∷ 12 ∷ 13 ∷ 14 ∷ 15 ∷ 16 ∷ []) (o .place) (
+      λ _. refl,
+      (
+        λ _. refl,
+        (
+          λ _. refl,
+          (
+            λ _. refl,
+            (
+              λ _. refl,
+              (
+                λ _. refl,
+                (
+                  λ _. refl,
+                  (
+                    λ _. refl,
+                    (λ _. refl, (λ _. refl, (λ _. refl, (λ _. refl, (λ _. refl, (λ _. refl, (λ _. refl, tt))))))),
+                  ),
+                ),
+              ),
+            ),
+          ),
+        ),
+      ),
+    ) (c .before .match .keys3))
     (c .store2 .ensures)
 
 pub write-place-spec : {M : Type 1} → statement M

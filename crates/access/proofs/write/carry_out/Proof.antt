@@ -18,7 +18,8 @@ conclude-requires c κs =
     let o = c .before .before .before .before .before .before .before .before .before .before .before .args in
     let s = c .before .before .before .before .before .settle-at .ensures in
     access-ready s (accessAt (o .fifo) (o .cycle) (o .byte) (o .place) (o .value))
-    (sent-access (o .cycle) (o .byte) (o .place) (o .value) _ (c .before .before .before .before .if1 .taken) (c .before .send .ensures _ refl refl (s .ok .shape)))
+    (sent-access (o .cycle) (o .byte) (o .place) (o .value) _ (c .before .before .before .before .if1 .taken)
+    (c .before .send .ensures _ refl refl (s .ok .shape)))
     (access-period (o .cycle) (o .byte) (o .place) (o .value) (o .fifo) _)
 
 write-place-requires : tie.Need-write-place-requires
@@ -29,7 +30,8 @@ conclude-requires-2 c κs =
     let o = c .before .before .before .before .before .before .before .before .before .args in
     let s = c .before .before .before .settle-at .ensures in
     access-ready s (accessAt (o .fifo) (o .cycle) (o .byte) (o .place) (o .value))
-    (placed-access (o .cycle) (o .byte) (o .place) (o .value) _ (c .before .before .if1 .left) (c .before .write-place .ensures _ (s .ok .shape)))
+    (placed-access (o .cycle) (o .byte) (o .place) (o .value) _ (c .before .before .if1 .left)
+    (c .before .write-place .ensures _ (s .ok .shape)))
     (access-period (o .cycle) (o .byte) (o .place) (o .value) (o .fifo) _)
 
 returns : tie.Need-returns
@@ -38,7 +40,8 @@ returns c =
     let s = c .before .before .before .before .before .before .settle-at .ensures in
     let x = c .before .before .send .ensures _ refl refl (s .ok .shape) in
     concluded-works s (accessAt (o .fifo) (o .cycle) (o .byte) (o .place) (o .value))
-    (sent-access (o .cycle) (o .byte) (o .place) (o .value) _ (c .before .before .before .before .before .if1 .taken) x) (c .conclude .ensures _ refl refl (x .shape))
+    (sent-access (o .cycle) (o .byte) (o .place) (o .value) _ (c .before .before .before .before .before .if1 .taken) x)
+    (c .conclude .ensures _ refl refl (x .shape))
 
 returns-2 : tie.Need-returns-2
 returns-2 c =
@@ -46,7 +49,8 @@ returns-2 c =
     let s = c .before .before .before .before .settle-at .ensures in
     let x = c .before .before .write-place .ensures _ (s .ok .shape) in
     concluded-works s (accessAt (o .fifo) (o .cycle) (o .byte) (o .place) (o .value))
-    (placed-access (o .cycle) (o .byte) (o .place) (o .value) _ (c .before .before .before .if1 .left) x) (c .conclude2 .ensures _ refl refl (x .shape))
+    (placed-access (o .cycle) (o .byte) (o .place) (o .value) _ (c .before .before .before .if1 .left) x)
+    (c .conclude2 .ensures _ refl refl (x .shape))
 
 pub carry-out-spec : {M : Type 1} → statement M
 carry-out-spec =

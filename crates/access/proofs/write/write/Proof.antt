@@ -29,14 +29,17 @@ low-byte-requires c κs = tt
 carry-out-requires : tie.Need-carry-out-requires
 carry-out-requires c κs =
     let start = c .before .before .before .before .before .before .before .before .before .before .before .before .before .before in
-    let tests = passes (c .before .before .before .before .before .before .before .before .tests-at .ensures) (c .before .before .before .before .before .before .enum-told .given .1) in
+    let tests =
+    passes (c .before .before .before .before .before .before .before .before .tests-at .ensures)
+    (c .before .before .before .before .before .before .enum-told .given .1) in
     (start .pre, tests-in-time _ (start .args .cycle) _ _ _ tests)
 
 returns : tie.Need-returns
 returns c =
     let start = c .before .before .before .before .before .before .before .before .before .before in
     let o = start .args in
-    write-refused (o .cycle) (o .offset) (o .value) (start .pre) (c .before .before .before .before .before .before .before .place-of .ensures)
+    write-refused (o .cycle) (o .offset) (o .value) (start .pre)
+    (c .before .before .before .before .before .before .before .place-of .ensures)
     (c .before .before .before .before .before .before .is-fifo .ensures) refl
     (refuses (c .before .before .before .before .tests-at .ensures) (c .before .before .tests .given .1)) (c .refuse .ensures)
 
@@ -46,8 +49,10 @@ returns-2 c =
     let o = start .args in
     write-carried (o .cycle) (o .offset) (o .value) (start .pre)
     (c .before .before .before .before .before .before .before .before .before .before .before .before .place-of .ensures)
-    (c .before .before .before .before .before .before .before .before .before .before .before .is-fifo .ensures) (c .before .low-byte .ensures)
-    (passes (c .before .before .before .before .before .before .before .before .before .tests-at .ensures) (c .before .before .before .before .before .before .before .enum-told .given .1))
+    (c .before .before .before .before .before .before .before .before .before .before .before .is-fifo .ensures)
+    (c .before .low-byte .ensures)
+    (passes (c .before .before .before .before .before .before .before .before .before .tests-at .ensures)
+    (c .before .before .before .before .before .before .before .enum-told .given .1))
     (c .carry-out .ensures)
 
 pub write-spec : {M : Type 1} → statement M

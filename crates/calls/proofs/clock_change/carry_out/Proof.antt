@@ -14,7 +14,8 @@ with-period-requires c κs = tt
 settle-requires : tie.Need-settle-requires
 settle-requires c κs =
     let start = c .before .before .before .before .before .before .before .before in
-    from-ok (start .args .cycle) (start .args .period) (start .pre .2) (c .before .before .before .before .settle-at .ensures .ok) (c .before .before .before .with-period .ensures)
+    from-ok (start .args .cycle) (start .args .period) (start .pre .2) (c .before .before .before .before .settle-at .ensures .ok)
+    (c .before .before .before .with-period .ensures)
 
 arm-requires : tie.Need-arm-requires
 arm-requires c κs =
@@ -25,22 +26,35 @@ add-done : tie.Need-add-done
 add-done c =
     let start = c .before .before .before .before .before .before .before .before .before .before .before .before .before in
     let first = c .before .before .before .before .before .before .before .before .before .settle-at .ensures in
-    omega (arith, sums-fit (start .args .cycle) (start .args .period) (start .pre .2) (first .ok) (c .before .before .before .before .before .before .before .before .with-period .ensures) (start .pre .0) (start .pre .1) first (c .before .before .before .before .settle .ensures) .0)
+    omega (
+      arith,
+      sums-fit (start .args .cycle) (start .args .period) (start .pre .2) (first .ok)
+          (c .before .before .before .before .before .before .before .before .with-period .ensures) (start .pre .0) (start .pre .1) first
+          (c .before .before .before .before .settle .ensures) .0,
+    )
 
 add-done-2 : tie.Need-add-done-2
 add-done-2 c =
     let start = c .before .before .before .before .before .before .before .before .before .before .before .before .before .before .before in
     let first = c .before .before .before .before .before .before .before .before .before .before .before .settle-at .ensures in
-    omega (arith, sums-fit (start .args .cycle) (start .args .period) (start .pre .2) (first .ok) (c .before .before .before .before .before .before .before .before .before .before .with-period .ensures) (start .pre .0) (start .pre .1) first (c .before .before .before .before .before .before .settle .ensures) .1)
+    omega (
+      arith,
+      sums-fit (start .args .cycle) (start .args .period) (start .pre .2) (first .ok)
+          (c .before .before .before .before .before .before .before .before .before .before .with-period .ensures) (start .pre .0)
+          (start .pre .1) first (c .before .before .before .before .before .before .settle .ensures) .1,
+    )
 
 done-requires : tie.Need-done-requires
 done-requires c κs = tt
 
 returns : tie.Need-returns
 returns c =
-    let start = c .before .before .before .before .before .before .before .before .before .before .before .before .before .before .before .before in
+    let start =
+    c .before .before .before .before .before .before .before .before .before .before .before .before .before .before .before .before in
     let first = c .before .before .before .before .before .before .before .before .before .before .before .before .settle-at .ensures in
-    reclocks (start .args .cycle) (start .args .period) (start .pre .2) (first .ok) (c .before .before .before .before .before .before .before .before .before .before .before .with-period .ensures) (start .pre .0) first (c .before .before .before .before .before .before .before .settle .ensures)
+    reclocks (start .args .cycle) (start .args .period) (start .pre .2) (first .ok)
+    (c .before .before .before .before .before .before .before .before .before .before .before .with-period .ensures) (start .pre .0)
+    first (c .before .before .before .before .before .before .before .settle .ensures)
     (c .before .before .before .before .before .arm .ensures) (c .done .ensures)
 
 pub carry-out-spec : {M : Type 1} → statement M

@@ -26,7 +26,9 @@ enum-told c = c .match .keys2
 carry-out-requires : tie.Need-carry-out-requires
 unfolding clocking
 carry-out-requires c κs =
-    let tests = in-time _ _ _ (passes (c .before .before .before .before .before .clock-refusal .ensures) (c .before .before .before .enum-told .given .1)) in
+    let tests =
+    in-time _ _ _ (passes (c .before .before .before .before .before .clock-refusal .ensures)
+    (c .before .before .before .enum-told .given .1)) in
     (c .before .before .before .before .before .before .before .pre, tests .0, ltb-false _ _ (not-refused _ _ none (tests .1) .0))
 
 returns : tie.Need-returns
@@ -41,7 +43,8 @@ returns-2 c =
     let start = c .before .before .before .before .before .before .before .before in
     let o = start .args in
     done-carried (clockChange (o .cycle) (o .period)) (clockWork (o .cycle) (o .period)) (start .pre) (clock-tests (o .cycle) _ (o .period))
-    (passes (c .before .before .before .before .before .before .clock-refusal .ensures) (c .before .before .before .before .enum-told .given .1))
+    (passes (c .before .before .before .before .before .before .clock-refusal .ensures)
+    (c .before .before .before .before .enum-told .given .1))
     (clockChange-within (o .cycle) (o .period) _ (start .pre .within)) (clock-zero (o .cycle) _ (o .period)) (c .carry-out .ensures)
 
 pub clock-change-spec : {M : Type 1} → statement M

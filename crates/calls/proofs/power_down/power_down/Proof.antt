@@ -45,9 +45,15 @@ returns-2 : tie.Need-returns-2
 unfolding powerDownWork unsettled doneNumber
 returns-2 c = λ a ok.
     let o = c .before .before .before .before .before .before .before .before .args in
-    rw (c .done .ensures, c .before .with-powered-down-at .ensures, c .before .before .before .with-last .ensures, c .before .before .subcycles .ensures)
+    rw (
+      c .done .ensures,
+      c .before .with-powered-down-at .ensures,
+      c .before .before .before .with-last .ensures,
+      c .before .before .subcycles .ensures,
+    )
     (carried (λ x. x) doneNumber Done.Refused (powerDownWork (o .cycle)) _ a (power-down-tests (o .cycle) _)
-    (passes (c .before .before .before .before .before .before .date-refusal .ensures) (c .before .before .before .before .enum-told .given .1)) (powerDown-within (o .cycle) _ (ok .within)) refl
+    (passes (c .before .before .before .before .before .before .date-refusal .ensures)
+    (c .before .before .before .before .enum-told .given .1)) (powerDown-within (o .cycle) _ (ok .within)) refl
     (unsettled-works (λ x. x) (shape-of _ a _ (ok .shape)) refl))
 
 pub power-down-spec : {M : Type 1} → statement M

@@ -23,7 +23,8 @@ done-requires c κs = tt
 returns : tie.Need-returns
 returns c =
     let start = c .before .before .before .before .before .before .before .before in
-    restarted (start .args .cycle) (start .pre .0) (c .before .before .before .before .before .before .before .with-powered-down-at .ensures)
+    restarted (start .args .cycle) (start .pre .0)
+    (c .before .before .before .before .before .before .before .with-powered-down-at .ensures)
     (c .before .before .before .settle-at .ensures) (c .before .before .clear .ensures) (c .before .conclude .ensures) (c .done .ensures)
 
 pub carry-out-spec : {M : Type 1} → statement M

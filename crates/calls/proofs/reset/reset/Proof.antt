@@ -23,7 +23,11 @@ enum-told c = c .match .keys2
 
 carry-out-requires : tie.Need-carry-out-requires
 unfolding datesOnly
-carry-out-requires c κs = (c .before .before .before .before .before .before .before .pre, in-time _ _ none (passes (c .before .before .before .before .before .date-refusal .ensures) (c .before .before .before .enum-told .given .1)) .0)
+carry-out-requires c κs = (
+  c .before .before .before .before .before .before .before .pre,
+  in-time _ _ none (passes (c .before .before .before .before .before .date-refusal .ensures)
+      (c .before .before .before .enum-told .given .1)) .0,
+)
 
 returns : tie.Need-returns
 returns c =
@@ -37,7 +41,8 @@ returns-2 c =
     let start = c .before .before .before .before .before .before .before .before in
     let o = start .args in
     done-carried (reset (o .cycle)) (resetWork (o .cycle)) (start .pre) (reset-tests (o .cycle) _)
-    (passes (c .before .before .before .before .before .before .date-refusal .ensures) (c .before .before .before .before .enum-told .given .1))
+    (passes (c .before .before .before .before .before .before .date-refusal .ensures)
+    (c .before .before .before .before .enum-told .given .1))
     (reset-within (o .cycle) _ (start .pre .within)) (reset-zero (o .cycle) _) (c .carry-out .ensures)
 
 pub reset-spec : {M : Type 1} → statement M

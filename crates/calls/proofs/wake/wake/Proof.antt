@@ -25,7 +25,8 @@ carry-out-requires : tie.Need-carry-out-requires
 unfolding datesOnly
 carry-out-requires c κs = (
   c .before .before .before .before .before .before .before .pre,
-  in-time _ _ none (passes (c .before .before .before .before .before .date-refusal .ensures) (c .before .before .before .enum-told .given .1)) .0,
+  in-time _ _ none (passes (c .before .before .before .before .before .date-refusal .ensures)
+      (c .before .before .before .enum-told .given .1)) .0,
 )
 
 returns : tie.Need-returns
@@ -40,7 +41,8 @@ returns-2 c =
     let start = c .before .before .before .before .before .before .before .before in
     let o = start .args in
     done-carried (wake (o .cycle)) (wakeWork (o .cycle)) (start .pre) (wake-tests (o .cycle) _)
-    (passes (c .before .before .before .before .before .before .date-refusal .ensures) (c .before .before .before .before .enum-told .given .1))
+    (passes (c .before .before .before .before .before .before .date-refusal .ensures)
+    (c .before .before .before .before .enum-told .given .1))
     (wake-within (o .cycle) _ (start .pre .within)) (wake-zero (o .cycle) _) (c .carry-out .ensures)
 
 pub wake-spec : {M : Type 1} → statement M

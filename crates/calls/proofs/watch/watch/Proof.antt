@@ -48,7 +48,8 @@ returns-2 c = λ a eg ed ok.
     let works = armed a eg ed (shape-of _ a _ (ok .shape)) in
     rw (c .done .ensures)
     (carried (λ x. x) doneNumber Done.Refused (watchWork (o .cycle) (o .on)) _ a (watch-tests (o .cycle) _ (o .on))
-    (passes (c .before .before .before .before .before .date-refusal .ensures) (c .before .before .before .enum-told .given .1)) (watch-within (o .cycle) (o .on) _ (ok .within)) refl
+    (passes (c .before .before .before .before .before .date-refusal .ensures) (c .before .before .before .enum-told .given .1))
+    (watch-within (o .cycle) (o .on) _ (ok .within)) refl
     (unsettled-works (λ x. x) (works .shape) (works .same)))
 
 pub watch-spec : {M : Type 1} → statement M

@@ -15,10 +15,14 @@ returns : tie.Need-returns
 returns c = ap dated (sym (ap (called (c .before .before .args .at)) (c .enum-told .given .1) ∙ called-none _))
 
 returns-2 : tie.Need-returns-2
-returns-2 c = ap dated (sym (ap (called (c .before .before .before .before .args .at)) (c .before .before .due .given .1) ∙ called-due _ _ (c .if1 .taken)))
+returns-2 c =
+    ap dated (sym (ap (called (c .before .before .before .before .args .at)) (c .before .before .due .given .1)
+    ∙ called-due _ _ (c .if1 .taken)))
 
 returns-3 : tie.Need-returns-3
-returns-3 c = let d = c .before .before .due .given .1 in ap dated (d ∙ sym (ap (called (c .before .before .before .before .args .at)) d ∙ called-before _ _ (c .if1 .left)))
+returns-3 c =
+    let d = c .before .before .due .given .1 in ap dated
+    (d ∙ sym (ap (called (c .before .before .before .before .args .at)) d ∙ called-before _ _ (c .if1 .left)))
 
 pub cleared-spec : {M : Type 1} → statement M
 cleared-spec = tie.close (tie.spec (λ c. search needs) (λ c. search needs) returns returns-2 returns-3)

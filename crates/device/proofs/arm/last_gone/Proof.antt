@@ -7,7 +7,9 @@ use Rattle.device.proofs.arm.last_gone.Statement.{statement}
 use Rattle.device.proofs.arm.last_gone.Tie as tie
 
 returns : tie.Need-returns
-returns c = λ bytes. last-in (c .before .before .before .before .args .gone-at .now) bytes (c .before .before .before .before .args .flight) (c .nth-gone .ensures bytes)
+returns c =
+    λ bytes. last-in (c .before .before .before .before .args .gone-at .now) bytes (c .before .before .before .before .args .flight)
+    (c .nth-gone .ensures bytes)
 
 returns-2 : tie.Need-returns-2
 returns-2 c = λ bytes. last-none (c .before .before .args .gone-at .now) bytes (c .before .before .args .flight) (c .if1 .left)

@@ -34,7 +34,8 @@ popped-requires : tie.Need-popped-requires Inv-loop μ-loop
 popped-requires c κs = c .before .before .before .before .loop .inv .1 .flightHeld .low
 
 add-i : tie.Need-add-i Inv-loop μ-loop
-add-i c = omega (arith, c .before .before .before .before .before .before .pre .0 .few, c .before .before .before .before .before .before .pre .4)
+add-i c =
+    omega (arith, c .before .before .before .before .before .before .pre .0 .few, c .before .before .before .before .before .before .pre .4)
 
 loop-again : tie.Need-loop-again Inv-loop μ-loop
 loop-again c = let p = c .before .before .before .before .before .before .pre in

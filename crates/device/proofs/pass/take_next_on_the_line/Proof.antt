@@ -17,17 +17,24 @@ element-write-rx c = let p = c .before .before .before .before .before .before .
     omega (arith, c .before .before .before .before .before .before .before .before .back .ensures .1, p .rxSlots)
 
 popped-if-requires : tie.Need-popped-if-requires
-popped-if-requires c κs = c .before .before .before .before .before .before .before .before .before .before .before .before .before .pre .host .low
+popped-if-requires c κs =
+    c .before .before .before .before .before .before .before .before .before .before .before .before .before .pre .host .low
 
 popped-if-requires-2 : tie.Need-popped-if-requires-2
-popped-if-requires-2 c κs = c .before .before .before .before .before .before .before .before .before .before .before .before .before .before .before .pre .runs .low
+popped-if-requires-2 c κs =
+    c .before .before .before .before .before .before .before .before .before .before .before .before .before .before .before
+    .pre .runs .low
 
 pushed-if-requires : tie.Need-pushed-if-requires
-pushed-if-requires c κs = let p = c .before .before .before .before .before .before .before .before .before .before .before .before .before .before .before .before .pre in
+pushed-if-requires c κs =
+    let p = c .before .before .before .before .before .before .before .before .before .before .before .before .before .before .before
+    .before .pre in
     omega (arith, p .rx .few)
 
 returns : tie.Need-returns
-returns c = let start = c .before .before .before .before .before .before .before .before .before .before .before .before .before .before .before .before .before in
+returns c =
+    let start = c .before .before .before .before .before .before .before .before .before .before .before .before .before .before .before
+    .before .before in
     let o = start .args in
     assembled (o .settings) (o .date) (o .at) (o .host .now) (o .run-at .now) (o .run-len .now) (o .rx .now) (start .pre)
     (c .before .before .before .before .before .before .before .before .before .before .before .before .waiting .ensures)

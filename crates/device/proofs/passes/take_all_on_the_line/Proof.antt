@@ -38,7 +38,14 @@ add-passes c = let k = c .before .before .before .before .loop .inv in
 
 add-overflows : tie.Need-add-overflows Inv-loop μ-loop
 add-overflows c = let k = c .before .before .before .before .before .loop .inv in
-    omega (arith, c .overflow-of .ensures, lost-low (c .before .before .take-next-on-the-line .result .found), k .1 blank .passes, k .2, k .3)
+    omega (
+      arith,
+      c .overflow-of .ensures,
+      lost-low (c .before .before .take-next-on-the-line .result .found),
+      k .1 blank .passes,
+      k .2,
+      k .3,
+    )
 
 loop-less : tie.Need-loop-less Inv-loop μ-loop
 loop-less c = omega (arith, c .before .before .before .before .before .before .before .loop .inv .1 blank .passes)
@@ -50,7 +57,12 @@ loop-again c = let o = c .before .before .before .before .before .before .before
     let more = sym (c .before .goes-on .ensures) ∙ not-false (c .before .goes-on .result) (c .if1 .left) in (
       p .fit,
       λ u. ran-more (o .settings) (o .date) (k .1 u) (p .one u) (c .before .before .overflow-of .ensures) more,
-      omega (arith, c .before .before .overflow-of .ensures, lost-low (c .before .before .before .before .take-next-on-the-line .result .found), k .2),
+      omega (
+        arith,
+        c .before .before .overflow-of .ensures,
+        lost-low (c .before .before .before .before .take-next-on-the-line .result .found),
+        k .2,
+      ),
       k .3,
     )
 

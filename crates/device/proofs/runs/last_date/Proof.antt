@@ -11,7 +11,10 @@ element-copy-out-result : tie.Need-element-copy-out-result
 element-copy-out-result c = omega (arith, c .last .ensures .1, c .before .before .before .pre .1)
 
 returns : tie.Need-returns
-returns c = λ counts. ap (λ k. getD (c .before .before .before .before .args .run-at .now) k 0) (c .before .last .ensures .0) ∙ last-some (c .before .before .before .before .args .run-at .now) counts (c .before .before .before .before .args .runs) (c .before .before .if1 .taken)
+returns c =
+    λ counts. ap (λ k. getD (c .before .before .before .before .args .run-at .now) k 0) (c .before .last .ensures .0)
+    ∙ last-some (c .before .before .before .before .args .run-at .now) counts (c .before .before .before .before .args .runs)
+    (c .before .before .if1 .taken)
 
 returns-2 : tie.Need-returns-2
 returns-2 c = λ counts. last-none (c .before .before .args .run-at .now) counts (c .before .before .args .runs) (c .if1 .left)

@@ -23,13 +23,18 @@ settle-line-requires c κs = let start = c .before .before .before .before .befo
     (rw (c .before .before .reception .ensures) (fit (o .core) a _ (start .pre)), start .pre .within .periodHigh)
 
 returns : tie.Need-returns
-returns c = let start = c .before .before .before .before .before .before .before .before .before .before .before .before .before .before .before .before .before in
+returns c =
+    let start = c .before .before .before .before .before .before .before .before .before .before .before .before .before .before .before
+    .before .before in
     let o = start .args in
     let a = arrays (o .gone-at .now) (o .flight .now) (o .tx .now) (o .host .now) (o .run-at .now) (o .run-len .now) (o .rx .now) in
-    let runs = rw (c .before .before .before .before .before .before .before .before .reception .ensures) at (c .before .before .before .before .before .settle-line .ensures) in
+    let runs =
+    rw (c .before .before .before .before .before .before .before .before .reception .ensures) at
+    (c .before .before .before .before .before .settle-line .ensures) in
     rw (c .together .ensures)
     (settles (o .cycle) (o .core) a (start .pre)
-    (c .before .before .before .before .before .before .before .before .before .before .before .before .before .before .before .settling-date .ensures)
+    (c .before .before .before .before .before .before .before .before .before .before .before .before .before .before .before
+    .settling-date .ensures)
     (c .before .before .before .before .before .before .before .before .before .before .before .before .before .before .gone .ensures .0)
     (c .before .before .before .before .before .before .before .before .before .before .before .before .leave .ensures)
     refl

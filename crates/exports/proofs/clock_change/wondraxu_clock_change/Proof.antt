@@ -13,7 +13,8 @@ done-answer-requires : tie.Need-done-answer-requires
 done-answer-requires c κs = tt
 
 returns : tie.Need-returns
-returns c = plainly _ (c .before .before .before .before .before .core-of .ensures) (c .before .clock-change .ensures) (c .done-answer .ensures)
+returns c =
+    plainly _ (c .before .before .before .before .before .core-of .ensures) (c .before .clock-change .ensures) (c .done-answer .ensures)
 
 pub wondraxu-clock-change-spec : {M : Type 1} → statement M
 wondraxu-clock-change-spec = tie.close (tie.spec core-of-requires clock-change-requires done-answer-requires returns)

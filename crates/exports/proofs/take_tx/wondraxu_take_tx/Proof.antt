@@ -8,13 +8,16 @@ core-of-requires : tie.Need-core-of-requires
 core-of-requires c κs = tt
 
 take-tx-requires : tie.Need-take-tx-requires
-take-tx-requires c κs = ok-of _ (c .before .before .before .before .core-of .ensures) (c .before .before .before .before .before .before .pre)
+take-tx-requires c κs =
+    ok-of _ (c .before .before .before .before .core-of .ensures) (c .before .before .before .before .before .before .pre)
 
 taken-answer-requires : tie.Need-taken-answer-requires
 taken-answer-requires c κs = tt
 
 returns : tie.Need-returns
-returns c = plainly _ (c .before .before .before .before .before .before .before .before .core-of .ensures) (c .before .before .before .take-tx .ensures) (c .taken-answer .ensures)
+returns c =
+    plainly _ (c .before .before .before .before .before .before .before .before .core-of .ensures)
+    (c .before .before .before .take-tx .ensures) (c .taken-answer .ensures)
 
 pub wondraxu-take-tx-spec : {M : Type 1} → statement M
 wondraxu-take-tx-spec = tie.close (tie.spec core-of-requires take-tx-requires taken-answer-requires (λ c. search needs) returns)

@@ -18,7 +18,8 @@ returns c =
       c .before .before .before .before .before .before .before .before .plain-notice4 .ensures,
       c .before .before .before .before .before .before .before .before .before .before .plain-notice3 .ensures,
       c .before .before .before .before .before .before .before .before .before .before .before .before .plain-notice2 .ensures,
-      c .before .before .before .before .before .before .before .before .before .before .before .before .before .before .plain-notice .ensures,
+      c .before .before .before .before .before .before .before .before .before .before .before .before .before .before
+          .plain-notice .ensures,
     )
 
 pub all-spec : {M : Type 1} → statement M

@@ -14,7 +14,8 @@ hand-over-requires : tie.Need-hand-over-requires
 hand-over-requires c κs =
     let start = c .before .before .before .before .before .before .before .before .before .before .before in
     let o = start .args in
-    takes (o .cycle) (hostDate (o .cycle) (o .at)) (o .bytes .now) (start .pre .2) (c .before .before .before .before .settle-at .ensures) (c .host-date .ensures)
+    takes (o .cycle) (hostDate (o .cycle) (o .at)) (o .bytes .now) (start .pre .2) (c .before .before .before .before .settle-at .ensures)
+    (c .host-date .ensures)
 
 done-requires : tie.Need-done-requires
 done-requires c κs = tt
@@ -23,7 +24,8 @@ returns : tie.Need-returns
 returns c =
     let start = c .before .before .before .before .before .before .before .before .before .before .before .before .before in
     let o = start .args in
-    received (o .cycle) (o .at) (o .bytes .now) (start .pre .0) (c .before .before .before .before .before .before .settle-at .ensures) (c .before .before .host-date .ensures) (c .before .hand-over .ensures)
+    received (o .cycle) (o .at) (o .bytes .now) (start .pre .0) (c .before .before .before .before .before .before .settle-at .ensures)
+    (c .before .before .host-date .ensures) (c .before .hand-over .ensures)
     (c .done .ensures)
 
 pub carry-out-spec : {M : Type 1} → statement M

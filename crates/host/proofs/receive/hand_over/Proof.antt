@@ -31,7 +31,8 @@ returns-2 c =
     let o = start .args in
     let put = c .before .before .before .before .before .append .ensures in
     let some-byte = c .before .before .before .before .before .before .before .if1 .left in
-    hands-some (o .date) (o .bytes .now) (o .core) (o .gone-at .now) (o .host .now) (o .run-at .now) (o .run-len .now) (omega (arith, some-byte))
+    hands-some (o .date) (o .bytes .now) (o .core) (o .gone-at .now) (o .host .now) (o .run-at .now) (o .run-len .now)
+    (omega (arith, some-byte))
     (start .pre .room (omega (arith, some-byte))) (put .1) (c .before .before .join .ensures) (put .0) (c .arm .ensures)
 
 pub hand-over-spec : {M : Type 1} → statement M

@@ -29,15 +29,20 @@ carry-out-requires : tie.Need-carry-out-requires
 carry-out-requires c κs =
     let start = c .before .before .before .before .before .before .before .before .before .before .before .before .before in
     let o = start .args in
-    left-room (o .cycle) (o .at) (o .bytes .now) (start .pre) (c .before .before .before .before .before .before .before .before .before .last-date .ensures (o .run-len .now)) (c .before .before .before .before .before .before .before .before .host-date .ensures)
-    (passes (c .before .before .before .before .before .before .before .receive-refusal .ensures) (c .before .before .before .before .before .enum-told .given .1))
+    left-room (o .cycle) (o .at) (o .bytes .now) (start .pre)
+    (c .before .before .before .before .before .before .before .before .before .last-date .ensures (o .run-len .now))
+    (c .before .before .before .before .before .before .before .before .host-date .ensures)
+    (passes (c .before .before .before .before .before .before .before .receive-refusal .ensures)
+    (c .before .before .before .before .before .enum-told .given .1))
 
 returns : tie.Need-returns
 returns c =
     let start = c .before .before .before .before .before .before .before .before .before .before in
     let o = start .args in
     done-refused (receive (o .cycle) (o .at) (o .bytes .now)) (receiveWork (o .cycle) (o .at) (o .bytes .now)) (start .pre)
-    (receive-checks (o .cycle) (o .at) (o .bytes .now) (start .pre) (c .before .before .before .before .before .before .last-date .ensures (o .run-len .now)) (c .before .before .before .before .before .host-date .ensures))
+    (receive-checks (o .cycle) (o .at) (o .bytes .now) (start .pre)
+    (c .before .before .before .before .before .before .last-date .ensures (o .run-len .now))
+    (c .before .before .before .before .before .host-date .ensures))
     (refuses (c .before .before .before .before .receive-refusal .ensures) (c .before .before .tests .given .1)) (c .refuse .ensures)
 
 returns-2 : tie.Need-returns-2
@@ -45,8 +50,12 @@ returns-2 c =
     let start = c .before .before .before .before .before .before .before .before .before .before .before .before .before .before in
     let o = start .args in
     done-carried (receive (o .cycle) (o .at) (o .bytes .now)) (receiveWork (o .cycle) (o .at) (o .bytes .now)) (start .pre)
-    (receive-checks (o .cycle) (o .at) (o .bytes .now) (start .pre) (c .before .before .before .before .before .before .before .before .before .before .last-date .ensures (o .run-len .now)) (c .before .before .before .before .before .before .before .before .before .host-date .ensures))
-    (passes (c .before .before .before .before .before .before .before .before .receive-refusal .ensures) (c .before .before .before .before .before .before .enum-told .given .1)) (receive-within (o .cycle) (o .at) (o .bytes .now) _ (start .pre .within))
+    (receive-checks (o .cycle) (o .at) (o .bytes .now) (start .pre)
+    (c .before .before .before .before .before .before .before .before .before .before .last-date .ensures (o .run-len .now))
+    (c .before .before .before .before .before .before .before .before .before .host-date .ensures))
+    (passes (c .before .before .before .before .before .before .before .before .receive-refusal .ensures)
+    (c .before .before .before .before .before .before .enum-told .given .1))
+    (receive-within (o .cycle) (o .at) (o .bytes .now) _ (start .pre .within))
     (receive-zero (o .cycle) _ (o .at) (o .bytes .now)) (c .carry-out .ensures)
 
 pub receive-spec : {M : Type 1} → statement M

@@ -10,8 +10,12 @@ settle-at-requires c κs = (c .before .before .before .before .pre .0, c .before
 
 copy-out-requires : tie.Need-copy-out-requires
 copy-out-requires c κs =
-    let s = c .before .before .before .before .settle-at .ensures in
-    (s .ok .shape .tx, s .ok .shape .txSlots, omega (arith, s .ok .shape .tx .few, c .before .before .before .before .before .before .before .before .before .pre .2))
+    let s = c .before .before .before .before .settle-at .ensures in (
+      s .ok .shape .tx,
+      s .ok .shape .txSlots,
+      omega
+          (arith, s .ok .shape .tx .few, c .before .before .before .before .before .before .before .before .before .pre .2),
+    )
 
 new-requires : tie.Need-new-requires
 new-requires c κs = tt
@@ -23,7 +27,8 @@ returns : tie.Need-returns
 returns c =
     let start = c .before .before .before .before .before .before .before .before .before .before .before .before .before .before in
     let copied = c .before .before .before .before .copy-out .ensures in
-    tx-taken (start .args .cycle) (start .args .out .now) (start .pre .0) (c .before .before .before .before .before .before .before .before .before .settle-at .ensures)
+    tx-taken (start .args .cycle) (start .args .out .now) (start .pre .0)
+    (c .before .before .before .before .before .before .before .before .before .settle-at .ensures)
     (copied .0) (copied .1) (c .before .new .ensures) (c .done .ensures)
 
 pub carry-out-spec : {M : Type 1} → statement M

@@ -28,19 +28,29 @@ enum-told c = c .match .keys2
 carry-out-requires : tie.Need-carry-out-requires
 unfolding takingTx takingWritten
 carry-out-requires c κs =
-    let tests = in-time _ _ _ (passes (c .before .before .before .before .before .before .take-refusal .ensures) (c .before .before .before .before .enum-told .given .1)) in
-    (c .before .before .before .before .before .before .before .before .before .pre, tests .0, ltb-false _ _ (not-refused _ _ none (tests .1) .0))
+    let tests =
+    in-time _ _ _ (passes (c .before .before .before .before .before .before .take-refusal .ensures)
+    (c .before .before .before .before .enum-told .given .1)) in (
+      c .before .before .before .before .before .before .before .before .before .pre,
+      tests .0,
+      ltb-false _ _ (not-refused _ _ none (tests .1) .0),
+    )
 
 returns : tie.Need-returns
 returns c =
     let o = c .before .before .before .before .before .before .before .args in
-    take-refused (o .out .now) (takeTxWork (o .cycle) (o .out .now)) _ _ (take-tests (o .cycle) _ (o .out .now)) (refuses (c .before .before .before .before .take-refusal .ensures) (c .before .before .tests .given .1)) (c .before .before .before .before .before .before .before .pre) (c .refuse .ensures)
+    take-refused (o .out .now) (takeTxWork (o .cycle) (o .out .now)) _ _ (take-tests (o .cycle) _ (o .out .now))
+    (refuses (c .before .before .before .before .take-refusal .ensures) (c .before .before .tests .given .1))
+    (c .before .before .before .before .before .before .before .pre) (c .refuse .ensures)
 
 returns-2 : tie.Need-returns-2
 returns-2 c =
     let o = c .before .before .before .before .before .before .before .before .before .before .before .before .args in
-    take-carried (o .out .now) (takeTxWork (o .cycle) (o .out .now)) _ _ (take-tests (o .cycle) _ (o .out .now)) (passes (c .before .before .before .before .before .before .before .before .before .take-refusal .ensures) (c .before .before .before .before .before .before .before .enum-told .given .1))
-    (takeTx-within (o .cycle) (o .out .now) _ (c .before .before .before .before .before .before .before .before .before .before .before .before .pre .within)) (take-tx-zero (o .cycle) (o .out .now) _) (c .before .before .carry-out .ensures)
+    take-carried (o .out .now) (takeTxWork (o .cycle) (o .out .now)) _ _ (take-tests (o .cycle) _ (o .out .now))
+    (passes (c .before .before .before .before .before .before .before .before .before .take-refusal .ensures)
+    (c .before .before .before .before .before .before .before .enum-told .given .1))
+    (takeTx-within (o .cycle) (o .out .now) _ (c .before .before .before .before .before .before .before .before .before .before .before
+    .before .pre .within)) (take-tx-zero (o .cycle) (o .out .now) _) (c .before .before .carry-out .ensures)
 
 pub take-tx-spec : {M : Type 1} → statement M
 take-tx-spec =

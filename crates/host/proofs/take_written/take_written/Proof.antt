@@ -30,8 +30,15 @@ enum-told c = c .match .keys2
 fill-requires : tie.Need-fill-requires
 unfolding takingWritten
 fill-requires c κs =
-    let p = c .before .before .before .before .before .pre in
-    (p .0, p .1, p .2, p .3, p .4, ltb-false _ _ (not-refused _ _ none (passes (c .before .before .before .written-refusal .ensures) (c .before .enum-told .given .1)) .0))
+    let p = c .before .before .before .before .before .pre in (
+      p .0,
+      p .1,
+      p .2,
+      p .3,
+      p .4,
+      ltb-false _ _ (not-refused _ _ none
+          (passes (c .before .before .before .written-refusal .ensures) (c .before .enum-told .given .1)) .0),
+    )
 
 new-requires : tie.Need-new-requires
 new-requires c κs = tt
@@ -45,15 +52,19 @@ undated-requires c κs = tt
 returns : tie.Need-returns
 returns c = λ a ef et ok.
     let o = c .before .before .before .before .before .before .args in
-    take-refused (o .out .now) (takeWrittenWork (o .out .now)) _ a (written-tests (o .out .now) _) (refuses (c .before .before .before .before .written-refusal .ensures) (c .before .before .tests .given .1)) ok (c .refuse .ensures)
+    take-refused (o .out .now) (takeWrittenWork (o .out .now)) _ a (written-tests (o .out .now) _)
+    (refuses (c .before .before .before .before .written-refusal .ensures) (c .before .before .tests .given .1)) ok (c .refuse .ensures)
 
 returns-2 : tie.Need-returns-2
 unfolding takeWrittenWork undated filled takenNumber
 returns-2 c = λ a ef et ok.
     let o = c .before .before .before .before .before .before .before .before .before .before .before .args in
     rw (c .undated .ensures, c .before .before .new .ensures, c .before .new2 .ensures)
-    (take-carried (o .out .now) (takeWrittenWork (o .out .now)) _ a (written-tests (o .out .now) _) (passes (c .before .before .before .before .before .before .before .before .before .written-refusal .ensures) (c .before .before .before .before .before .before .before .enum-told .given .1))
-    (takeWritten-within (o .out .now) _ (ok .within)) refl (took-written (o .out .now) (o .core) a (ok .shape) (rw (ef, et) (c .before .before .before .before .before .fill .ensures))))
+    (take-carried (o .out .now) (takeWrittenWork (o .out .now)) _ a (written-tests (o .out .now) _)
+    (passes (c .before .before .before .before .before .before .before .before .before .written-refusal .ensures)
+    (c .before .before .before .before .before .before .before .enum-told .given .1))
+    (takeWritten-within (o .out .now) _ (ok .within)) refl
+    (took-written (o .out .now) (o .core) a (ok .shape) (rw (ef, et) (c .before .before .before .before .before .fill .ensures))))
 
 pub take-written-spec : {M : Type 1} → statement M
 take-written-spec =

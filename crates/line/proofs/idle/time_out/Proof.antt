@@ -16,7 +16,13 @@ raise-if-requires c κs = tt
 returns : tie.Need-returns
 unfolding timeOut raiseIf choose
 returns c =
-    rw (c .before .before .before .if1 .taken, c .before .before .if2 .taken, c .raise-if .ensures, c .before .note-source .ensures, c .before .before .before .before .with-idle-since .ensures)
+    rw (
+      c .before .before .before .if1 .taken,
+      c .before .before .if2 .taken,
+      c .raise-if .ensures,
+      c .before .note-source .ensures,
+      c .before .before .before .before .with-idle-since .ensures,
+    )
 
 returns-2 : tie.Need-returns-2
 unfolding timeOut choose

@@ -18,7 +18,13 @@ raise-if-requires-2 c κs = tt
 
 returns : tie.Need-returns
 unfolding levels raiseIf
-returns c = rw (c .raise-if2 .ensures, c .before .below-empty .ensures, c .before .before .raise-if .ensures, c .before .before .before .above-full .ensures)
+returns c =
+    rw (
+      c .raise-if2 .ensures,
+      c .before .below-empty .ensures,
+      c .before .before .raise-if .ensures,
+      c .before .before .before .above-full .ensures,
+    )
 
 pub assert-levels-spec : {M : Type 1} → statement M
 assert-levels-spec = tie.close (tie.spec above-full-requires raise-if-requires below-empty-requires raise-if-requires-2 returns)

@@ -21,7 +21,8 @@ returns c = rw (c .enum-told .given .1) (c .before .before .subcycles .ensures)
 
 returns-2 : tie.Need-returns-2
 unfolding noLaterThan
-returns-2 c = rw (c .before .before .powered-down-at .given .1, ← c .before .before .before .before .subcycles .ensures) (c .earlier .ensures)
+returns-2 c =
+    rw (c .before .before .powered-down-at .given .1, ← c .before .before .before .before .subcycles .ensures) (c .earlier .ensures)
 
 pub settling-date-spec : {M : Type 1} → statement M
 settling-date-spec = tie.close (tie.spec subcycles-requires enum-told enum-known-powered-down-at earlier-requires returns returns-2)

@@ -21,7 +21,13 @@ arm-requires-5 c κs = tt
 returns : tie.Need-returns
 unfolding armAll
 returns c =
-    rw (c .arm5 .ensures, c .before .arm4 .ensures, c .before .before .arm3 .ensures, c .before .before .before .arm2 .ensures, c .before .before .before .before .arm .ensures)
+    rw (
+      c .arm5 .ensures,
+      c .before .arm4 .ensures,
+      c .before .before .arm3 .ensures,
+      c .before .before .before .arm2 .ensures,
+      c .before .before .before .before .arm .ensures,
+    )
 
 pub arm-spec : {M : Type 1} → statement M
 arm-spec = tie.close (tie.spec arm-requires arm-requires-2 arm-requires-3 arm-requires-4 arm-requires-5 returns)

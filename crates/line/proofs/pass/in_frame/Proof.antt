@@ -20,14 +20,18 @@ rest-requires c κs = tt
 
 returns-2 : tie.Need-returns-2
 unfolding inFrame choose
-returns-2 c = rw (← c .before .before .before .before .timeout-due .ensures, c .before .before .before .if1 .left, lt-ltb _ _ (c .before .if2 .taken)) (c .rest .ensures)
+returns-2 c =
+    rw (← c .before .before .before .before .timeout-due .ensures, c .before .before .before .if1 .left, lt-ltb _ _ (c .before .if2 .taken))
+    (c .rest .ensures)
 
 land-requires : tie.Need-land-requires
 land-requires c κs = tt
 
 returns-3 : tie.Need-returns-3
 unfolding inFrame choose
-returns-3 c = rw (← c .before .before .before .before .timeout-due .ensures, c .before .before .before .if1 .left, le-ltb _ _ (c .before .if2 .left)) (c .land .ensures)
+returns-3 c =
+    rw (← c .before .before .before .before .timeout-due .ensures, c .before .before .before .if1 .left, le-ltb _ _ (c .before .if2 .left))
+    (c .land .ensures)
 
 pub in-frame-spec : {M : Type 1} → statement M
 in-frame-spec = tie.close (tie.spec timeout-due-requires time-out-requires returns rest-requires returns-2 land-requires returns-3)

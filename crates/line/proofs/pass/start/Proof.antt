@@ -20,7 +20,9 @@ keep-requires-2 c κs = tt
 
 returns-2 : tie.Need-returns-2
 unfolding started choose
-returns-2 c = rw (le-ltb _ _ (c .before .before .before .if1 .left), ← c .before .before .timeout-due .ensures, c .before .if2 .taken) (c .keep2 .ensures)
+returns-2 c =
+    rw (le-ltb _ _ (c .before .before .before .if1 .left), ← c .before .before .timeout-due .ensures, c .before .if2 .taken)
+    (c .keep2 .ensures)
 
 frame-requires : tie.Need-frame-requires
 frame-requires c κs = tt
@@ -30,7 +32,14 @@ start-requires c κs = tt
 
 returns-3 : tie.Need-returns-3
 unfolding started choose
-returns-3 c = rw (le-ltb _ _ (c .before .before .before .before .if1 .left), ← c .before .before .before .timeout-due .ensures, c .before .before .if2 .left, ← c .start .ensures, ← c .before .frame .ensures)
+returns-3 c =
+    rw (
+      le-ltb _ _ (c .before .before .before .before .if1 .left),
+      ← c .before .before .before .timeout-due .ensures,
+      c .before .before .if2 .left,
+      ← c .start .ensures,
+      ← c .before .frame .ensures,
+    )
 
 pub start-spec : {M : Type 1} → statement M
 start-spec =

@@ -15,11 +15,20 @@ in-frame-requires c κs = tt
 
 returns : tie.Need-returns
 unfolding moveOn
-returns c = moved (c .before .before .before .before .before .args .settings) (c .before .before .before .before .before .args .date) (c .before .before .before .before .before .args .held) (c .before .before .before .before .before .args .waiting) (c .before .before .before .before .before .args .receiving) (c .before .before .before .before .before .args .line) (c .before .before .before .before .begin .ensures) (c .before .enum-told .given .1) (c .idle .ensures)
+returns c =
+    moved (c .before .before .before .before .before .args .settings) (c .before .before .before .before .before .args .date)
+    (c .before .before .before .before .before .args .held) (c .before .before .before .before .before .args .waiting)
+    (c .before .before .before .before .before .args .receiving) (c .before .before .before .before .before .args .line)
+    (c .before .before .before .before .begin .ensures) (c .before .enum-told .given .1) (c .idle .ensures)
 
 returns-2 : tie.Need-returns-2
 unfolding moveOn
-returns-2 c = moved (c .before .before .before .before .before .before .args .settings) (c .before .before .before .before .before .before .args .date) (c .before .before .before .before .before .before .args .held) (c .before .before .before .before .before .before .args .waiting) (c .before .before .before .before .before .before .args .receiving) (c .before .before .before .before .before .before .args .line) (c .before .before .before .before .before .begin .ensures) (c .before .before .on .given .1) (c .in-frame .ensures)
+returns-2 c =
+    moved (c .before .before .before .before .before .before .args .settings)
+    (c .before .before .before .before .before .before .args .date) (c .before .before .before .before .before .before .args .held)
+    (c .before .before .before .before .before .before .args .waiting) (c .before .before .before .before .before .before .args .receiving)
+    (c .before .before .before .before .before .before .args .line) (c .before .before .before .before .before .begin .ensures)
+    (c .before .before .on .given .1) (c .in-frame .ensures)
 
 pub take-next-on-the-line-spec : {M : Type 1} → statement M
 take-next-on-the-line-spec =

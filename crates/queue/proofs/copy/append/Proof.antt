@@ -15,8 +15,11 @@ returns c =
     let slot = c .before .before .before .before .before .before .before .before .before .before .back .ensures .0 in
     let begin = c .before .before .before .before .before .before .before .before .before .before .before .before .before in
     let a = begin .args in
-    let p = begin .pre in
-    (refl, appended (a .cap) (a .slots .now) (a .cursor .start + a .cursor .count) (a .bytes .now) (p .1) (omega arith) (omega arith) (omega arith) slot first copy then)
+    let p = begin .pre in (
+      refl,
+      appended (a .cap) (a .slots .now) (a .cursor .start + a .cursor .count) (a .bytes .now) (p .1) (omega arith) (omega arith)
+          (omega arith) slot first copy then,
+    )
 
 pub append-spec : {M : Type 1} → statement M
 append-spec =

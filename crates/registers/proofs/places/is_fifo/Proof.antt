@@ -18,7 +18,8 @@ returns-2 : tie.Need-returns-2
 unfolding isFifo
 returns-2 c =
     place-keys (λ p. false ≡ isFifo p) 1 (2 ∷ 3 ∷ 4 ∷ 5 ∷ 6 ∷ 7 ∷ 8 ∷ 9 ∷ 10 ∷ 11 ∷ 12 ∷ 13 ∷ 14 ∷ 15 ∷ 16 ∷ []) (c .before .args .place)
-    (refl, (refl, (refl, (refl, (refl, (refl, (refl, (refl, (refl, (refl, (refl, (refl, (refl, (refl, (refl, (refl, tt)))))))))))))))) (c .match .keys2)
+    (refl, (refl, (refl, (refl, (refl, (refl, (refl, (refl, (refl, (refl, (refl, (refl, (refl, (refl, (refl, (refl, tt))))))))))))))))
+    (c .match .keys2)
 
 pub is-fifo-spec : {M : Type 1} → statement M
 is-fifo-spec = tie.close (tie.spec enum-told returns returns-2)

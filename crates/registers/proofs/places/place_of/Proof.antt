@@ -23,14 +23,16 @@ loop-holds c = (omega arith, omega arith, refl)
 returns : tie.Need-returns Inv-loop μ-loop
 returns c =
     any-default places (c .before .before .before .loop .at) _ Place.Unknown (omega arith)
-    ∙ place-found (c .before .before .before .loop .at) (c .before .before .before .before .args .offset) _ places (omega arith) (omega arith) (c .before .if1 .taken)
+    ∙ place-found (c .before .before .before .loop .at) (c .before .before .before .before .args .offset) _ places (omega arith)
+    (omega arith) (c .before .if1 .taken)
     ∙ c .before .before .before .loop .inv .2
 
 loop-again : tie.Need-loop-again Inv-loop μ-loop
 loop-again c = (
   omega arith,
   c .before .before .loop .inv .1,
-  sym (place-passed (c .before .before .loop .at) (c .before .before .before .args .offset) _ places (omega arith) (omega arith) (c .if1 .left)) ∙ c .before .before .loop .inv .2,
+  sym (place-passed (c .before .before .loop .at) (c .before .before .before .args .offset) _ places (omega arith) (omega arith)
+      (c .if1 .left)) ∙ c .before .before .loop .inv .2,
 )
 
 returns-2 : tie.Need-returns-2 Inv-loop μ-loop

@@ -9,16 +9,20 @@ use Rattle.registers.proofs.storage.holds.Tie as tie
 
 returns : tie.Need-returns
 unfolding holds
-returns c = place-keys (λ p. true ≡ holds p) 3 (5 ∷ 8 ∷ 9 ∷ 10 ∷ []) (c .before .args .place) (refl, (refl, (refl, (refl, (refl, tt))))) (c .match .keys1)
+returns c =
+    place-keys (λ p. true ≡ holds p) 3 (5 ∷ 8 ∷ 9 ∷ 10 ∷ []) (c .before .args .place) (refl, (refl, (refl, (refl, (refl, tt)))))
+    (c .match .keys1)
 
 returns-2 : tie.Need-returns-2
 unfolding holds
-returns-2 c = place-keys (λ p. true ≡ holds p) 11 (12 ∷ 13 ∷ 14 ∷ []) (c .before .args .place) (refl, (refl, (refl, (refl, tt)))) (c .match .keys2)
+returns-2 c =
+    place-keys (λ p. true ≡ holds p) 11 (12 ∷ 13 ∷ 14 ∷ []) (c .before .args .place) (refl, (refl, (refl, (refl, tt)))) (c .match .keys2)
 
 returns-3 : tie.Need-returns-3
 unfolding holds
 returns-3 c =
-    place-keys (λ p. false ≡ holds p) 0 (1 ∷ 2 ∷ 4 ∷ 6 ∷ 7 ∷ 15 ∷ 16 ∷ []) (c .before .args .place) (refl, (refl, (refl, (refl, (refl, (refl, (refl, (refl, tt)))))))) (c .match .keys3)
+    place-keys (λ p. false ≡ holds p) 0 (1 ∷ 2 ∷ 4 ∷ 6 ∷ 7 ∷ 15 ∷ 16 ∷ []) (c .before .args .place)
+    (refl, (refl, (refl, (refl, (refl, (refl, (refl, (refl, tt)))))))) (c .match .keys3)
 
 pub holds-spec : {M : Type 1} → statement M
 holds-spec = tie.close (tie.spec returns returns-2 returns-3)

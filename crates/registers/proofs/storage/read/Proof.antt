@@ -46,7 +46,9 @@ returns-9 c = rw (c .enum-told9 .given .1)
 
 returns-10 : tie.Need-returns-10
 unfolding asRead loaded
-returns-10 c = place-keys (λ p. Read.NoValue ≡ asRead (loaded (c .before .args .words) p)) 0 (1 ∷ 2 ∷ 4 ∷ 6 ∷ 7 ∷ 15 ∷ 16 ∷ []) (c .before .args .place) (refl, (refl, (refl, (refl, (refl, (refl, (refl, (refl, tt)))))))) (c .match .keys10)
+returns-10 c =
+    place-keys (λ p. Read.NoValue ≡ asRead (loaded (c .before .args .words) p)) 0 (1 ∷ 2 ∷ 4 ∷ 6 ∷ 7 ∷ 15 ∷ 16 ∷ [])
+    (c .before .args .place) (refl, (refl, (refl, (refl, (refl, (refl, (refl, (refl, tt)))))))) (c .match .keys10)
 
 pub read-spec : {M : Type 1} → statement M
 read-spec =

@@ -44,7 +44,10 @@ returns-9 c = rw (c .enum-told9 .given .1)
 
 returns-10 : tie.Need-returns-10
 unfolding stored
-returns-10 c = place-keys (λ p. c .before .args .words ≡ stored p (c .before .args .value) (c .before .args .words)) 0 (1 ∷ 2 ∷ 4 ∷ 6 ∷ 7 ∷ 15 ∷ 16 ∷ []) (c .before .args .place) (refl, (refl, (refl, (refl, (refl, (refl, (refl, (refl, tt)))))))) (c .match .keys10)
+returns-10 c =
+    place-keys (λ p. c .before .args .words ≡ stored p (c .before .args .value) (c .before .args .words)) 0
+    (1 ∷ 2 ∷ 4 ∷ 6 ∷ 7 ∷ 15 ∷ 16 ∷ []) (c .before .args .place) (refl, (refl, (refl, (refl, (refl, (refl, (refl, (refl, tt))))))))
+    (c .match .keys10)
 
 pub with-word-spec : {M : Type 1} → statement M
 with-word-spec =

@@ -17,7 +17,8 @@ abbrev μ-loop : tie.MeasureT-loop
 loop-again : tie.Need-loop-again Inv-loop μ-loop
 loop-again c =
     ⊎-elim (λ w. subst (λ (s : Session). Good (s .uart)) (sym (w .7)) (w .4 .ensures))
-    (λ w. subst (λ (s : Session). Good (s .uart)) (sym (w .3)) (c .before .before .before .before .before .before .before .before .before .before .before .before .loop .inv))
+    (λ w. subst (λ (s : Session). Good (s .uart)) (sym (w .3))
+    (c .before .before .before .before .before .before .before .before .before .before .before .before .loop .inv))
     (c .if2 .came)
 
 pub run-spec : {M : Type 1} → statement M

@@ -14,7 +14,9 @@ use Rattle.replies.proofs.modes.stored_notices.Tie as tie
 
 returns : tie.Need-returns
 unfolding storedNotes
-returns c = c .conf0-notices .ensures ∙ ap (λ p. noted (storedNotes p (c .before .before .before .args .value))) (sym (c .before .enum-told .given .1))
+returns c =
+    c .conf0-notices .ensures ∙ ap (λ p. noted (storedNotes p (c .before .before .before .args .value)))
+    (sym (c .before .enum-told .given .1))
 
 returns-2 : tie.Need-returns-2
 unfolding storedNotes
@@ -25,7 +27,9 @@ returns-2 c =
 
 returns-3 : tie.Need-returns-3
 unfolding storedNotes
-returns-3 c = c .refuse-if2 .ensures ∙ ap (λ p. noted (storedNotes p (c .before .before .before .args .value))) (sym (c .before .enum-told3 .given .1))
+returns-3 c =
+    c .refuse-if2 .ensures ∙ ap (λ p. noted (storedNotes p (c .before .before .before .args .value)))
+    (sym (c .before .enum-told3 .given .1))
 
 returns-4 : tie.Need-returns-4
 unfolding storedNotes

@@ -27,7 +27,8 @@ loop-again : tie.Need-loop-again Inv-loop μ-loop
 loop-again c = (
   omega arith,
   c .before .before .before .loop .inv .1,
-  sym (repeated-passed (c .before .before .before .loop .at) _ (omega arith) (sym (c .before .stands-from .ensures) ∙ c .if1 .left)) ∙ c .before .before .before .loop .inv .2,
+  sym (repeated-passed (c .before .before .before .loop .at) _ (omega arith) (sym (c .before .stands-from .ensures) ∙ c .if1 .left))
+      ∙ c .before .before .before .loop .inv .2,
 )
 
 returns-2 : tie.Need-returns-2 Inv-loop μ-loop

@@ -10,7 +10,8 @@ use Rattle.replies.proofs.offsets.stands_from.Statement.{statement}
 use Rattle.replies.proofs.offsets.stands_from.Tie as tie
 
 abbrev Inv-loop : tie.InvT-loop
-Inv-loop from offset offsets at₀ at = (at ≤ 16) × (length offsets ≡ 16) × (among offset (drop at offsets) ≡ among offset (drop from offsets))
+Inv-loop from offset offsets at₀ at =
+    (at ≤ 16) × (length offsets ≡ 16) × (among offset (drop at offsets) ≡ among offset (drop from offsets))
 
 abbrev μ-loop : tie.MeasureT-loop
 μ-loop from offset offsets at₀ at = 16 - at
@@ -22,7 +23,11 @@ returns : tie.Need-returns Inv-loop μ-loop
 returns c = among-found (c .before .before .loop .at) _ (omega arith) _ (c .if1 .taken) ∙ c .before .before .loop .inv .2
 
 loop-again : tie.Need-loop-again Inv-loop μ-loop
-loop-again c = (omega arith, c .before .before .loop .inv .1, sym (among-passed (c .before .before .loop .at) _ (omega arith) _ (c .if1 .left)) ∙ c .before .before .loop .inv .2)
+loop-again c = (
+  omega arith,
+  c .before .before .loop .inv .1,
+  sym (among-passed (c .before .before .loop .at) _ (omega arith) _ (c .if1 .left)) ∙ c .before .before .loop .inv .2,
+)
 
 returns-2 : tie.Need-returns-2 Inv-loop μ-loop
 returns-2 c = among-end (c .before .loop .at) _ (omega arith) _ ∙ c .before .loop .inv .2

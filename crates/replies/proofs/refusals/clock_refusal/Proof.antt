@@ -12,7 +12,8 @@ returns : tie.Need-returns
 unfolding verdict clocking
 returns c =
     c .date-first .ensures
-    ∙ ap (dates _ _) (c .before .refuse-if .ensures ∙ ap (λ t. refuseIf t Refusal.PeriodTooLong none) (c .before .before .period-too-long .ensures))
+    ∙ ap (dates _ _) (c .before .refuse-if .ensures
+    ∙ ap (λ t. refuseIf t Refusal.PeriodTooLong none) (c .before .before .period-too-long .ensures))
 
 pub clock-refusal-spec : {M : Type 1} → statement M
 clock-refusal-spec = tie.close (tie.spec (λ c κs. search needs) (λ c κs. search needs) (λ c κs. search needs) returns)

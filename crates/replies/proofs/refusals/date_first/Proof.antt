@@ -12,7 +12,8 @@ unfolding dates
 returns c =
     c .refuse-if2 .ensures
     ∙ ap₂ (λ t rest. refuseIf t Refusal.DatePastEnd rest) (c .before .before .before .past-end .ensures)
-    (c .before .refuse-if .ensures ∙ ap (λ t. refuseIf t Refusal.DateWentBack (verdict (c .before .before .before .before .args .rest))) (c .before .before .went-back .ensures))
+    (c .before .refuse-if .ensures ∙ ap (λ t. refuseIf t Refusal.DateWentBack (verdict (c .before .before .before .before .args .rest)))
+    (c .before .before .went-back .ensures))
 
 pub date-first-spec : {M : Type 1} → statement M
 date-first-spec = tie.close (tie.spec (λ c κs. search needs) (λ c κs. search needs) (λ c κs. search needs) (λ c κs. search needs) returns)

@@ -12,7 +12,8 @@ returns : tie.Need-returns
 unfolding verdict sending
 returns c =
     c .date-first .ensures
-    ∙ ap (dates _ _) (c .before .refuse-if .ensures ∙ ap (λ t. refuseIf t Refusal.TransmitFull none) (c .before .before .transmit-full .ensures))
+    ∙ ap (dates _ _) (c .before .refuse-if .ensures
+    ∙ ap (λ t. refuseIf t Refusal.TransmitFull none) (c .before .before .transmit-full .ensures))
 
 pub send-refusal-spec : {M : Type 1} → statement M
 send-refusal-spec = tie.close (tie.spec (λ c κs. search needs) (λ c κs. search needs) (λ c κs. search needs) returns)

@@ -17,11 +17,23 @@ returns c = rw (← c .before .before .digit .ensures, lt-ltb _ _ (c .if1 .taken
 
 returns-2 : tie.Need-returns-2
 unfolding pairValue
-returns-2 c = rw (← c .before .before .before .digit .ensures, ← c .before .before .digit2 .ensures, le-ltb _ _ (c .before .if1 .left), lt-ltb _ _ (c .if2 .taken))
+returns-2 c =
+    rw (
+      ← c .before .before .before .digit .ensures,
+      ← c .before .before .digit2 .ensures,
+      le-ltb _ _ (c .before .if1 .left),
+      lt-ltb _ _ (c .if2 .taken),
+    )
 
 returns-3 : tie.Need-returns-3
 unfolding pairValue
-returns-3 c = rw (← c .before .before .before .digit .ensures, ← c .before .before .digit2 .ensures, le-ltb _ _ (c .before .if1 .left), le-ltb _ _ (c .if2 .left))
+returns-3 c =
+    rw (
+      ← c .before .before .before .digit .ensures,
+      ← c .before .before .digit2 .ensures,
+      le-ltb _ _ (c .before .if1 .left),
+      le-ltb _ _ (c .if2 .left),
+    )
 
 pub pair-spec : {M : Type 1} → statement M
 pair-spec = tie.close (tie.spec digit-requires digit-requires-2 returns returns-2 (λ c. search needs) (λ c. search needs) returns-3)

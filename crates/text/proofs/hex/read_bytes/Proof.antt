@@ -20,8 +20,10 @@ returns-2 c =
 returns-3 : tie.Need-returns-3
 returns-3 c =
     let e = sym (c .before .before .before .before .before .before .same .ensures) ∙ c .before .before .before .before .before .if1 .left in
-    let p = c .before .before .read-pairs .ensures in
-    (p .0 ∙ simp (e, le-ltb _ _ (c .before .before .before .before .if2 .left)), p .1 ∙ simp (e, le-ltb _ _ (c .before .before .before .before .if2 .left)))
+    let p = c .before .before .read-pairs .ensures in (
+      p .0 ∙ simp (e, le-ltb _ _ (c .before .before .before .before .if2 .left)),
+      p .1 ∙ simp (e, le-ltb _ _ (c .before .before .before .before .if2 .left)),
+    )
 
 pub read-bytes-spec : {M : Type 1} → statement M
 read-bytes-spec =

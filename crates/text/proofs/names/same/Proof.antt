@@ -22,7 +22,8 @@ loop-holds c = refl
 
 returns-2 : tie.Need-returns-2 Inv-loop μ-loop
 returns-2 c =
-    sym (c .before .before .before .before .loop .inv ∙ same-differ _ _ _ (c .before .before .before .loop-test .taken) (omega arith) (c .if2 .taken))
+    sym (c .before .before .before .before .loop .inv
+    ∙ same-differ _ _ _ (c .before .before .before .loop-test .taken) (omega arith) (c .if2 .taken))
 
 loop-again : tie.Need-loop-again Inv-loop μ-loop
 loop-again c =

@@ -37,7 +37,8 @@ digit-requires c κs = tt
 returns-2 : tie.Need-returns-2 Inv-loop μ-loop
 returns-2 c =
     let w = c .before .before .before .before .loop in
-    sym (w .inv .3 ∙ no-digit _ _ _ _ (w .value) _ (c .before .before .before .loop-test .taken) (c .before .digit .ensures) (c .if2 .taken))
+    sym (w .inv .3 ∙ no-digit _ _ _ _ (w .value) _ (c .before .before .before .loop-test .taken) (c .before .digit .ensures)
+    (c .if2 .taken))
 
 returns-3 : tie.Need-returns-3 Inv-loop μ-loop
 returns-3 c =
@@ -45,7 +46,9 @@ returns-3 c =
     let a = entry .args in
     let w = c .before .before .before .before .before .loop in
     let big = shifted-high (a .base) (a .limit) (w .value) (c .before .before .digit .result) (entry .pre) (omega arith) in
-    let large = too-large _ _ _ _ (w .value) _ (c .before .before .before .before .loop-test .taken) (c .before .before .digit .ensures) (entry .pre) big in
+    let large =
+    too-large _ _ _ _ (w .value) _ (c .before .before .before .before .loop-test .taken) (c .before .before .digit .ensures)
+    (entry .pre) big in
     sym (w .inv .3 ∙ large)
 
 mul-shifted : tie.Need-mul-shifted Inv-loop μ-loop
@@ -68,7 +71,9 @@ returns-4 c =
     let a = entry .args in
     let w = c .before .before .before .before .before .before .loop in
     let d = c .before .before .before .digit .result in
-    let large = too-large (a .base) (a .limit) (a .s .now) (w .i) (w .value) d (c .before .before .before .before .before .loop-test .taken) (c .before .before .before .digit .ensures) (entry .pre) (omega arith) in
+    let large =
+    too-large (a .base) (a .limit) (a .s .now) (w .i) (w .value) d (c .before .before .before .before .before .loop-test .taken)
+    (c .before .before .before .digit .ensures) (entry .pre) (omega arith) in
     sym (w .inv .3 ∙ large)
 
 add-value : tie.Need-add-value Inv-loop μ-loop
@@ -87,7 +92,8 @@ loop-again c =
       omega arith,
       omega arith,
       w .inv .2,
-      w .inv .3 ∙ digit-on _ _ _ _ (w .value) _ (c .before .before .before .before .before .loop-test .taken) (c .before .before .before .digit .ensures) (c .before .before .if2 .left),
+      w .inv .3 ∙ digit-on _ _ _ _ (w .value) _ (c .before .before .before .before .before .loop-test .taken)
+          (c .before .before .before .digit .ensures) (c .before .before .if2 .left),
     )
 
 returns-5 : tie.Need-returns-5 Inv-loop μ-loop

@@ -25,7 +25,8 @@ unfolding numberOf
 returns-3 c =
     c .digits-from3 .ensures
     ∙ simp (
-      prefix-long (c .before .before .before .before .before .before .before .args .s .now) (c .before .before .before .before .before .if1 .left),
+      prefix-long (c .before .before .before .before .before .before .before .args .s .now)
+          (c .before .before .before .before .before .if1 .left),
       eq-eqb _ _ (c .before .before .before .if2 .left),
       ne-eqb _ _ (c .before .if3 .taken),
     )
@@ -35,7 +36,8 @@ unfolding numberOf
 returns-4 c =
     c .digits-from4 .ensures
     ∙ simp (
-      prefix-long (c .before .before .before .before .before .before .before .args .s .now) (c .before .before .before .before .before .if1 .left),
+      prefix-long (c .before .before .before .before .before .before .before .args .s .now)
+          (c .before .before .before .before .before .if1 .left),
       eq-eqb _ _ (c .before .before .before .if2 .left),
       eq-eqb _ _ (c .before .if3 .left),
     )

@@ -39,7 +39,8 @@ loop-again c =
     let w = c .before .before .loop in
     let b = getD (a .s .now) (w .i) 0 in (
       omega arith,
-      ap (λ (l : List ℕ). set l (a .at + w .i) b) (w .inv .1) ∙ paste-suc (a .out .now) (a .at) (a .s .now) (w .i) 0 (omega arith) (omega arith)
+      ap (λ (l : List ℕ). set l (a .at + w .i) b) (w .inv .1)
+          ∙ paste-suc (a .out .now) (a .at) (a .s .now) (w .i) 0 (omega arith) (omega arith)
           ∙ ap (paste (a .out .now) (a .at) (a .s .now)) (sym (add-one (w .i))),
       length-set (w .out) (a .at + w .i) b ∙ w .inv .2,
     )

@@ -20,12 +20,15 @@ room-requires : tie.Need-room-requires
 room-requires c κs = tt
 
 returns-2 : tie.Need-returns-2
-returns-2 c = let s = c .before .before .before .before .before .args .s .now in rw (text-some s (omega arith)) (put-none _ _ _ (omega (arith, pairs-length s)))
+returns-2 c =
+    let s = c .before .before .before .before .before .args .s .now in
+    rw (text-some s (omega arith)) (put-none _ _ _ (omega (arith, pairs-length s)))
 
 returns-3 : tie.Need-returns-3
 returns-3 c =
     let s = c .before .before .before .before .before .before .before .before .before .args .s .now in
-    rw (text-some s (omega arith)) (put-all _ _ _ _ _ (omega (arith, pairs-length s)) (c .before .before .spell-pairs .ensures) (omega (arith, pairs-length s)))
+    rw (text-some s (omega arith)) (put-all _ _ _ _ _ (omega (arith, pairs-length s)) (c .before .before .spell-pairs .ensures)
+    (omega (arith, pairs-length s)))
 
 pub put-bytes-spec : {M : Type 1} → statement M
 put-bytes-spec =

@@ -37,7 +37,8 @@ loop-again c =
     let a = c .before .before .before .before .before .before .before .before .args in
     let w = c .before .before .before .before .before .loop in (
       omega arith,
-      pairs-on (a .s .now) (a .out .now) (w .out) (a .at) (w .i) _ _ (omega arith) (omega arith) (w .inv .1) (c .before .before .high-letter .ensures) (c .low-letter .ensures),
+      pairs-on (a .s .now) (a .out .now) (w .out) (a .at) (w .i) _ _ (omega arith) (omega arith) (w .inv .1)
+          (c .before .before .high-letter .ensures) (c .low-letter .ensures),
       simp length-set (w .inv .2),
     )
 

@@ -20,11 +20,13 @@ loop-holds c = refl
 
 returns : tie.Need-returns Inv-loop μ-loop
 returns c =
-    sym (c .before .before .before .loop .inv ∙ seek-here (isOther (c .before .before .before .before .args .byte)) _ _ (c .before .before .loop-test .taken) (ap not (ne-eqb _ _ (c .if1 .taken))))
+    sym (c .before .before .before .loop .inv ∙ seek-here (isOther (c .before .before .before .before .args .byte)) _ _
+    (c .before .before .loop-test .taken) (ap not (ne-eqb _ _ (c .if1 .taken))))
 
 loop-again : tie.Need-loop-again Inv-loop μ-loop
 loop-again c =
-    c .before .before .before .loop .inv ∙ seek-on (isOther (c .before .before .before .before .args .byte)) _ _ (c .before .before .loop-test .taken) (ap not (eq-eqb _ _ (c .if1 .left)))
+    c .before .before .before .loop .inv ∙ seek-on (isOther (c .before .before .before .before .args .byte)) _ _
+    (c .before .before .loop-test .taken) (ap not (eq-eqb _ _ (c .if1 .left)))
 
 returns-2 : tie.Need-returns-2 Inv-loop μ-loop
 returns-2 c = sym (c .before .loop .inv ∙ seek-end (isOther (c .before .before .args .byte)) _ _ (c .loop-test .left))

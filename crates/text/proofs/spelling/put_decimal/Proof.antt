@@ -14,7 +14,8 @@ returns : tie.Need-returns
 returns c =
     let d = c .before .before .before .before .before .before .before .spell-decimal in
     let l = d .last .0 in
-    rw (take-all (20 - d .result) (drop (d .result) l) (omega (arith, length-drop (d .result) l)), d .ensures .1) at (c .before .before .put .ensures)
+    rw (take-all (20 - d .result) (drop (d .result) l) (omega (arith, length-drop (d .result) l)), d .ensures .1) at
+    (c .before .before .put .ensures)
 
 pub put-decimal-spec : {M : Type 1} → statement M
 put-decimal-spec =

@@ -40,7 +40,8 @@ loop-again c =
       omega arith,
       simp length-set (w .inv .1),
       rw s (tenth-low (w .start) (w .rest) (w .inv .2)),
-      w .inv .3 ∙ spelled-on (w .to) (w .start) (w .rest) (c .last-letter .result) (omega arith) (c .last-letter .ensures) (c .before .loop-test .taken) pos,
+      w .inv .3 ∙ spelled-on (w .to) (w .start) (w .rest) (c .last-letter .result) (omega arith) (c .last-letter .ensures)
+          (c .before .loop-test .taken) pos,
     )
 
 last-letter-requires-2 : tie.Need-last-letter-requires-2 Inv-loop μ-loop
@@ -54,8 +55,11 @@ same-length c = simp length-set (omega arith)
 
 returns : tie.Need-returns Inv-loop μ-loop
 returns c =
-    let w = c .before .before .loop in
-    (omega arith, spelled-end (w .to) (w .start) (w .rest) (c .last-letter2 .result) (omega arith) (c .last-letter2 .ensures) (c .before .loop-test .left) ∙ sym (w .inv .3))
+    let w = c .before .before .loop in (
+      omega arith,
+      spelled-end (w .to) (w .start) (w .rest) (c .last-letter2 .result) (omega arith) (c .last-letter2 .ensures)
+          (c .before .loop-test .left) ∙ sym (w .inv .3),
+    )
 
 pub spell-decimal-spec : {M : Type 1} → statement M
 spell-decimal-spec =

@@ -22,7 +22,8 @@ returns : tie.Need-returns
 returns c =
     let a = c .before .before .before .before .args in
     let s = a .s .now in
-    let start : c .before .skip .result ≡ wordStart s (a .at) = c .before .skip .ensures ∙ ap (seek (isOther space) s) (c .before .before .within .ensures .1) in
+    let start : c .before .skip .result ≡ wordStart s (a .at) =
+    c .before .skip .ensures ∙ ap (seek (isOther space) s) (c .before .before .within .ensures .1) in
     let end : c .seek .result ≡ wordEnd s (a .at) = c .seek .ensures ∙ ap (seek (isByte space) s) start in
     let from : wordStart s (a .at) ≤ length s = seek-within (isOther space) s (min (a .at) (length s)) (omega arith) in
     record {

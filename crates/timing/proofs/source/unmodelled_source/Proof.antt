@@ -23,7 +23,8 @@ returns-3 c = sym (ap unmodelled (sym (c .before .sclk-sel .ensures) ∙ c .matc
 
 returns-4 : tie.Need-returns-4
 unfolding unmodelledSource
-returns-4 c = sym (modelled _ (omega (arith, c .before .sclk-sel .ensures, c .match .rest .0 .0 .1, c .match .rest .0 .1, c .match .rest .1)))
+returns-4 c =
+    sym (modelled _ (omega (arith, c .before .sclk-sel .ensures, c .match .rest .0 .0 .1, c .match .rest .0 .1, c .match .rest .1)))
 
 pub unmodelled-source-spec : {M : Type 1} → statement M
 unmodelled-source-spec = tie.close (tie.spec sclk-sel-requires returns returns-2 returns-3 returns-4)

@@ -16,7 +16,8 @@ unfolding bitAt
 returns c =
     let a = c .before .before .before .before .args in
     let w = c .before .before .next-word in
-    c .missing .ensures ∙ no-word (a .s .now) (a .at) (w .result) (w .ensures .next) (missing (a .s .now)) (bitIn (a .s .now)) (c .before .if1 .taken)
+    c .missing .ensures ∙ no-word (a .s .now) (a .at) (w .result) (w .ensures .next) (missing (a .s .now)) (bitIn (a .s .now))
+    (c .before .if1 .taken)
 
 sub-part : tie.Need-sub-part
 sub-part c = c .before .next-word .ensures .ordered
@@ -39,7 +40,8 @@ returns-2 c =
     let a = c .before .before .before .before .before .before .before .args in
     let w = c .before .before .before .before .before .next-word in
     bit-zero (a .s .now) (w .result) (sym (c .before .same .ensures) ∙ c .if2 .taken)
-    ∙ some-word (a .s .now) (a .at) (w .result) (w .ensures .next) (missing (a .s .now)) (bitIn (a .s .now)) (c .before .before .before .before .if1 .left)
+    ∙ some-word (a .s .now) (a .at) (w .result) (w .ensures .next) (missing (a .s .now)) (bitIn (a .s .now))
+    (c .before .before .before .before .if1 .left)
 
 slice-aggregate-same-2 : tie.Need-slice-aggregate-same-2
 slice-aggregate-same-2 c = refl
@@ -52,8 +54,10 @@ unfolding bitAt
 returns-3 c =
     let a = c .before .before .before .before .before .before .before .before .before .before .args in
     let w = c .before .before .before .before .before .before .before .before .next-word in
-    bit-one (a .s .now) (w .result) (sym (c .before .before .before .before .same .ensures) ∙ c .before .before .before .if2 .left) (sym (c .before .same2 .ensures) ∙ c .if3 .taken)
-    ∙ some-word (a .s .now) (a .at) (w .result) (w .ensures .next) (missing (a .s .now)) (bitIn (a .s .now)) (c .before .before .before .before .before .before .before .if1 .left)
+    bit-one (a .s .now) (w .result) (sym (c .before .before .before .before .same .ensures) ∙ c .before .before .before .if2 .left)
+    (sym (c .before .same2 .ensures) ∙ c .if3 .taken)
+    ∙ some-word (a .s .now) (a .at) (w .result) (w .ensures .next) (missing (a .s .now)) (bitIn (a .s .now))
+    (c .before .before .before .before .before .before .before .if1 .left)
 
 wrong-requires : tie.Need-wrong-requires
 wrong-requires c κs = tt
@@ -64,8 +68,10 @@ returns-4 c =
     let a = c .before .before .before .before .before .before .before .before .before .before .before .args in
     let w = c .before .before .before .before .before .before .before .before .before .next-word in
     c .wrong .ensures
-    ∙ no-bit (a .s .now) (w .result) (sym (c .before .before .before .before .before .same .ensures) ∙ c .before .before .before .before .if2 .left) (sym (c .before .before .same2 .ensures) ∙ c .before .if3 .left)
-    ∙ some-word (a .s .now) (a .at) (w .result) (w .ensures .next) (missing (a .s .now)) (bitIn (a .s .now)) (c .before .before .before .before .before .before .before .before .if1 .left)
+    ∙ no-bit (a .s .now) (w .result) (sym (c .before .before .before .before .before .same .ensures)
+    ∙ c .before .before .before .before .if2 .left) (sym (c .before .before .same2 .ensures) ∙ c .before .if3 .left)
+    ∙ some-word (a .s .now) (a .at) (w .result) (w .ensures .next) (missing (a .s .now)) (bitIn (a .s .now))
+    (c .before .before .before .before .before .before .before .before .if1 .left)
 
 pub read-bit-spec : {M : Type 1} → statement M
 read-bit-spec =

@@ -18,7 +18,8 @@ returns c =
     let a = c .before .before .before .before .before .args in
     let w = c .before .before .next-word in
     let none = c .before .if1 .taken in (
-      c .missing .ensures ∙ no-word (a .s .now) (a .at) (w .result) (w .ensures .next) (missing (a .s .now)) (bytesStepIn (length (a .bytes .now)) (a .s .now)) none,
+      c .missing .ensures ∙ no-word (a .s .now) (a .at) (w .result) (w .ensures .next) (missing (a .s .now))
+          (bytesStepIn (length (a .bytes .now)) (a .s .now)) none,
       no-word (a .s .now) (a .at) (w .result) (w .ensures .next) (a .bytes .now) (bytesKeptIn (a .s .now) (a .bytes .now)) none,
     )
 
@@ -59,8 +60,10 @@ returns-2 c =
     let w = c .before .before .before .before .before .before .before .before .before .next-word in
     let read = sym (c .before .read .given .1) ∙ c .before .before .before .before .before .read-bytes .ensures .0 in
     let some = c .before .before .before .before .before .before .before .before .if1 .left in (
-      ap (bytesStep (w .result)) read ∙ some-word (a .s .now) (a .at) (w .result) (w .ensures .next) (missing (a .s .now)) (bytesStepIn (length (a .bytes .now)) (a .s .now)) some,
-      c .before .before .before .before .before .read-bytes .ensures .1 ∙ some-word (a .s .now) (a .at) (w .result) (w .ensures .next) _ (bytesKeptIn (a .s .now) (a .bytes .now)) some,
+      ap (bytesStep (w .result)) read ∙ some-word (a .s .now) (a .at) (w .result) (w .ensures .next) (missing (a .s .now))
+          (bytesStepIn (length (a .bytes .now)) (a .s .now)) some,
+      c .before .before .before .before .before .read-bytes .ensures .1
+          ∙ some-word (a .s .now) (a .at) (w .result) (w .ensures .next) _ (bytesKeptIn (a .s .now) (a .bytes .now)) some,
     )
 
 same-length-2 : tie.Need-same-length-2
@@ -73,8 +76,11 @@ returns-3 c =
     let w = c .before .before .before .before .before .before .before .before .before .next-word in
     let read = sym (c .before .enum-told .given .1) ∙ c .before .before .before .before .before .read-bytes .ensures .0 in
     let some = c .before .before .before .before .before .before .before .before .if1 .left in (
-      c .wrong .ensures ∙ ap (bytesStep (w .result)) read ∙ some-word (a .s .now) (a .at) (w .result) (w .ensures .next) (missing (a .s .now)) (bytesStepIn (length (a .bytes .now)) (a .s .now)) some,
-      c .before .before .before .before .before .read-bytes .ensures .1 ∙ some-word (a .s .now) (a .at) (w .result) (w .ensures .next) _ (bytesKeptIn (a .s .now) (a .bytes .now)) some,
+      c .wrong .ensures ∙ ap (bytesStep (w .result)) read
+          ∙ some-word (a .s .now) (a .at) (w .result) (w .ensures .next) (missing (a .s .now))
+          (bytesStepIn (length (a .bytes .now)) (a .s .now)) some,
+      c .before .before .before .before .before .read-bytes .ensures .1
+          ∙ some-word (a .s .now) (a .at) (w .result) (w .ensures .next) _ (bytesKeptIn (a .s .now) (a .bytes .now)) some,
     )
 
 same-length-3 : tie.Need-same-length-3
@@ -87,8 +93,11 @@ returns-4 c =
     let w = c .before .before .before .before .before .before .before .before .before .next-word in
     let read = sym (c .before .enum-told2 .given .1) ∙ c .before .before .before .before .before .read-bytes .ensures .0 in
     let some = c .before .before .before .before .before .before .before .before .if1 .left in (
-      c .wrong2 .ensures ∙ ap (bytesStep (w .result)) read ∙ some-word (a .s .now) (a .at) (w .result) (w .ensures .next) (missing (a .s .now)) (bytesStepIn (length (a .bytes .now)) (a .s .now)) some,
-      c .before .before .before .before .before .read-bytes .ensures .1 ∙ some-word (a .s .now) (a .at) (w .result) (w .ensures .next) _ (bytesKeptIn (a .s .now) (a .bytes .now)) some,
+      c .wrong2 .ensures ∙ ap (bytesStep (w .result)) read
+          ∙ some-word (a .s .now) (a .at) (w .result) (w .ensures .next) (missing (a .s .now))
+          (bytesStepIn (length (a .bytes .now)) (a .s .now)) some,
+      c .before .before .before .before .before .read-bytes .ensures .1
+          ∙ some-word (a .s .now) (a .at) (w .result) (w .ensures .next) _ (bytesKeptIn (a .s .now) (a .bytes .now)) some,
     )
 
 pub read-hex-spec : {M : Type 1} → statement M

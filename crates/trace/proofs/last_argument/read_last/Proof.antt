@@ -39,14 +39,18 @@ returns c =
 returns-2 : tie.Need-returns-2
 returns-2 c =
     let a = c .before .before .before .before .before .before .args in
-    let last = sym (ap (λ (f : Form). f .last) (c .before .before .before .form-of .ensures)) ∙ c .before .enum-told2 .given .1 in
-    (c .read-bit .ensures ∙ sym (ap (kindStep (length (a .bytes .now)) (a .s .now) (a .at)) last), sym (ap (kindKept (a .s .now) (a .at) (a .bytes .now)) last))
+    let last = sym (ap (λ (f : Form). f .last) (c .before .before .before .form-of .ensures)) ∙ c .before .enum-told2 .given .1 in (
+      c .read-bit .ensures ∙ sym (ap (kindStep (length (a .bytes .now)) (a .s .now) (a .at)) last),
+      sym (ap (kindKept (a .s .now) (a .at) (a .bytes .now)) last),
+    )
 
 returns-3 : tie.Need-returns-3
 returns-3 c =
     let a = c .before .before .before .before .before .before .args in
-    let last = sym (ap (λ (f : Form). f .last) (c .before .before .before .form-of .ensures)) ∙ c .before .enum-told3 .given .1 in
-    (c .read-one .ensures ∙ sym (ap (kindStep (length (a .bytes .now)) (a .s .now) (a .at)) last), sym (ap (kindKept (a .s .now) (a .at) (a .bytes .now)) last))
+    let last = sym (ap (λ (f : Form). f .last) (c .before .before .before .form-of .ensures)) ∙ c .before .enum-told3 .given .1 in (
+      c .read-one .ensures ∙ sym (ap (kindStep (length (a .bytes .now)) (a .s .now) (a .at)) last),
+      sym (ap (kindKept (a .s .now) (a .at) (a .bytes .now)) last),
+    )
 
 same-length : tie.Need-same-length
 same-length c = c .before .before .read-hex .kept .1 .1 .0
@@ -54,8 +58,12 @@ same-length c = c .before .before .read-hex .kept .1 .1 .0
 returns-4 : tie.Need-returns-4
 returns-4 c =
     let a = c .before .before .before .before .before .before .before .before .before .args in
-    let last = sym (ap (λ (f : Form). f .last) (c .before .before .before .before .before .before .form-of .ensures)) ∙ c .before .before .before .before .enum-told4 .given .1 in
-    (c .before .before .read-hex .ensures .0 ∙ sym (ap (kindStep (length (a .bytes .now)) (a .s .now) (a .at)) last), c .before .before .read-hex .ensures .1 ∙ sym (ap (kindKept (a .s .now) (a .at) (a .bytes .now)) last))
+    let last =
+    sym (ap (λ (f : Form). f .last) (c .before .before .before .before .before .before .form-of .ensures))
+    ∙ c .before .before .before .before .enum-told4 .given .1 in (
+      c .before .before .read-hex .ensures .0 ∙ sym (ap (kindStep (length (a .bytes .now)) (a .s .now) (a .at)) last),
+      c .before .before .read-hex .ensures .1 ∙ sym (ap (kindKept (a .s .now) (a .at) (a .bytes .now)) last),
+    )
 
 pub read-last-spec : {M : Type 1} → statement M
 read-last-spec =

@@ -21,7 +21,8 @@ returns c =
     let none = c .if1 .taken in (
       blank (a .s .now) (w .result) (w .ensures .next) Line.Nothing (lineNamed (length (a .bytes .now)) (a .s .now)) none,
       (
-        ap (λ (l : List ℕ). stored l (a .numbers .now)) (blank (a .s .now) (w .result) (w .ensures .next) [] (numbersNamed (a .s .now)) none),
+        ap (λ (l : List ℕ). stored l (a .numbers .now))
+            (blank (a .s .now) (w .result) (w .ensures .next) [] (numbersNamed (a .s .now)) none),
         blank (a .s .now) (w .result) (w .ensures .next) (a .bytes .now) (bytesNamed (a .s .now) (a .bytes .now)) none,
       ),
     )
@@ -34,7 +35,8 @@ returns-2 c =
     let some = c .before .before .if1 .left in (
       comment (a .s .now) (w .result) (w .ensures .next) Line.Nothing (lineNamed (length (a .bytes .now)) (a .s .now)) some (c .if2 .taken),
       (
-        ap (λ (l : List ℕ). stored l (a .numbers .now)) (comment (a .s .now) (w .result) (w .ensures .next) [] (numbersNamed (a .s .now)) some (c .if2 .taken)),
+        ap (λ (l : List ℕ). stored l (a .numbers .now))
+            (comment (a .s .now) (w .result) (w .ensures .next) [] (numbersNamed (a .s .now)) some (c .if2 .taken)),
         comment (a .s .now) (w .result) (w .ensures .next) (a .bytes .now) (bytesNamed (a .s .now) (a .bytes .now)) some (c .if2 .taken),
       ),
     )
@@ -67,7 +69,8 @@ returns-3 c =
     let name = sym (c .before .before .name-of .ensures) ∙ c .enum-told .given .1 in (
       called (a .s .now) (w .result) (w .ensures .next) Line.Nothing (lineNamed (length (a .bytes .now)) (a .s .now)) some other _ name,
       (
-        ap (λ (l : List ℕ). stored l (a .numbers .now)) (called (a .s .now) (w .result) (w .ensures .next) [] (numbersNamed (a .s .now)) some other _ name),
+        ap (λ (l : List ℕ). stored l (a .numbers .now))
+            (called (a .s .now) (w .result) (w .ensures .next) [] (numbersNamed (a .s .now)) some other _ name),
         called (a .s .now) (w .result) (w .ensures .next) (a .bytes .now) (bytesNamed (a .s .now) (a .bytes .now)) some other _ name,
       ),
     )
@@ -80,16 +83,23 @@ same-length c = c .before .before .read-words .kept .1 .1 .1 .1 .0
 
 returns-4 : tie.Need-returns-4
 returns-4 c =
-    let a = c .before .before .before .before .before .before .before .before .before .before .before .before .before .before .before .before .args in
+    let a =
+    c .before .before .before .before .before .before .before .before .before .before .before .before .before .before .before
+    .before .args in
     let w = c .before .before .before .before .before .before .before .before .before .before .before .before .before .next-word in
     let some = c .before .before .before .before .before .before .before .before .before .before .before .before .if1 .left in
     let other = c .before .before .before .before .before .before .before .before .before .before .if2 .left in
-    let name = sym (c .before .before .before .before .before .before .before .before .name-of .ensures) ∙ c .before .before .before .before .before .before .named .given .1 in
+    let name =
+    sym (c .before .before .before .before .before .before .before .before .name-of .ensures)
+    ∙ c .before .before .before .before .before .before .named .given .1 in
     let read = c .before .before .read-words .ensures in (
-      read .0 ∙ called (a .s .now) (w .result) (w .ensures .next) Line.Nothing (lineNamed (length (a .bytes .now)) (a .s .now)) some other _ name,
+      read .0 ∙ called (a .s .now) (w .result) (w .ensures .next) Line.Nothing (lineNamed (length (a .bytes .now)) (a .s .now)) some
+          other _ name,
       (
-        read .1 .0 ∙ ap (λ (l : List ℕ). stored l (a .numbers .now)) (called (a .s .now) (w .result) (w .ensures .next) [] (numbersNamed (a .s .now)) some other _ name),
-        read .1 .1 ∙ called (a .s .now) (w .result) (w .ensures .next) (a .bytes .now) (bytesNamed (a .s .now) (a .bytes .now)) some other _ name,
+        read .1 .0 ∙ ap (λ (l : List ℕ). stored l (a .numbers .now))
+            (called (a .s .now) (w .result) (w .ensures .next) [] (numbersNamed (a .s .now)) some other _ name),
+        read .1 .1 ∙ called (a .s .now) (w .result) (w .ensures .next) (a .bytes .now) (bytesNamed (a .s .now) (a .bytes .now)) some
+            other _ name,
       ),
     )
 

@@ -26,7 +26,8 @@ returns c =
     let a = c .before .before .before .before .before .before .before .before .before .before .before .args in
     let read = c .before .before .before .before .before .before .before .read-numbers .ensures in
     let step = sym (read .0) ∙ c .before .before .before .before .before .read .given .1 in (
-      c .before .before .read-rest .ensures .0 ∙ sym (ap (λ (p : Step). after p (λ to n. restAt (length (a .bytes .now)) (a .s .now) (a .name) to)) step),
+      c .before .before .read-rest .ensures .0 ∙ sym
+          (ap (λ (p : Step). after p (λ to n. restAt (length (a .bytes .now)) (a .s .now) (a .name) to)) step),
       (read .1, c .before .before .read-rest .ensures .1 ∙ sym (ap (keptAfter (a .s .now) (a .name) (a .bytes .now)) step)),
     )
 

@@ -24,8 +24,12 @@ loop-again : tie.Need-loop-again Inv-loop μ-loop
 loop-again c =
     let start = c .before .before .before in
     let inv = c .before .before .loop .inv in
-    let size : length (start .args .t1) ≡ 32 = search needs in
-    (omega arith, low-one _ (start .args .t1) _ (start .args .from) (c .before .before .loop .i) _ (inv .2) size (omega arith) (omega arith) (inv .1) (c .low .ensures), inv .2)
+    let size : length (start .args .t1) ≡ 32 = search needs in (
+      omega arith,
+      low-one _ (start .args .t1) _ (start .args .from) (c .before .before .loop .i) _ (inv .2) size (omega arith) (omega arith)
+          (inv .1) (c .low .ensures),
+      inv .2,
+    )
 
 returns : tie.Need-returns Inv-loop μ-loop
 returns c =

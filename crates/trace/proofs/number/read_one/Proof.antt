@@ -19,7 +19,8 @@ unfolding numberAt
 returns c =
     let a = c .before .before .before .before .args in
     let w = c .before .before .next-word in
-    c .missing .ensures ∙ no-word (a .s .now) (a .at) (w .result) (w .ensures .next) _ (numberIn (a .s .now) (a .kind)) (c .before .if1 .taken)
+    c .missing .ensures ∙ no-word (a .s .now) (a .at) (w .result) (w .ensures .next) _ (numberIn (a .s .now) (a .kind))
+    (c .before .if1 .taken)
 
 sub-read-number : tie.Need-sub-read-number
 sub-read-number c = c .before .next-word .ensures .ordered
@@ -53,20 +54,26 @@ unfolding numberAt
 returns-2 c =
     let a = c .before .before .before .before .before .before .before .before .before .args in
     let w = c .before .before .before .before .before .before .before .next-word in
-    let read = c .before .before .before .read-number .ensures ∙ ap (λ (k : ℕ). numberOf k (bytesIn (a .s .now) (w .result))) (c .before .before .before .before .limit-of .ensures) in
+    let read =
+    c .before .before .before .read-number .ensures
+    ∙ ap (λ (k : ℕ). numberOf k (bytesIn (a .s .now) (w .result))) (c .before .before .before .before .limit-of .ensures) in
     ap (numberStep (a .kind) (w .result)) (sym (c .before .number .given .1) ∙ read)
-    ∙ some-word (a .s .now) (a .at) (w .result) (w .ensures .next) (missing (a .s .now)) (numberIn (a .s .now) (a .kind)) (c .before .before .before .before .before .before .if1 .left)
+    ∙ some-word (a .s .now) (a .at) (w .result) (w .ensures .next) (missing (a .s .now)) (numberIn (a .s .now) (a .kind))
+    (c .before .before .before .before .before .before .if1 .left)
 
 returns-3 : tie.Need-returns-3
 unfolding numberAt
 returns-3 c =
     let a = c .before .before .before .before .before .before .before .before .before .before .args in
     let w = c .before .before .before .before .before .before .before .before .next-word in
-    let read = c .before .before .before .before .read-number .ensures ∙ ap (λ (k : ℕ). numberOf k (bytesIn (a .s .now) (w .result))) (c .before .before .before .before .before .limit-of .ensures) in
+    let read =
+    c .before .before .before .before .read-number .ensures
+    ∙ ap (λ (k : ℕ). numberOf k (bytesIn (a .s .now) (w .result))) (c .before .before .before .before .before .limit-of .ensures) in
     c .wrong .ensures
     ∙ ap (λ (r : Reason). wrong r (w .result)) (c .before .reason-of .ensures)
     ∙ ap (numberStep (a .kind) (w .result)) (sym (c .before .before .enum-told .given .1) ∙ read)
-    ∙ some-word (a .s .now) (a .at) (w .result) (w .ensures .next) (missing (a .s .now)) (numberIn (a .s .now) (a .kind)) (c .before .before .before .before .before .before .before .if1 .left)
+    ∙ some-word (a .s .now) (a .at) (w .result) (w .ensures .next) (missing (a .s .now)) (numberIn (a .s .now) (a .kind))
+    (c .before .before .before .before .before .before .before .if1 .left)
 
 pub read-one-spec : {M : Type 1} → statement M
 read-one-spec =

@@ -1,5 +1,5 @@
--- `numbers::read_each` meets its contract. The loop's invariant: what is left to do is to read the numbers from i on, and to store them there.
--- Assumes nothing.
+-- `numbers::read_each` meets its contract. The loop's invariant: what is left to do is to read the numbers from i on, and to store
+-- them there. Assumes nothing.
 use mathlib.Core.Path.{_≡_, ap, sym, _∙_}
 use Prim.Native.Nat.{ℕ, _-_, _≤_}
 use native.Mathlib.Omega.{arith}
@@ -44,7 +44,9 @@ unfolding storedFrom
 returns c =
     let a = c .before .before .before .before .before .before .before .args in
     let w = c .before .before .before .before .before .loop in
-    let one = ap (numberAt (a .s .now) (w .at)) (sym (c .before .before .before .kind-at .ensures)) ∙ sym (c .before .before .read-one .ensures) ∙ c .enum-told .given .1 in
+    let one =
+    ap (numberAt (a .s .now) (w .at)) (sym (c .before .before .before .kind-at .ensures)) ∙ sym (c .before .before .read-one .ensures)
+    ∙ c .enum-told .given .1 in
     let left = number-wrong (a .s .now) (a .wide) (a .count) (w .i) (w .at) (c .before .before .before .before .loop-test .taken) _ one in (
       c .enum-told .given .1 ∙ sym (w .inv .1 ∙ ap (λ (n : Numbers). n .step) left),
       sym (w .inv .2 ∙ ap (λ (n : Numbers). storedFrom (w .i) (n .values) (w .to)) left),
@@ -67,8 +69,11 @@ unfolding storedFrom
 loop-again c =
     let a = c .before .before .before .before .before .before .before .before .args in
     let w = c .before .before .before .before .before .before .loop in
-    let one = ap (numberAt (a .s .now) (w .at)) (sym (c .before .before .before .before .kind-at .ensures)) ∙ sym (c .before .before .before .read-one .ensures) ∙ c .before .one .given .1 in
-    let left = number-on (a .s .now) (a .wide) (a .count) (w .i) (w .at) (c .before .before .before .before .before .loop-test .taken) _ _ one in (
+    let one =
+    ap (numberAt (a .s .now) (w .at)) (sym (c .before .before .before .before .kind-at .ensures))
+    ∙ sym (c .before .before .before .read-one .ensures) ∙ c .before .one .given .1 in
+    let left =
+    number-on (a .s .now) (a .wide) (a .count) (w .i) (w .at) (c .before .before .before .before .before .loop-test .taken) _ _ one in (
       omega arith,
       w .inv .1 ∙ ap (λ (n : Numbers). n .step) left,
       w .inv .2 ∙ ap (λ (n : Numbers). storedFrom (w .i) (n .values) (w .to)) left,

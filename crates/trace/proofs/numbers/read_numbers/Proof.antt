@@ -12,7 +12,8 @@ form-of-requires : tie.Need-form-of-requires
 form-of-requires c κs = tt
 
 read-each-requires : tie.Need-read-each-requires
-read-each-requires c κs = omega (arith, ap (λ (f : Form). f .count) (c .before .form-of .ensures), count-fits (c .before .before .before .args .name))
+read-each-requires c κs =
+    omega (arith, ap (λ (f : Form). f .count) (c .before .form-of .ensures), count-fits (c .before .before .before .args .name))
 
 returns : tie.Need-returns
 returns c =

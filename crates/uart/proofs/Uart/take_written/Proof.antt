@@ -14,7 +14,9 @@ after-take-requires : tie.Need-after-take-requires
 after-take-requires c κs = tt
 
 returns : tie.Need-returns
-returns c = rw (c .after-take .ensures) (c .before .before .before .take-written .ensures _ refl refl (c .before .before .before .before .before .before .before .before .before .before .pre))
+returns c =
+    rw (c .after-take .ensures) (c .before .before .before .take-written .ensures _ refl refl
+    (c .before .before .before .before .before .before .before .before .before .before .pre))
 
 pub take-written-spec : {M : Type 1} → statement M
 take-written-spec = tie.close (tie.spec take-written-requires after-take-requires (λ c. search needs) returns)
