@@ -85,6 +85,7 @@ holds MemConf = true
 holds MemRxStatus = false
 holds Unknown = false
 
+-- the nine words by their order
 abbrev pub wordsFrom : ℕ → ℕ → ℕ → ℕ → ℕ → ℕ → ℕ → ℕ → ℕ → Words
 wordsFrom intEna clkdiv conf0 conf1 clkConf idleConf rs485Conf atCmdChar memConf = record {
   «int_ena» = intEna;

@@ -59,6 +59,7 @@ abbrev pub withLineFreeAt : ℕ → Line → Line
 withLineFreeAt v l =
     record { «int_raw» = l .«int_raw»; «rx_mistimed» = l .«rx_mistimed»; «idle_since» = l .«idle_since»; «line_free_at» = v }
 
+-- a control by its parts in their order, so that a line below shows which one changes
 abbrev pub controlFrom : Words → Line → ℕ → ℕ → Date → Bool → Date → Bool → Control
 controlFrom words line period last wake watched poweredDownAt level = record {
   words = words;
@@ -96,6 +97,7 @@ abbrev pub withLevel : Bool → Control → Control
 withLevel v c = controlFrom (c .words) (c .line) (c .period) (c .last) (c .wake) (c .watched) (c .«powered_down_at») v
 
 module _ {H W : Type 0} where
+  -- a UART by its parts in their order
   abbrev pub uartFrom : RegisterMap → Control → List (Sent W) → List W → List H → List Run → Option (OnTheLine H) → List H → Uart H W
   uartFrom map control inFlight tx host hostRuns receiving rx = record {
     map = map;
