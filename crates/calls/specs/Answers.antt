@@ -1,6 +1,6 @@
 -- The contract of a call over parts: complete reply, report and next state are the definition's, within the limits again; and on
 -- a refusal the core and its slots are those that came in. Assumes nothing.
-use mathlib.Core.Path.{_≡_, refl, sym, ap, subst, _∙_}
+use mathlib.Core.Path.{_≡_, refl, sym, ap, ap₂, subst, _∙_}
 use mathlib.Core.Option.{Option, none, some}
 use mathlib.Core.List.{[]}
 use Prim.Native.Nat.{ℕ, _≤_, _<_}
@@ -72,15 +72,17 @@ module _ {X R : Type 0} (view : X → R) where
       → Works view (afterSettling t work) c′ a′ reply (reportOf c′ n o m)
   unfolding afterSettling
   after {t} {c₁} {a₁} {n} {o} s work {c′} {a′} {reply} {m} x =
-      subst (λ (v : Settle.Settled ℕ ℕ). Works view (afterSettling v work) c′ a′ reply (reportOf c′ n o m)) (s .same)
-      (record {
+      let same : abs c₁ a₁ ≡ t .state = s .gives .state in
+      record {
         shape = x .shape;
-        replies = x .replies;
+        replies = x .replies ∙ ap (λ (u : State.Uart ℕ ℕ). view (work u .reply)) same;
         reports =
             ap (λ (k : Notices). reportOf c′ n o k) (x .notes) ∙ report-of n o _ (abs c′ a′)
-            ∙ ap (λ (u : State.Uart ℕ ℕ). Replies.report n o (work (abs c₁ a₁) .notes) u) (x .state);
-        state = x .state;
-      })
+            ∙ ap (λ (u : State.Uart ℕ ℕ). Replies.report n o (work (abs c₁ a₁) .notes) u) (x .state)
+            ∙ ap (λ (u : State.Uart ℕ ℕ). Replies.report n o (work u .notes) (work u .state)) same
+            ∙ ap₂ (λ (p q : ℕ). Replies.report p q (work (t .state) .notes) (work (t .state) .state)) (s .gives .passes) (s .gives .overflows);
+        state = x .state ∙ ap (λ (u : State.Uart ℕ ℕ). work u .state) same;
+      }
 
   -- without settling
   pub unsettled-works : {r : X} {u : State.Uart ℕ ℕ} {c′ : Core} {a′ : Arrays} → Shape c′ a′ → abs c′ a′ ≡ u

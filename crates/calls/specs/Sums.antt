@@ -7,51 +7,39 @@ use Prim.Native.Nat.{ℕ, _+_, _≤_, _<_}
 use native.Mathlib.Omega.{arith}
 use lib.ListN.{length}
 use Rattle.model.specs.State.{OnTheLine, Uart}
-use Rattle.model.specs.Settle.{Settled, begin, depart, settle, settleTo, settlingDate, settingsOf, leveled, pending, onTheLine}
+use Rattle.model.specs.Settle.{Settled, settle, pending, onTheLine}
 use Rattle.model.specs.Limits.{Within}
 use Rattle.model.specs.Tests.{dateEnd, periodLimit}
-use Rattle.model.specs.Calls.{dated, settleAt, added, clocked, reclocked, clockWork}
+use Rattle.model.specs.Calls.{dated, settleAt, clocked, reclocked, clockWork}
 use Rattle.model.specs.Keeps.Parts.{through}
 use Rattle.model.specs.Keeps.Dated.{moved-parts}
 use Rattle.calls.specs.Answers.{Works, doneCore}
 use Rattle.calls.specs.Changes.{clockedCore, clocked-ok}
 use Rattle.calls.specs.Done.{armed-done}
 use Rattle.calls.specs.declared.answers.DoneCore.{DoneCore}
-use Rattle.model.specs.Ends.Through.{overflowsAmong, lost-adds, ran}
+use Rattle.model.specs.Events.{passesIn, overflowsIn}
+use Rattle.model.specs.Laws.Events.{passes-append, overflows-append, overflows-low}
 use Rattle.model.specs.Ends.NothingDue.{settle-passes}
-use Rattle.model.specs.declared.Found.{Found}
-use Rattle.device.specs.Rounds.{lost-low}
 use Rattle.device.specs.Settles.{Settles}
 use Rattle.device.specs.Arms.{ArmsAny}
 use Rattle.device.specs.Holds.{Arrays, abs, Ok}
 use Rattle.device.specs.declared.Core.{Core}
-
-among-low : (fs : List Found) → overflowsAmong fs ≤ length fs
-unfolding overflowsAmong
-among-low [] = omega arith
-among-low (f ∷ fs) = omega (arith, lost-adds f fs, lost-low f, among-low fs)
 
 one-on : {H : Type 0} (o : Option (OnTheLine H)) → onTheLine o ≤ 1
 unfolding onTheLine
 one-on none = omega arith
 one-on (some l) = omega arith
 
-few-passes : (now : ℕ) (u : Uart ℕ ℕ) → Within u → settle now u .passes ≤ 2052
+few-passes : (now : ℕ) (u : Uart ℕ ℕ) → Within u → passesIn (settle now u .events) ≤ 2052
 unfolding pending
 few-passes now u w = omega (arith, settle-passes now u, w .host, one-on (u .receiving))
-
-fewer-overflows : (now : ℕ) (u : Uart ℕ ℕ) → settle now u .overflows ≤ settle now u .passes
-unfolding settle settleTo leveled begin
-fewer-overflows now u =
-    let r = ran (settingsOf u) (settlingDate now (u .control)) (depart (settlingDate now (u .control)) u) in
-    omega (arith, r .passes, r .overflows, among-low (r .finds))
 
 -- of a settling over parts
 pub few : (now : ℕ) (u : Uart ℕ ℕ) {c : Core} {a : Arrays} {n o : ℕ} → Within u → Settles (settle now u) c a n o → (n ≤ 2052) × (o ≤ 2052)
 few now u w s =
-    let p : _ ≡ settle now u .passes = ap (λ (t : Settled ℕ ℕ). t .passes) (s .same) in
-    let o : _ ≡ settle now u .overflows = ap (λ (t : Settled ℕ ℕ). t .overflows) (s .same) in
-    (omega (arith, p, few-passes now u w), omega (arith, o, fewer-overflows now u, few-passes now u w))
+    let p = s .gives .passes in
+    let o = s .gives .overflows in
+    (omega (arith, p, few-passes now u w), omega (arith, o, overflows-low (settle now u .events), few-passes now u w))
 
 -- the same of one that moves the last date first
 pub few-at : (now : ℕ) (u : Uart ℕ ℕ) {c : Core} {a : Arrays} {n o : ℕ} → Within u → now < dateEnd → Settles (settleAt now u) c a n o
@@ -63,13 +51,22 @@ few-at now u w h s = few now (dated now u) (through u (dated now u) (moved-parts
 pub twice : (now : ℕ) (u : Uart ℕ ℕ) {c₁ : Core} {a₁ : Arrays} {n₁ o₁ : ℕ} {c₂ : Core} {a₂ : Arrays} {n₂ o₂ : ℕ} (period : ℕ)
     → Settles (settleAt now u) c₁ a₁ n₁ o₁ → Settles (settle now (abs (clockedCore period c₁) a₁)) c₂ a₂ n₂ o₂
     → Settles (reclocked now period (settleAt now u)) c₂ a₂ (n₁ + n₂) (o₁ + o₂)
-unfolding reclocked added clocked
-twice now u {n₁ = n₁} {o₁ = o₁} period first second = record {
-  ok = second .ok;
-  same =
-      ap (λ (t : Settled ℕ ℕ). added (record { state = t .state; passes = n₁; overflows = o₁ }) t) (second .same)
-      ∙ ap (λ (s : Settled ℕ ℕ). added s (settle now (clocked period (s .state)))) (first .same);
-}
+unfolding reclocked clocked
+twice now u {c₁ = c₁} {a₁ = a₁} {n₁ = n₁} {o₁ = o₁} {n₂ = n₂} {o₂ = o₂} period first second =
+    let t : Settled ℕ ℕ = settleAt now u in
+    let again : settle now (abs (clockedCore period c₁) a₁) ≡ settle now (clocked period (t .state)) =
+    ap (λ (v : Uart ℕ ℕ). settle now (clocked period v)) (first .gives .state) in
+    record {
+      ok = second .ok;
+      gives = record {
+        state = second .gives .state ∙ ap (λ (x : Settled ℕ ℕ). x .state) again;
+        passes = omega (arith, first .gives .passes, second .gives .passes, ap (λ (x : Settled ℕ ℕ). passesIn (x .events)) again,
+        passes-append (t .events) (settle now (clocked period (t .state)) .events));
+        overflows = omega (arith, first .gives .overflows, second .gives .overflows,
+        ap (λ (x : Settled ℕ ℕ). overflowsIn (x .events)) again,
+        overflows-append (t .events) (settle now (clocked period (t .state)) .events));
+      };
+    }
 
 -- ---- over parts, from the core with the period set
 

@@ -14,7 +14,7 @@ use Rattle.model.specs.State
 use Rattle.model.specs.State.{Run, OnTheLine, withRx, withReceiving, withHost, withLineOf}
 use Rattle.model.specs.Numbers.{choose}
 use Rattle.model.specs.Laws.Choose.{choose-true, choose-false}
-use Rattle.model.specs.Settle.{Pass, popRun, pass}
+use Rattle.model.specs.Settle.{popRun, pass}
 use Rattle.model.specs.declared.Date.{Date}
 use Rattle.model.specs.declared.Line.{Line}
 use Rattle.model.specs.declared.Settings.{Settings}
@@ -30,6 +30,7 @@ use Rattle.queue.specs.declared.Cursor.{Cursor}
 use Rattle.line.specs.declared.Receiving.{Receiving}
 use Rattle.line.specs.declared.Move.{Move}
 use Rattle.line.specs.Moves.{move}
+use Rattle.line.specs.Seen.{Seen}
 use Rattle.line.specs.Applied.{waiting, mark, lineByte, subject, marked, isStored, storedInto, dropIf, popRunIf, applied, pass-applied}
 use Rattle.device.specs.Never.{never}
 use Rattle.device.specs.Holds.{runIn, hostOf, runsOf, rxOf, onTheLine}
@@ -168,7 +169,7 @@ rxsOf m at hosts rxs = set rxs (backOf 128 (at .rx)) (choose (isStored (m .found
 
 same-pass : (u : State.Uart ℕ ℕ) {f : Found} {l : Line} {rx rx′ host host′ : List ℕ} {runs runs′ : List Run} {on on′ : Option (OnTheLine ℕ)}
     → rx ≡ rx′ → on ≡ on′ → host ≡ host′ → runs ≡ runs′
-    → _≡_ {A = Pass ℕ ℕ} (record { found = f; state = withRx rx (withReceiving on (withHost host runs (withLineOf l u))) })
+    → _≡_ {A = Seen ℕ ℕ} (record { found = f; state = withRx rx (withReceiving on (withHost host runs (withLineOf l u))) })
     (record { found = f; state = withRx rx′ (withReceiving on′ (withHost host′ runs′ (withLineOf l u))) })
 same-pass u a b c d = rw (a, b, c, d)
 
@@ -210,7 +211,7 @@ module _ (s : Settings) (date : ℕ) (at : Reception) (hosts dates counts rxs : 
       (λ e. (allowed .stores e, choose-true _ _ e)) (λ e. choose-false _ _ e)
       (set-stored rxs 0 (backOf 128 (at .rx)) _ (rw (fit .rxSlots) (back-low 128 (at .rx) (fit .rx)))))
 
-  applied-law : (u : State.Uart ℕ ℕ) → _≡_ {A = Pass ℕ ℕ} (applied (with at hosts dates counts rxs u) m)
+  applied-law : (u : State.Uart ℕ ℕ) → _≡_ {A = Seen ℕ ℕ} (applied (with at hosts dates counts rxs u) m)
       (record { found = m .found; state = with (carried m at hosts counts) hosts dates (countsOf m at counts) (rxsOf m at hosts rxs) u })
   unfolding applied
   applied-law u =

@@ -12,12 +12,13 @@ use Rattle.model.specs.State.{lineOf, withLineOf}
 use Rattle.model.specs.Numbers.{choose, dueBy}
 use Rattle.model.specs.Laws.Choose.{choose-true, choose-false}
 use Rattle.model.specs.Line.{timeoutAt, afterDate}
-use Rattle.model.specs.Settle.{Pass, pass}
+use Rattle.model.specs.Settle.{pass}
 use Rattle.model.specs.declared.Date.{Date}
 use Rattle.model.specs.declared.Line.{Line}
 use Rattle.model.specs.declared.Settings.{Settings}
 use Rattle.model.specs.declared.Found.{Found}
 use Rattle.line.specs.declared.Receiving.{Receiving}
+use Rattle.line.specs.Seen.{Seen, seen}
 use Rattle.line.specs.Moves.{resting, inFrame, beforeStart, idle, lineFree, move}
 use Rattle.line.specs.Applied.{waiting, mark, lineByte, subject, marked, storedInto, dropIf, popRunIf, applied, pass-applied}
 use Rattle.device.specs.Never.{never}
@@ -70,14 +71,14 @@ module _ (s : Settings) (date : ℕ) (at : Reception) (hosts dates counts rxs : 
   waits = waitingAt (at .host .count) (at .runs .count) (getD dates (at .runs .start) 0)
 
   rest-applied : (u : State.Uart ℕ ℕ)
-      → _≡_ {A = Pass ℕ ℕ} (applied (with at hosts dates counts rxs u) (resting false (at .receiving) (at .line)))
+      → _≡_ {A = Seen ℕ ℕ} (applied (with at hosts dates counts rxs u) (resting false (at .receiving) (at .line)))
       (record { found = Found.NothingDue; state = with at hosts dates counts rxs u })
   unfolding applied resting subject dropIf popRunIf storedInto
   rest-applied u = rw (marked-line (at .receiving) (at .byte))
 
   module _ (e : quiet (at .line .«idle_since») (at .receiving) waits (at .line .«line_free_at») date ≡ true) where
     quiet-pass : (u : State.Uart ℕ ℕ)
-        → _≡_ {A = Pass ℕ ℕ} (pass s date (with at hosts dates counts rxs u))
+        → _≡_ {A = Seen ℕ ℕ} (seen (pass s date (with at hosts dates counts rxs u)))
         (record { found = Found.NothingDue; state = with at hosts dates counts rxs u })
     quiet-pass u =
         pass-applied s date (with at hosts dates counts rxs u)

@@ -9,10 +9,10 @@ use lib.ListN.{length}
 use Rattle.model.specs.State
 use Rattle.model.specs.State.{withLine}
 use Rattle.model.specs.Settle
-use Rattle.model.specs.Settle.{Pass}
 use Rattle.model.specs.declared.Settings.{Settings}
 use Rattle.model.specs.declared.Found.{Found}
 use Rattle.queue.specs.Cursors.{Held}
+use Rattle.line.specs.Seen.{Seen, seen}
 use Rattle.device.specs.Holds.{hostOf, runsOf, rxOf, onTheLine}
 use Rattle.device.specs.declared.pass.Reception.{Reception}
 
@@ -57,5 +57,5 @@ module _ (s : Settings) (date : ℕ) (at : Reception) (hosts dates counts rxs : 
   pub record Passes (found : Found) : Type 0 where
     pub fit : Fit at′ hosts dates counts′ rxs′
     pub one : (u : State.Uart ℕ ℕ)
-        → _≡_ {A = Pass ℕ ℕ} (Settle.pass s date (with at hosts dates counts rxs u))
+        → _≡_ {A = Seen ℕ ℕ} (seen (Settle.pass s date (with at hosts dates counts rxs u)))
         (record { found = found; state = with at′ hosts dates counts′ rxs′ u })

@@ -1,87 +1,91 @@
 -- The passes in a loop: what is still to run is what the definition runs from where the loop stands. Assumes nothing.
-use mathlib.Core.Path.{_≡_, refl, ap, sym, subst, _∙_}
-use mathlib.Core.Bool.{true, false}
+use mathlib.Core.Path.{_≡_, refl, ap, sym, _∙_}
+use mathlib.Core.Bool.{Bool, true, false}
 use mathlib.Core.List.{List, [], _∷_}
-use Prim.Native.Nat.{ℕ, _+_, _≤_}
+use Prim.Native.Nat.{ℕ, _+_, _≤_, _<_}
 use native.Mathlib.Omega.{arith}
-use lib.ListN.{length}
 use Rattle.model.specs.State.{Uart}
-use Rattle.model.specs.Settle.{Pass, Settled, pass, goesOn, lost, begin, passes, pending, onTheLine}
+use Rattle.model.specs.Events
+use Rattle.model.specs.Events.{Event, total, onePass, passesIn, overflowsIn}
+use Rattle.model.specs.Settle
+use Rattle.model.specs.Settle.{Settled, pass, found, ended, pending, onTheLine}
 use Rattle.model.specs.SetUp.{new}
-use Rattle.model.specs.Ends.Through.{Something, Through, ends, goes, overflowsAmong, lost-adds, Ran, ran, passes-bound}
+use Rattle.model.specs.Ends.Through.{pass-one, passes-go, passes-end, passes-bound}
 use Rattle.model.specs.declared.Settings.{Settings}
-use Rattle.model.specs.declared.Fate.the-variants.{Stored, Overflowed, Cleared, ClockOff, Unheard}
 use Rattle.model.specs.declared.Found.{Found}
-use Rattle.model.specs.declared.Found.the-variants.{NothingDue, TimedOut, Landed}
 use Rattle.queue.specs.Cursors.{slotOf}
 use Rattle.queue.specs.Laws.{elems-length}
+use Rattle.line.specs.Seen.{foundOf, Seen, seen, goesOn, lost, goes-on, loses}
 use Rattle.line.specs.declared.Receiving.{Receiving}
-use Rattle.device.specs.Never.{never}
 use Rattle.device.specs.Holds
 use Rattle.device.specs.Receives.{Fit, with}
+use Rattle.device.specs.Ends.{Gives}
 use Rattle.device.specs.declared.pass.Reception.{Reception}
 
-pub lost-low : (f : Found) → lost f ≤ 1
-lost-low NothingDue = omega arith
-lost-low TimedOut = omega arith
-lost-low (Landed Stored) = omega arith
-lost-low (Landed Overflowed) = omega arith
-lost-low (Landed Cleared) = omega arith
-lost-low (Landed ClockOff) = omega arith
-lost-low (Landed Unheard) = omega arith
-
-something : (f : Found) → Something f → goesOn f ≡ true
-something NothingDue x = absurd x
-something TimedOut x = refl
-something (Landed f) x = refl
-
 module _ {H W : Type 0} (s : Settings) (date : ℕ) where
-  -- so many passes and overflows behind, the state u before the next pass
-  abbrev pub behind : Uart H W → ℕ → ℕ → Settled H W
-  behind u p o = record { state = u; passes = p; overflows = o }
+  -- ---- one pass of the definition, seen by the code
 
-  pub ran-first : (u : Uart H W) → Ran s date (behind u 0 0) (passes s date u)
-  unfolding begin
-  ran-first u = ran s date u
+  first-pass : (u : Uart H W) (es : List (Event H W)) → passesIn (pass s date u .event ∷ es) ≡ 1 + passesIn es
+  unfolding passesIn total
+  first-pass u es = omega (arith, pass-one s date u)
 
-  -- a pass that found something: the rest runs from the state that it left
-  through-more : {u v w : Uart H W} {f : Found} {fs : List Found} → pass s date u ≡ record { found = f; state = v } → goesOn f ≡ true
-      → Through s date u fs w → (p o : ℕ) (r : Settled H W) → w ≡ r .state → r .passes ≡ p + (1 + length fs)
-      → r .overflows ≡ o + overflowsAmong fs
-      → Ran s date (behind v (p + 1) (o + lost f)) r
-  through-more e g (ends e′) p o r er ep eo = never (ap (λ (x : Pass H W). goesOn (x .found)) (sym e′ ∙ e) ∙ g)
-  through-more {v = v} e g (goes {w = w} {f = f′} {fs = fs} e′ x t) p o r er ep eo = record {
-    finds = fs;
-    through =
-        subst (λ (y : Uart H W). Through s date v fs y) er
-        (subst (λ (y : Uart H W). Through s date y fs w) (ap (λ (y : Pass H W). y .state) (sym e′ ∙ e)) t);
-    passes = omega (arith, ep);
-    overflows = omega (arith, eo, lost-adds f′ fs, ap (λ (y : Pass H W). lost (y .found)) (sym e′ ∙ e));
-  }
+  module _ (u : Uart H W) {v : Uart H W} {f : Found} (e : seen (pass s date u) ≡ record { found = f; state = v }) where
+    again : (go : Bool) → goesOn f ≡ go → Events.goesOn (pass s date u .event) ≡ go
+    again go g = goes-on (pass s date u .event) ∙ ap (λ (x : Seen H W). goesOn (x .found)) e ∙ g
 
-  pub ran-more : {u v : Uart H W} {f : Found} {p o n : ℕ} {r : Settled H W} → Ran s date (behind u p o) r
-      → pass s date u ≡ record { found = f; state = v }
-      → n ≡ lost f → goesOn f ≡ true → Ran s date (behind v (p + 1) (o + n)) r
-  ran-more {p = p} {o = o} {r = r} k e en g = rw en (through-more e g (k .through) p o r refl (k .passes) (k .overflows))
+    left : pass s date u .state ≡ v
+    left = ap (λ (x : Seen H W). x .state) e
 
-  -- a pass that found nothing due is the last
-  through-end : {u v w : Uart H W} {f : Found} {fs : List Found} → pass s date u ≡ record { found = f; state = v } → goesOn f ≡ false
-      → Through s date u fs w → (p o : ℕ) (r : Settled H W) → w ≡ r .state → r .passes ≡ p + (1 + length fs)
-      → r .overflows ≡ o + overflowsAmong fs
-      → r ≡ behind v (p + 1) (o + lost f)
-  unfolding overflowsAmong
-  through-end {v = v} {f = f} e g (ends e′) p o r er ep eo =
-      let a : r .state ≡ v = sym er ∙ ap (λ (y : Pass H W). y .state) (sym e′ ∙ e) in
-      let b : r .passes ≡ p + 1 = omega (arith, ep) in
-      let c : r .overflows ≡ o + lost f = omega (arith, eo, ap (λ (y : Pass H W). lost (y .found)) (sym e′ ∙ e)) in
-      rw (← a, ← b, ← c)
-  through-end e g (goes {f = f′} e′ x t) p o r er ep eo =
-      never (sym g ∙ ap (λ (y : Pass H W). goesOn (y .found)) (sym e ∙ e′) ∙ something f′ x)
+    first-loss : {n : ℕ} → n ≡ lost f → (es : List (Event H W)) → overflowsIn (pass s date u .event ∷ es) ≡ n + overflowsIn es
+    unfolding overflowsIn total
+    first-loss k es = omega (arith, k, loses (pass s date u .event), ap (λ (x : Seen H W). lost (x .found)) e)
 
-  pub ran-end : {u v : Uart H W} {f : Found} {p o n : ℕ} {r : Settled H W} → Ran s date (behind u p o) r
-      → pass s date u ≡ record { found = f; state = v }
-      → n ≡ lost f → goesOn f ≡ false → r ≡ behind v (p + 1) (o + n)
-  ran-end {p = p} {o = o} {r = r} k e en g = rw en (through-end e g (k .through) p o r refl (k .passes) (k .overflows))
+  -- ---- the loop
+
+  -- so many passes and overflows are behind, u is the state before the next pass, and t is the whole
+  pub record Ran (u : Uart H W) (p o : ℕ) (t : Settled H W) : Type 0 where
+    pub state : Settle.passes s date u .state ≡ t .state
+    pub passes : p + passesIn (Settle.passes s date u .events) ≡ passesIn (t .events)
+    pub overflows : o + overflowsIn (Settle.passes s date u .events) ≡ overflowsIn (t .events)
+    pub left : p < passesIn (t .events)
+
+  some-pass : (u : Uart H W) (go : Bool) → Events.goesOn (pass s date u .event) ≡ go → 0 < passesIn (Settle.passes s date u .events)
+  some-pass u true g =
+      rw (passes-go s date u refl g) (omega (arith, first-pass u (Settle.passes s date (pass s date u .state) .events)))
+  some-pass u false g = rw (passes-end s date u refl g) (omega (arith, first-pass u []))
+
+  pub ran-first : (u : Uart H W) → Ran u 0 0 (Settle.passes s date u)
+  ran-first u =
+      record { state = refl; passes = omega arith; overflows = omega arith; left = some-pass u (Events.goesOn (pass s date u .event)) refl }
+
+  module _ {u v : Uart H W} {f : Found} {p o n : ℕ} {t : Settled H W} (k : Ran u p o t)
+      (e : seen (pass s date u) ≡ record { found = f; state = v }) (l : n ≡ lost f) where
+    -- a pass that found something: the rest runs from the state that it left
+    pub ran-more : goesOn f ≡ true → Ran v (p + 1) (o + n) t
+    ran-more g =
+        let r : Settle.passes s date u ≡ found (pass s date u .event ∷ []) (Settle.passes s date v) =
+        passes-go s date u refl (again u e true g) ∙ ap (λ (x : Uart H W). found (pass s date u .event ∷ []) (Settle.passes s date x)) (left u e) in
+        let es : List (Event H W) = Settle.passes s date v .events in
+        let q : passesIn (Settle.passes s date u .events) ≡ 1 + passesIn es = ap (λ (x : Settled H W). passesIn (x .events)) r ∙ first-pass u es in
+        let some : 0 < passesIn es = some-pass v (Events.goesOn (pass s date v .event)) refl in
+        record {
+          state = sym (ap (λ (x : Settled H W). x .state) r) ∙ k .state;
+          passes = omega (arith, q, k .passes);
+          overflows = omega (arith, ap (λ (x : Settled H W). overflowsIn (x .events)) r, first-loss u e l es, k .overflows);
+          left = omega (arith, q, k .passes, some);
+        }
+
+    -- a pass that found nothing due is the last
+    pub ran-end : goesOn f ≡ false → Gives t v (p + 1) (o + n)
+    unfolding passesIn overflowsIn total
+    ran-end g =
+        let r : Settle.passes s date u ≡ found (pass s date u .event ∷ []) (ended v) =
+        passes-end s date u refl (again u e false g) ∙ ap (λ (x : Uart H W). found (pass s date u .event ∷ []) (ended x)) (left u e) in
+        record {
+          state = sym (ap (λ (x : Settled H W). x .state) r) ∙ k .state;
+          passes = omega (arith, ap (λ (x : Settled H W). passesIn (x .events)) r, first-pass u [], k .passes);
+          overflows = omega (arith, ap (λ (x : Settled H W). overflowsIn (x .events)) r, first-loss u e l [], k .overflows);
+        }
 
 -- ---- how many there can be
 
@@ -95,7 +99,7 @@ one-on Receiving.None b = omega arith
 one-on (Receiving.OnTheLine f) b = omega arith
 
 pub few-passes : (s : Settings) (date : ℕ) (at : Reception) (hosts dates counts rxs : List ℕ) → Fit at hosts dates counts rxs
-    → passes s date (with at hosts dates counts rxs blank) .passes ≤ 2052
+    → passesIn (Settle.passes s date (with at hosts dates counts rxs blank) .events) ≤ 2052
 unfolding pending
 few-passes s date at hosts dates counts rxs fit =
     omega (

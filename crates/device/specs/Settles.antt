@@ -10,8 +10,10 @@ use Rattle.model.specs.State
 use Rattle.model.specs.State.{Sent, withLine, withLevel, withControl, withInFlight, withTx}
 use Rattle.model.specs.Timing
 use Rattle.model.specs.Settle
-use Rattle.model.specs.Settle.{gone, txDone, depart, drive, assertLevels, noLaterThan}
+use Rattle.model.specs.Events.{passesIn, overflowsIn}
+use Rattle.model.specs.Settle.{gone, txDone, depart, departures, found, drive, assertLevels, noLaterThan}
 use Rattle.model.specs.Limits.{Within}
+use Rattle.model.specs.Laws.Events.{departures-pass, departures-lose}
 use Rattle.model.specs.Keeps.Settling.{settle-within}
 use Rattle.model.specs.declared.Line.{Line}
 use Rattle.model.specs.declared.Control.{Control}
@@ -24,14 +26,14 @@ use Rattle.line.specs.Levels.{levels-line, drive-line}
 use Rattle.device.specs.Holds.{Arrays, sentAt, flightOf, txOf, abs, Ok}
 use Rattle.device.specs.Leaves.{Leaves}
 use Rattle.device.specs.Receives.{Fit, with}
-use Rattle.device.specs.Ends.{Ends}
+use Rattle.device.specs.Ends.{Gives, Ends}
 use Rattle.device.specs.declared.Core.{Core}
 use Rattle.device.specs.declared.pass.Reception.{Reception}
 
 -- a core and its slots are within the limits, and state, passes and overflows are those of a settling of the definition
 pub record Settles (t : Settle.Settled ℕ ℕ) (c′ : Core) (a′ : Arrays) (n o : ℕ) : Type 0 where
   pub ok : Ok c′ a′
-  pub same : _≡_ {A = Settle.Settled ℕ ℕ} (record { state = abs c′ a′; passes = n; overflows = o }) t
+  pub gives : Gives t (abs c′ a′) n o
 
 -- ---- the core taken apart and put together
 
@@ -128,13 +130,15 @@ module _ (cycle : ℕ) (c : Core) (a : Arrays) (ok : Ok c a) {date n passes over
   passed : State.Uart ℕ ℕ
   passed = with at′ (a .host) (a .runAt) counts′ rx′ sent
 
-  settled : Settle.settle cycle (abs c a) ≡ Settle.leveled (record { state = passed; passes = passes; overflows = overflows })
-  unfolding passed Settle.settle Settle.settleTo Settle.settlingDate Settle.settingsOf
-  settled =
-      ap (λ (d : ℕ). Settle.leveled (Settle.passes (Timing.settings (c .control .words) (c .control .period)) d (depart d (abs c a))))
-      (sym dated)
-      ∙ ap₂ (λ (x : Settings) (u : State.Uart ℕ ℕ). Settle.leveled (Settle.passes x date u)) (sym reads) departs
-      ∙ ap Settle.leveled (runs .all sent)
+  -- the settling of the definition: what it found before the passes, and what they found
+  whole : Settle.settle cycle (abs c a)
+      ≡ found (departures date (abs c a)) (Settle.leveled (Settle.passes s date (with (receptionOf c l) (a .host) (a .runAt) (a .runLen) (a .rx) sent)))
+  unfolding Settle.settle Settle.settleTo Settle.settlingDate Settle.settingsOf
+  whole =
+      ap (λ (d : ℕ). found (departures d (abs c a))
+      (Settle.leveled (Settle.passes (Timing.settings (c .control .words) (c .control .period)) d (depart d (abs c a))))) (sym dated)
+      ∙ ap₂ (λ (x : Settings) (u : State.Uart ℕ ℕ). found (departures date (abs c a)) (Settle.leveled (Settle.passes x date u)))
+      (sym reads) departs
 
   levels-after : Settle.levels passed ≡ abs (together c flight′ tx′ at′ l′ level) (written a left′ counts′ rx′)
   unfolding passed sent Settle.levels
@@ -143,22 +147,22 @@ module _ (cycle : ℕ) (c : Core) (a : Arrays) (ok : Ok c a) {date n passes over
       (control-after (withLine (at′ .line) (c .control)) (elems-length (slotOf rx′ 0) 128 (at′ .rx))
       (elems-length (sentAt (a .goneAt) (a .flight)) 129 flight′) leveled driven)
 
-  same : _≡_ {A = Settle.Settled ℕ ℕ} (record {
-    state = abs (together c flight′ tx′ at′ l′ level) (written a left′ counts′ rx′);
-    passes = passes;
-    overflows = overflows;
-  })
-      (Settle.settle cycle (abs c a))
-  unfolding Settle.leveled
-  same =
-      sym (settled ∙ ap {B = Settle.Settled ℕ ℕ} (λ (u : State.Uart ℕ ℕ). record { state = u; passes = passes; overflows = overflows })
-      levels-after)
+  given : Gives (Settle.settle cycle (abs c a)) (abs (together c flight′ tx′ at′ l′ level) (written a left′ counts′ rx′)) passes overflows
+  unfolding passed Settle.leveled
+  given =
+      let k = runs .all sent in
+      let es = Settle.passes s date (with (receptionOf c l) (a .host) (a .runAt) (a .runLen) (a .rx) sent) .events in
+      record {
+        state = sym (ap (λ (t : Settle.Settled ℕ ℕ). t .state) whole ∙ ap Settle.levels (sym (k .state)) ∙ levels-after);
+        passes = k .passes ∙ sym (ap (λ (t : Settle.Settled ℕ ℕ). passesIn (t .events)) whole ∙ departures-pass date (abs c a) es);
+        overflows = k .overflows ∙ sym (ap (λ (t : Settle.Settled ℕ ℕ). overflowsIn (t .events)) whole ∙ departures-lose date (abs c a) es);
+      }
 
   pub settles : Settles (Settle.settle cycle (abs c a)) (together c flight′ tx′ at′ l′ level) (written a left′ counts′ rx′) passes overflows
   settles = record {
     ok = record {
       shape = search;
-      within = subst Within (sym (ap (λ (t : Settle.Settled ℕ ℕ). t .state) same)) (settle-within cycle (abs c a) (ok .within));
+      within = subst Within (sym (given .state)) (settle-within cycle (abs c a) (ok .within));
     };
-    same = same;
+    gives = given;
   }

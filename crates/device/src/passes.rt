@@ -36,7 +36,7 @@ pub fn take_all_on_the_line<'a>(
     let mut at = from;
     let mut passes: u64 = 0;
     let mut overflows: u64 = 0;
-    loop {
+    let made = loop {
         let p = crate::pass::take_next_on_the_line(at, settings, date, host, run_at, run_len, rx);
         let found = p.found;
         let reception = p.reception;
@@ -45,12 +45,12 @@ pub fn take_all_on_the_line<'a>(
         overflows = overflows + line::fate::overflow_of(found);
         let more = line::fate::goes_on(found);
         if !more {
-            break;
+            break passes;
         }
-    }
+    };
     Passes {
         reception: at,
-        passes,
+        passes: made,
         overflows,
     }
 }

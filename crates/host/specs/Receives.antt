@@ -61,7 +61,7 @@ module _ (cycle date k : ℕ) (c : Core) (a : Arrays) {c₁ : Core} {a₁ : Arra
   keeps : Kept (dated cycle (abs c a)) (abs c₁ a₁)
   unfolding settleAt
   keeps =
-      subst (Kept (dated cycle (abs c a))) (sym (ap (λ (t : Settle.Settled ℕ ℕ). t .state) (s .same)))
+      subst (Kept (dated cycle (abs c a))) (sym (s .gives .state))
       (settle-keeps cycle (dated cycle (abs c a)))
 
   pub host-room : c₁ .host .count + k ≤ 1024

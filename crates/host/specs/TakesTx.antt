@@ -57,7 +57,7 @@ took-tx lent {t} {c} {a} {n} {o} {k} {out} s e whole =
     })
     in
     let same : contents (filled (abs c a .tx) lent) ≡ contents (filled (t .state .tx) lent) =
-    ap (λ (x : Settle.Settled ℕ ℕ). contents (filled (x .state .tx) lent)) (s .same) in
+    ap (λ (x : State.Uart ℕ ℕ). contents (filled (x .tx) lent)) (s .gives .state) in
     (works, whole ∙ ap (λ (j : ℕ). txOf (a .tx) (c .tx) ++ drop j lent) (sym left) ∙ same)
 
 -- the same of what the function gives back

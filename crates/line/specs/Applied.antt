@@ -8,11 +8,11 @@ use lib.Dec.{ltb}
 use lib.ListN.{length, take, drop}
 use Rattle.dates.specs.Dates.{later, earlier}
 use Rattle.model.specs.Numbers.{choose, dueBy}
-use Rattle.model.specs.Laws.Choose.{choose-nat}
+use Rattle.model.specs.Laws.Choose.{choose-both}
 use Rattle.model.specs.State.{Run, OnTheLine, Uart, withRx, withReceiving, withHost, withLineOf, lineOf}
 use Rattle.model.specs.Line.{timeoutAt, timeOut, frame, start, fate, land}
 use Rattle.model.specs.Settle
-use Rattle.model.specs.Settle.{Pass, popRun, received, nothingDue, timedOut, landed, begun, passOn, pass}
+use Rattle.model.specs.Settle.{popRun, received, nothingDue, timedOut, landed, begun, passOn, pass}
 use Rattle.model.specs.declared.Date.{Date}
 use Rattle.model.specs.declared.Line.{Line}
 use Rattle.model.specs.declared.Frame.{Frame}
@@ -21,6 +21,7 @@ use Rattle.model.specs.declared.Fate.{Fate}
 use Rattle.model.specs.declared.Fate.the-variants.{Stored, Overflowed, Cleared, ClockOff, Unheard}
 use Rattle.model.specs.declared.Found.{Found}
 use Rattle.model.specs.declared.Found.the-variants.{NothingDue, TimedOut, Landed}
+use Rattle.line.specs.Seen.{foundOf, Seen, seen}
 use Rattle.line.specs.declared.Receiving.{Receiving}
 use Rattle.line.specs.declared.Move.{Move}
 use Rattle.line.specs.Moves.{resting, timingOut, landing, inFrame, beforeStart, idle, lineFree, move}
@@ -82,7 +83,7 @@ stored-rx Unheard b held = refl
 
 module _ {H W : Type 0} where
   -- what `move` decides, carried out on the bytes
-  unfoldable pub applied : Uart H W → Move → Pass H W
+  unfoldable pub applied : Uart H W → Move → Seen H W
   applied u m = record {
     found = m .found;
     state = withRx (storedInto (isStored (m .found)) (subject (m .started) (u .host) (u .receiving)) (u .rx))
@@ -92,28 +93,28 @@ module _ {H W : Type 0} where
 
   module _ (s : Settings) (date : ℕ) where
     abbrev Law : Uart H W → Type 0
-    Law u = pass s date u ≡ applied u (move s (length (u .rx)) date (waiting (u .hostRuns) (u .host)) (mark (u .receiving)) (lineOf u))
+    Law u = seen (pass s date u) ≡ applied u (move s (length (u .rx)) date (waiting (u .hostRuns) (u .host)) (mark (u .receiving)) (lineOf u))
 
     -- a byte on the line
     frame-law : (l : OnTheLine H) (u : Uart H W) → Law (withReceiving (some l) u)
-    unfolding pass passOn Settle.inFrame nothingDue timedOut landed applied move inFrame resting timingOut landing mark marked subject
+    unfolding foundOf pass passOn Settle.inFrame nothingDue timedOut landed applied move inFrame resting timingOut landing mark marked subject
         lineByte dropIf popRunIf storedInto
     frame-law l u =
         let v : Uart H W = withReceiving (some l) u in
-        choose-nat (applied v) _ refl (choose-nat (applied v) _ refl
+        choose-both seen (applied v) _ refl (choose-both seen (applied v) _ refl
         (rw (stored-rx (fate s (length (u .rx)) (l .frame)) (l .byte) (u .rx))))
 
     -- no byte on the line
     free-law : (rs : List Run) (bs : List H) (u : Uart H W) → Law (withReceiving none (withHost bs rs u))
-    unfolding pass passOn Settle.lineFree Settle.idle Settle.beforeStart Settle.inFrame begun nothingDue timedOut landed applied move
+    unfolding foundOf pass passOn Settle.lineFree Settle.idle Settle.beforeStart Settle.inFrame begun nothingDue timedOut landed applied move
         lineFree idle beforeStart inFrame resting timingOut landing waiting mark marked subject lineByte dropIf popRunIf storedInto
-    free-law [] bs u = choose-nat (applied (withReceiving none (withHost bs [] u))) _ refl refl
-    free-law (r ∷ rs) [] u = choose-nat (applied (withReceiving none (withHost [] (r ∷ rs) u))) _ refl refl
+    free-law [] bs u = choose-both seen (applied (withReceiving none (withHost bs [] u))) _ refl refl
+    free-law (r ∷ rs) [] u = choose-both seen (applied (withReceiving none (withHost [] (r ∷ rs) u))) _ refl refl
     free-law (r ∷ rs) (b ∷ bs) u =
         let v : Uart H W = withReceiving none (withHost (b ∷ bs) (r ∷ rs) u) in
-        choose-nat (applied v) _ refl
-        (choose-nat (applied v) _ refl
-        (choose-nat (applied v) _ refl (choose-nat (applied v) _ refl (rw (stored-rx (fate s (length (u .rx)) (frame s)) b (u .rx))))))
+        choose-both seen (applied v) _ refl
+        (choose-both seen (applied v) _ refl
+        (choose-both seen (applied v) _ refl (choose-both seen (applied v) _ refl (rw (stored-rx (fate s (length (u .rx)) (frame s)) b (u .rx))))))
 
     law-by : (o : Option (OnTheLine H)) (u : Uart H W) → Law (withReceiving o u)
     law-by none u = free-law (u .hostRuns) (u .host) u

@@ -2,7 +2,7 @@
 use model::Fate;
 use model::Found;
 ghost use mathlib.Core.Path.{_≡_};
-ghost use Rattle.model.specs.Settle.{goesOn, lost as Settle·lost};
+ghost use Rattle.line.specs.Seen.{goesOn, lost};
 ghost use Rattle.line.specs.Applied.{isStored};
 
 // Whether another pass may find more.
@@ -18,7 +18,7 @@ pub fn goes_on(found: Found) -> bool
 
 // How many bytes overflowed.
 pub fn overflow_of(found: Found) -> u64
-    ensures { λ r. ⌜ r ≡ Settle·lost found ⌝ }
+    ensures { λ r. ⌜ r ≡ lost found ⌝ }
 {
     match found {
         Found::NothingDue => 0,

@@ -9,7 +9,8 @@ use Rattle.dates.specs.Dates.{subcycles, later}
 use Rattle.model.specs.Numbers.{choose}
 use Rattle.model.specs.State.{Run, Uart, withIntRaw, withMistimed, withIdleSince, withWords, withLine, withPeriod, withLast, withWake}
 use Rattle.model.specs.State.{withWatched, withPoweredDownAt, withControl, withInFlight, withTx, withHost, withRx}
-use Rattle.model.specs.Settle.{Settled, settle, pending, levels}
+use Rattle.model.specs.Events.{Event, passesIn, overflowsIn}
+use Rattle.model.specs.Settle.{Settled, found, settle, pending, levels}
 use Rattle.model.specs.Arm.{called, arm}
 use Rattle.model.specs.Replies.{noReport, report, ReadOf, refused, Take}
 use Rattle.model.specs.Registers.{Access, placeOf, readAt, sendByte, writePlace, concluded}
@@ -33,11 +34,13 @@ pub record Outcome (R H W : Type 0) : Type 0 where
   pub reply : R
   pub report : Report
   pub state : Uart H W
+  -- what its settlings found
+  pub events : List (Event H W)
 
 module _ {R H W : Type 0} where
   -- a refusal returns only its number; the state stays
   unfoldable pub refusing : R → Uart H W → Outcome R H W
-  refusing r u = record { reply = r; report = noReport; state = u }
+  refusing r u = record { reply = r; report = noReport; state = u; events = [] }
 
   -- refused as the tests say, or carried out
   unfoldable pub unless : Option Refusal → (Refusal → R) → (Uart H W → Outcome R H W) → Uart H W → Outcome R H W
@@ -46,19 +49,20 @@ module _ {R H W : Type 0} where
 
   -- a call that does not settle makes no pass
   unfoldable pub unsettled : R → Uart H W → Outcome R H W
-  unsettled r u = record { reply = r; report = report 0 0 [] u; state = u }
+  unsettled r u = record { reply = r; report = report 0 0 [] u; state = u; events = [] }
 
   -- settled, and then the work
   unfoldable pub afterSettling : Settled H W → (Uart H W → Access R H W) → Outcome R H W
   afterSettling t work = record {
     reply = work (t .state) .reply;
-    report = report (t .passes) (t .overflows) (work (t .state) .notes) (work (t .state) .state);
+    report = report (passesIn (t .events)) (overflowsIn (t .events)) (work (t .state) .notes) (work (t .state) .state);
     state = work (t .state) .state;
+    events = t .events;
   }
 
   -- an undated call answers its own result alone
   unfoldable pub undated : R → Uart H W → Outcome R H W
-  undated r u = record { reply = r; report = noReport; state = u }
+  undated r u = record { reply = r; report = noReport; state = u; events = [] }
 
 -- ---- parts of calls that hold no state
 
@@ -170,15 +174,12 @@ module _ {H W : Type 0} where
   unfoldable pub powerDown : ℕ → Uart H W → Outcome Done H W
   powerDown now u = unless (refuseDate now (u .control) none) Done.Refused (powerDownWork now) u
 
-  unfoldable pub added : Settled H W → Settled H W → Settled H W
-  added s t = record { state = t .state; passes = s .passes + t .passes; overflows = s .overflows + t .overflows }
-
   unfoldable pub clocked : ℕ → Uart H W → Uart H W
   clocked period u = withControl (withPeriod (periodOf period) (u .control)) u
 
-  -- settle, set the period, settle; passes and overflows are the sums
+  -- settled once, set the period and settle again
   unfoldable pub reclocked : ℕ → ℕ → Settled H W → Settled H W
-  reclocked now period s = added s (settle now (clocked period (s .state)))
+  reclocked now period t = found (t .events) (settle now (clocked period (t .state)))
 
   unfoldable pub clockWork : ℕ → ℕ → Uart H W → Outcome Done H W
   clockWork now period u = afterSettling (reclocked now period (settleAt now u)) (λ s. quiet Done.Done (arm s))

@@ -3,4 +3,5 @@ pub mod Choose
 pub mod Lists
 pub mod Bits
 pub mod Cases
+pub mod Events
 pub mod PlaceCases

@@ -6,14 +6,15 @@ use mathlib.Core.Bool.{Bool, true, false, _&&_}
 use mathlib.Core.List.{List, [], _∷_, _++_}
 use lib.Dec.{eqb}
 use lib.ListN.{length, replicate}
-use Rattle.model.specs.Numbers.{choose, dueBy, onlyIf, earliest, inCycles}
+use Rattle.model.specs.Numbers.{choose, dueBy, instantOf, onlyIf, earliest, inCycles}
 use Rattle.model.specs.State.{Uart}
+use Rattle.model.specs.Events.{total, goesOn, onePass, lost, passesIn, overflowsIn}
 use Rattle.model.specs.Timing.{stopHalfBits, frameHalfBits, sourcePeriod, unmodelled, unmodelledSource, halfBitTime, bitTime}
 use Rattle.model.specs.Timing.{byteTime, timeoutTime, settings}
 use Rattle.model.specs.Line.{raiseIf, latest, noteSource, afterDate, opened, timeoutAt, timeOut, frame, start, fate, land}
 use Rattle.model.specs.Settle.{gone, txDone, leave, depart, popRun, received, nothingDue, timedOut, landed, inFrame, begun}
-use Rattle.model.specs.Settle.{beforeStart, idle, lineFree, passOn, pass, goesOn, lost, onTheLine, counted, passesFrom, pending}
-use Rattle.model.specs.Settle.{begin, passes, aboveFull, inFifo, emptyThreshold, belowEmpty, assertLevels, intStatus, drive}
+use Rattle.model.specs.Settle.{beforeStart, idle, lineFree, passOn, pass, onTheLine, passesFrom, pending}
+use Rattle.model.specs.Settle.{departures, passes, aboveFull, inFifo, emptyThreshold, belowEmpty, assertLevels, intStatus, drive}
 use Rattle.model.specs.Settle.{noLaterThan, settlingDate, levels, leveled, settingsOf, settleTo, settle}
 use Rattle.model.specs.Arm.{called, nthGone, firstGone, lastGone, belowThresholdAt, nextStart, landingOf, nextLanding, instants}
 use Rattle.model.specs.Arm.{armAll, arm}
@@ -221,10 +222,10 @@ marks = p1 ++ p2 ++ p3 ++ p4 ++ p5 ++ p6 ++ p7 ++ p8 ++ p9 ++ p10
 
 pub marks-hold : allHold marks ≡ true
 unfolding upBy4 benchWords bench valueIs dateIs isOverflow isEmptyRead onlyNotice meets reading putting handing waking played holdsRow
-    allHold p1 p2 p3 filledUp p4 p5 p6 timeoutOn p7 p8 p9 p10 marks choose dueBy onlyIf earliest inCycles stopHalfBits frameHalfBits
+    allHold p1 p2 p3 filledUp p4 p5 p6 timeoutOn p7 p8 p9 p10 marks choose dueBy instantOf onlyIf earliest inCycles stopHalfBits frameHalfBits
     sourcePeriod unmodelled unmodelledSource halfBitTime bitTime byteTime timeoutTime settings raiseIf latest noteSource afterDate opened
     timeoutAt timeOut frame start fate land gone txDone leave depart popRun received nothingDue timedOut landed inFrame begun beforeStart
-    idle lineFree passOn pass goesOn lost onTheLine counted passesFrom pending begin passes aboveFull inFifo emptyThreshold belowEmpty
+    idle lineFree passOn pass total goesOn onePass lost passesIn overflowsIn onTheLine passesFrom pending departures passes aboveFull inFifo emptyThreshold belowEmpty
     assertLevels intStatus drive noLaterThan settlingDate levels leveled settingsOf settleTo settle called nthGone firstGone lastGone
     belowThresholdAt nextStart landingOf nextLanding instants armAll arm number notices noReport report readNumber writeNumber doneNumber
     takenNumber placeAmong placeOf loaded holds stored noteIf sourceNotes statusWord fsmStatus looks pop gives readPlace readLooking readAt

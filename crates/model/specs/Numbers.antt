@@ -29,6 +29,11 @@ unfoldable pub dueBy : ℕ → Date → Bool
 dueBy date None = false
 dueBy date (At at) = leb at date
 
+-- the date that is there; 0 where none is
+unfoldable pub instantOf : Date → ℕ
+instantOf None = 0
+instantOf (At at) = at
+
 unfoldable pub onlyIf : Bool → Date → Date
 onlyIf true d = d
 onlyIf false d = None

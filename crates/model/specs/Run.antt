@@ -1,8 +1,9 @@
 -- One call, and a whole list of calls, each with the state as the one before left it. Assumes nothing.
 use Prim.Native.Nat.{ℕ, _%_}
 use mathlib.Core.Bool.{Bool}
-use mathlib.Core.List.{List, [], _∷_}
+use mathlib.Core.List.{List, [], _∷_, _++_}
 use Rattle.model.specs.State.{Uart}
+use Rattle.model.specs.Events.{Event}
 use Rattle.model.specs.Replies.{ReadOf, readNumber, writeNumber, doneNumber, takenNumber}
 use Rattle.model.specs.Registers.{placeOf}
 use Rattle.model.specs.Calls
@@ -23,9 +24,11 @@ numberOf (pends n) = 0
 pub record Step (H W L : Type 0) : Type 0 where
   pub answer : Answer H W L
   pub state : Uart H W
+  pub events : List (Event H W)
 
 unfoldable pub answering : {R H W L : Type 0} → (R → Reply H W L) → Outcome R H W → Step H W L
-answering as-reply o = record { answer = record { reply = as-reply (o .reply); report = o .report }; state = o .state }
+answering as-reply o =
+    record { answer = record { reply = as-reply (o .reply); report = o .report }; state = o .state; events = o .events }
 
 -- a call, given what a read and a write do
 unfoldable pub stepBy : {R X H W L : Type 0} → (ℕ → R → Uart H W → Outcome (ReadOf H) H W) → (ℕ → X → Uart H W → Outcome Write H W)
@@ -57,3 +60,11 @@ runBy one (c ∷ cs) u = one c u .answer ∷ runBy one cs (one c u .state)
 
 unfoldable pub run : List Request → Uart ℕ ℕ → List (Answer ℕ ℕ ℕ)
 run cs u = runBy step cs u
+
+-- what was found in a run, in order, call by call
+unfoldable pub historyBy : {C H W L : Type 0} → (C → Uart H W → Step H W L) → List C → Uart H W → List (Event H W)
+historyBy one [] u = []
+historyBy one (c ∷ cs) u = one c u .events ++ historyBy one cs (one c u .state)
+
+unfoldable pub history : List Request → Uart ℕ ℕ → List (Event ℕ ℕ)
+history cs u = historyBy step cs u

@@ -7,10 +7,11 @@ use lib.Dec.{leb, ltb, eqb}
 use lib.ListN.{length, take, drop}
 use lib.Bits.{bitAnd}
 use Rattle.dates.specs.Dates.{subcycles, later, earlier}
-use Rattle.model.specs.Numbers.{choose, field, dueBy}
+use Rattle.model.specs.Numbers.{choose, field, dueBy, instantOf}
 use Rattle.model.specs.State.{Sent, Run, OnTheLine, Uart, withLine, withLevel, withControl, withInFlight, withTx, withHost}
 use Rattle.model.specs.State.{withReceiving, withRx, lineOf, withLineOf}
 use Rattle.model.specs.Timing.{settings}
+use Rattle.model.specs.Events.{Event, departure, timeout, landing, nothing, goesOn}
 use Rattle.model.specs.Line.{RXFIFO-FULL, TXFIFO-EMPTY, TX-DONE, raiseIf, timeoutAt, timeOut, frame, start, fate, land}
 use Rattle.model.specs.declared.Date.{Date}
 use Rattle.model.specs.declared.Date.the-variants.{None, At}
@@ -19,8 +20,6 @@ use Rattle.model.specs.declared.Control.{Control}
 use Rattle.model.specs.declared.Settings.{Settings}
 use Rattle.model.specs.declared.Fate.{Fate}
 use Rattle.model.specs.declared.Fate.the-variants.{Stored, Overflowed, Cleared, ClockOff, Unheard}
-use Rattle.model.specs.declared.Found.{Found}
-use Rattle.model.specs.declared.Found.the-variants.{NothingDue, TimedOut, Landed}
 
 -- ---- departures
 
@@ -42,10 +41,13 @@ depart date u =
     withLineOf (txDone (length (u .inFlight)) (length (u .inFlight) - gone date (u .inFlight)) (lineOf u))
     (leave (gone date (u .inFlight)) u)
 
+unfoldable pub departures : {H W : Type 0} → ℕ → Uart H W → List (Event H W)
+departures date u = map (λ s. departure (s .goneAt) (s .byte)) (take (gone date (u .inFlight)) (u .inFlight))
+
 -- ---- one pass
 
 pub record Pass (H W : Type 0) : Type 0 where
-  pub found : Found
+  pub event : Event H W
   pub state : Uart H W
 
 -- the first run loses a byte, and goes with its last
@@ -61,17 +63,20 @@ received Cleared b held = held
 received ClockOff b held = held
 received Unheard b held = held
 
-unfoldable pub nothingDue : {H W : Type 0} → Uart H W → Pass H W
-nothingDue u = record { found = NothingDue; state = u }
+unfoldable pub nothingDue : {H W : Type 0} → ℕ → Uart H W → Pass H W
+nothingDue date u = record { event = nothing date; state = u }
 
 module _ {H W : Type 0} (s : Settings) where
   unfoldable pub timedOut : Uart H W → Pass H W
-  timedOut u = record { found = TimedOut; state = withLineOf (timeOut s (length (u .rx)) (lineOf u)) u }
+  timedOut u = record {
+    event = timeout (instantOf (timeoutAt s (lineOf u)));
+    state = withLineOf (timeOut s (length (u .rx)) (lineOf u)) u;
+  }
 
   -- the byte on the line lands with its fate
   unfoldable pub landed : Fate → OnTheLine H → Uart H W → Pass H W
   landed f l u = record {
-    found = Landed f;
+    event = landing (lineOf u .«line_free_at») (l .byte) f;
     state = withRx (received f (l .byte) (u .rx)) (withReceiving none (withLineOf (land s f (l .frame) (lineOf u)) u));
   }
 
@@ -79,7 +84,7 @@ module _ {H W : Type 0} (s : Settings) where
   unfoldable pub inFrame : ℕ → OnTheLine H → Uart H W → Pass H W
   inFrame date l u =
       choose (dueBy date (timeoutAt s (lineOf u))) (timedOut u)
-      (choose (ltb date (lineOf u .«line_free_at»)) (nothingDue u) (landed (fate s (length (u .rx)) (l .frame)) l u))
+      (choose (ltb date (lineOf u .«line_free_at»)) (nothingDue date u) (landed (fate s (length (u .rx)) (l .frame)) l u))
 
   -- the next host byte starts
   unfoldable pub begun : ℕ → H → List H → Uart H W → Uart H W
@@ -91,11 +96,11 @@ module _ {H W : Type 0} (s : Settings) where
   unfoldable pub beforeStart : ℕ → ℕ → H → List H → Uart H W → Pass H W
   beforeStart date at b bs u =
       choose (dueBy (earlier date at) (timeoutAt s (lineOf u))) (timedOut u)
-      (choose (ltb date at) (nothingDue u) (inFrame date (record { byte = b; frame = frame s }) (begun at b bs u)))
+      (choose (ltb date at) (nothingDue date u) (inFrame date (record { byte = b; frame = frame s }) (begun at b bs u)))
 
   -- with no host byte at all
   unfoldable pub idle : ℕ → Uart H W → Pass H W
-  idle date u = choose (dueBy date (timeoutAt s (lineOf u))) (timedOut u) (nothingDue u)
+  idle date u = choose (dueBy date (timeoutAt s (lineOf u))) (timedOut u) (nothingDue date u)
 
   unfoldable pub lineFree : ℕ → List Run → List H → Uart H W → Pass H W
   lineFree date [] bs u = idle date u
@@ -114,48 +119,35 @@ module _ {H W : Type 0} (s : Settings) where
 
 pub record Settled (H W : Type 0) : Type 0 where
   pub state : Uart H W
-  pub passes : ℕ
-  pub overflows : ℕ
-
-abbrev pub goesOn : Found → Bool
-goesOn NothingDue = false
-goesOn TimedOut = true
-goesOn (Landed f) = true
-
-abbrev pub lost : Found → ℕ
-lost NothingDue = 0
-lost TimedOut = 0
-lost (Landed Stored) = 0
-lost (Landed Overflowed) = 1
-lost (Landed Cleared) = 0
-lost (Landed ClockOff) = 0
-lost (Landed Unheard) = 0
+  pub events : List (Event H W)
 
 unfoldable pub onTheLine : {H : Type 0} → Option (OnTheLine H) → ℕ
 onTheLine none = 0
 onTheLine (some l) = 1
 
 module _ {H W : Type 0} where
-  unfoldable pub counted : Settled H W → Pass H W → Settled H W
-  counted t p = record { state = p .state; passes = t .passes + 1; overflows = t .overflows + lost (p .found) }
+  -- what was found before a settling goes on
+  abbrev pub found : List (Event H W) → Settled H W → Settled H W
+  found es t = record { state = t .state; events = es ++ t .events }
+
+  abbrev pub ended : Uart H W → Settled H W
+  ended u = record { state = u; events = [] }
 
   -- at most `k` passes more, the one before having said whether to go on
-  unfoldable pub passesFrom : Settings → ℕ → ℕ → Bool → Settled H W → Settled H W
-  passesFrom s date zero false t = t
-  passesFrom s date zero true t = t
-  passesFrom s date (suc k) false t = t
-  passesFrom s date (suc k) true t = passesFrom s date k (goesOn (pass s date (t .state) .found)) (counted t (pass s date (t .state)))
+  unfoldable pub passesFrom : Settings → ℕ → ℕ → Bool → Uart H W → Settled H W
+  passesFrom s date zero false u = ended u
+  passesFrom s date zero true u = ended u
+  passesFrom s date (suc k) false u = ended u
+  passesFrom s date (suc k) true u =
+      found (pass s date u .event ∷ []) (passesFrom s date k (goesOn (pass s date u .event)) (pass s date u .state))
 
   -- document 01's pending: the waiting host bytes and the one on the line
   unfoldable pub pending : Uart H W → ℕ
   pending u = length (u .host) + onTheLine (u .receiving)
 
-  unfoldable pub begin : Uart H W → Settled H W
-  begin u = record { state = u; passes = 0; overflows = 0 }
-
   -- as many passes as there is something due, and one that finds nothing; 2 × pending + 2 are enough
   unfoldable pub passes : Settings → ℕ → Uart H W → Settled H W
-  passes s date u = passesFrom s date (2 * pending u + 2) true (begin u)
+  passes s date u = passesFrom s date (2 * pending u + 2) true u
 
 -- ---- levels and the interrupt
 
@@ -199,13 +191,13 @@ module _ {H W : Type 0} where
   levels u = withControl (drive (assertLevels (length (u .rx)) (length (u .inFlight)) (u .control))) u
 
   unfoldable pub leveled : Settled H W → Settled H W
-  leveled t = record { state = levels (t .state); passes = t .passes; overflows = t .overflows }
+  leveled t = record { state = levels (t .state); events = t .events }
 
   unfoldable pub settingsOf : Uart H W → Settings
   settingsOf u = settings (u .control .words) (u .control .period)
 
   unfoldable pub settleTo : ℕ → Uart H W → Settled H W
-  settleTo date u = leveled (passes (settingsOf u) date (depart date u))
+  settleTo date u = found (departures date u) (leveled (passes (settingsOf u) date (depart date u)))
 
   unfoldable pub settle : ℕ → Uart H W → Settled H W
   settle now u = settleTo (settlingDate now (u .control)) u

@@ -10,6 +10,7 @@ use lib.ListN.{length}
 use borrow.Author.Tests.{ltb-true, ltb-false, le-ltb}
 use Rattle.model.specs.Numbers.{choose}
 use Rattle.model.specs.State.{OnTheLine, Uart}
+use Rattle.model.specs.Events.{Event, departure, timeout, landing, nothing}
 use Rattle.model.specs.Line.{fate}
 use Rattle.model.specs.Settle.{pass, onTheLine, pending}
 use Rattle.model.specs.Laws.Choose.{choose-ind}
@@ -18,8 +19,6 @@ use Rattle.model.specs.declared.Frame.{Frame}
 use Rattle.model.specs.declared.Settings.{Settings}
 use Rattle.model.specs.declared.Fate.{Fate}
 use Rattle.model.specs.declared.Fate.the-variants.{Stored, Overflowed, Cleared, ClockOff, Unheard}
-use Rattle.model.specs.declared.Found.{Found}
-use Rattle.model.specs.declared.Found.the-variants.{NothingDue, TimedOut, Landed}
 
 -- ---- fates
 
@@ -48,11 +47,11 @@ unfolding fate choose
 overflowed-exactly s held f = (λ e. subst (FateWhen s held f) e (fate-when s held f), λ o. rw (o .0, o .1, o .2, le-ltb held 128 (o .3)))
 
 -- the same of a pass: what it counts as an overflow
-pub pass-overflows : {H W : Type 0} (s : Settings) (date : ℕ) (u v : Uart H W) (f : Fate)
-    → pass s date u ≡ record { found = Landed f; state = v }
+pub pass-overflows : {H W : Type 0} (s : Settings) (date : ℕ) (u v : Uart H W) (at : ℕ) (b : H) (f : Fate)
+    → pass s date u ≡ record { event = landing at b f; state = v }
     → f ≡ Overflowed ↔ FateWhen s (length (u .rx)) (frameOf s (u .receiving)) Overflowed
-pass-overflows s date u v f e =
-    let law : PassLaw s date u (record { found = Landed f; state = v }) = subst (PassLaw s date u) e (pass-law s date u) in
+pass-overflows s date u v at b f e =
+    let law : PassLaw s date u (record { event = landing at b f; state = v }) = subst (PassLaw s date u) e (pass-law s date u) in
     let exact = overflowed-exactly s (length (u .rx)) (frameOf s (u .receiving)) in
     (λ o. exact .0 (sym (law .takes .fate) ∙ o), λ o. law .takes .fate ∙ exact .1 o)
 
@@ -69,15 +68,17 @@ unfolding pending
 pending-underway u = sym (line-count (u .receiving) (u .host))
 
 -- how many bytes a pass takes off the line
-unfoldable pub landings : Found → ℕ
-landings NothingDue = 0
-landings TimedOut = 0
-landings (Landed f) = 1
+unfoldable pub landings : {H W : Type 0} → Event H W → ℕ
+landings (departure at b) = 0
+landings (timeout at) = 0
+landings (landing at b f) = 1
+landings (nothing at) = 0
 
 -- one byte less is pending after a landing, and as many as before after a timeout or where nothing was due: no pass settles everything
-pub pass-pending : {H W : Type 0} (s : Settings) (date : ℕ) (f : Found) (u v : Uart H W) → Takes s date u f v
-    → pending u ≡ pending v + landings f
+pub pass-pending : {H W : Type 0} (s : Settings) (date : ℕ) (e : Event H W) (u v : Uart H W) → Takes s date u e v
+    → pending u ≡ pending v + landings e
 unfolding landings
-pass-pending s date NothingDue u v t = rw (pending-underway u, pending-underway v, t .pends) (omega arith)
-pass-pending s date TimedOut u v t = rw (pending-underway u, pending-underway v, t .pends) (omega arith)
-pass-pending s date (Landed f) u v t = rw (pending-underway u, pending-underway v, t .pends) (omega arith)
+pass-pending s date (departure at b) u v t = absurd t
+pass-pending s date (timeout at) u v t = rw (pending-underway u, pending-underway v, t .pends) (omega arith)
+pass-pending s date (landing at b f) u v t = rw (pending-underway u, pending-underway v, t .pends) (omega arith)
+pass-pending s date (nothing at) u v t = rw (pending-underway u, pending-underway v, t .pends) (omega arith)

@@ -11,16 +11,17 @@ use lib.ListN.{length, take, drop}
 use borrow.Author.Tests.{leb-true, leb-false}
 use Rattle.dates.specs.Dates.{later}
 use Rattle.model.specs.State.{Sent, Run, OnTheLine, Uart, lineOf}
+use Rattle.model.specs.Events.{Event, passesIn, overflowsIn}
 use Rattle.model.specs.Timing.{settings}
 use Rattle.model.specs.Line.{raiseIf, timeoutAt}
-use Rattle.model.specs.Settle.{gone, leave, depart, pending, passes, begin, assertLevels, drive, noLaterThan, settlingDate, levels}
+use Rattle.model.specs.Settle.{gone, leave, depart, pending, departures, passes, assertLevels, drive, noLaterThan, settlingDate, levels}
 use Rattle.model.specs.Settle.{leveled, settingsOf, settleTo, settle}
 use Rattle.model.specs.Limits.{All, nil, cons, Chain, empty, single, link, flightDates}
 use Rattle.model.specs.Ends.Passes.{After, LineQuiet, Kept}
-use Rattle.model.specs.Ends.Through.{Through, Ran, ran, overflowsAmong, passes-bound, through-kept, through-quiet}
+use Rattle.model.specs.Laws.Events.{departures-pass, departures-lose}
+use Rattle.model.specs.Ends.Through.{Through, through, through-passes, passes-bound, through-kept, through-quiet}
 use Rattle.model.specs.declared.Date.the-variants.{None, At}
 use Rattle.model.specs.declared.Control.{Control}
-use Rattle.model.specs.declared.Found.{Found}
 
 -- ---- the settling's date
 
@@ -95,14 +96,15 @@ pub record Departs {H W : Type 0} (date : ℕ) (u v : Uart H W) : Type 0 where
   pub tx : v .tx ≡ u .tx ++ map (λ s. s .byte) (take count (u .inFlight))
   pub due : All (λ t. t ≤ date) (flightDates (take count (u .inFlight)))
 
--- what a settling finds, pass by pass: all that is due, and then nothing
+-- what a settling finds: the departures, and then pass by pass all that is due on the line, and nothing
 pub record Finds {H W : Type 0} (now : ℕ) (u : Uart H W) : Type 0 where
-  pub finds : List Found
+  pub finds : List (Event H W)
   pub last : Uart H W
   pub through : Through (settingsOf u) (settlingDate now (u .control)) (depart (settlingDate now (u .control)) u) finds last
   pub state : settle now u .state ≡ levels last
-  pub passes : settle now u .passes ≡ 1 + length finds
-  pub overflows : settle now u .overflows ≡ overflowsAmong finds
+  pub events : settle now u .events ≡ departures (settlingDate now (u .control)) u ++ finds
+  pub passes : passesIn (settle now u .events) ≡ length finds
+  pub overflows : overflowsIn (settle now u .events) ≡ overflowsIn finds
 
 module _ {H W : Type 0} (now : ℕ) (u : Uart H W) where
   abbrev date : ℕ
@@ -110,23 +112,28 @@ module _ {H W : Type 0} (now : ℕ) (u : Uart H W) where
 
   -- passes and overflows count what the passes found: timeouts and landings, and the bytes lost among them
   pub settle-finds : Finds now u
-  unfolding settle settleTo leveled begin
+  unfolding settle settleTo leveled
   settle-finds =
-      let r : Ran (settingsOf u) date (begin (depart date u)) (passes (settingsOf u) date (depart date u)) =
-      ran (settingsOf u) date (depart date u) in
+      let t = passes (settingsOf u) date (depart date u) in
       record {
-        finds = r .finds;
-        last = passes (settingsOf u) date (depart date u) .state;
-        through = r .through;
+        finds = t .events;
+        last = t .state;
+        through = through (settingsOf u) date (depart date u);
         state = refl;
-        passes = omega (arith, r .passes);
-        overflows = omega (arith, r .overflows);
+        events = refl;
+        passes = departures-pass date u (t .events) ∙ through-passes (settingsOf u) date (through (settingsOf u) date (depart date u));
+        overflows = departures-lose date u (t .events);
       }
 
   -- demand 1: two passes for each pending byte, and two more
-  pub settle-passes : settle now u .passes ≤ 2 * pending u + 2
+  pub settle-passes : passesIn (settle now u .events) ≤ 2 * pending u + 2
   unfolding settle settleTo leveled depart leave pending
-  settle-passes = passes-bound (settingsOf u) date (depart date u)
+  settle-passes =
+      omega (
+        arith,
+        departures-pass date u (passes (settingsOf u) date (depart date u) .events),
+        passes-bound (settingsOf u) date (depart date u),
+      )
 
   kept : Kept (depart date u) (settle-finds .last)
   kept = through-kept _ _ (settle-finds .through)

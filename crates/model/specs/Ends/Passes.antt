@@ -9,8 +9,9 @@ use mathlib.Core.List.{List, [], _∷_, _++_}
 use lib.ListN.{length}
 use borrow.Author.Tests.{ltb-true, ltb-false, leb-true, leb-false}
 use Rattle.dates.specs.Dates.{later, earlier}
-use Rattle.model.specs.Numbers.{choose, dueBy}
+use Rattle.model.specs.Numbers.{choose, dueBy, instantOf}
 use Rattle.model.specs.State.{Run, OnTheLine, Uart, withLine, lineOf}
+use Rattle.model.specs.Events.{Event, departure, timeout, landing, nothing}
 use Rattle.model.specs.Line
 use Rattle.model.specs.Line.{raiseIf, noteSource, afterDate, timeoutAt, timeOut, frame, start, land}
 use Rattle.model.specs.Settle.{Pass, received, nothingDue, timedOut, landed, inFrame, begun, beforeStart, idle, lineFree, passOn}
@@ -22,8 +23,6 @@ use Rattle.model.specs.declared.Frame.{Frame}
 use Rattle.model.specs.declared.Settings.{Settings}
 use Rattle.model.specs.declared.Fate.{Fate}
 use Rattle.model.specs.declared.Fate.the-variants.{Stored, Overflowed, Cleared, ClockOff, Unheard}
-use Rattle.model.specs.declared.Found.{Found}
-use Rattle.model.specs.declared.Found.the-variants.{NothingDue, TimedOut, Landed}
 use Rattle.model.specs.Laws.Choose.{choose-ind}
 
 -- hypotheses that cannot hold together give anything
@@ -79,31 +78,33 @@ module _ {H W : Type 0} where
       pub rx : v .rx ≡ u .rx
 
     -- one timeout, that of the open idle line, was due: that line closes, and no byte moves into the receive FIFO
-    pub record TakesTimeout (v : Uart H W) : Type 0 where
-      pub timeout : DueAt date (timeoutAt s (lineOf u))
+    pub record TakesTimeout (at : ℕ) (v : Uart H W) : Type 0 where
+      pub comes : timeoutAt s (lineOf u) ≡ At at
+      pub due : at ≤ date
       pub closed : lineOf v .«idle_since» ≡ None
       pub pends : underway v ≡ underway u
       pub rx : v .rx ≡ u .rx
 
     -- one byte, the first pending, comes off the line with its fate; its landing was due
-    pub record TakesByte (f : Fate) (v : Uart H W) : Type 0 where
-      pub byte : H
+    pub record TakesByte (at : ℕ) (byte : H) (f : Fate) (v : Uart H W) : Type 0 where
       pub pends : underway u ≡ byte ∷ underway v
       pub free : v .receiving ≡ none
-      pub due : lineOf v .«line_free_at» ≤ date
+      pub lands : lineOf v .«line_free_at» ≡ at
+      pub due : at ≤ date
       pub fate : f ≡ Line.fate s (length (u .rx)) (frameOf s (u .receiving))
       -- it enters the receive FIFO where its fate is Stored, and only there
       pub stored : f ≡ Stored → v .rx ≡ u .rx ++ (byte ∷ [])
       pub lost : ¬ (f ≡ Stored) → v .rx ≡ u .rx
 
-    abbrev pub Takes : Found → Uart H W → Type 0
-    Takes NothingDue v = Rests v
-    Takes TimedOut v = TakesTimeout v
-    Takes (Landed f) v = TakesByte f v
+    abbrev pub Takes : Event H W → Uart H W → Type 0
+    Takes (departure at b) v = ⊥
+    Takes (timeout at) v = TakesTimeout at v
+    Takes (landing at b f) v = TakesByte at b f v
+    Takes (nothing at) v = Rests v
 
     pub record PassLaw (p : Pass H W) : Type 0 where
       pub kept : Kept u (p .state)
-      pub takes : Takes (p .found) (p .state)
+      pub takes : Takes (p .event) (p .state)
 
 pub kept-trans : {H W : Type 0} {u v w : Uart H W} → Kept u v → Kept v w → Kept u w
 kept-trans p q = record {
@@ -136,11 +137,13 @@ first-date : {r r′ : Run} {rs rs′ : List Run} → r ∷ rs ≡ r′ ∷ rs�
 first-date e = cc
 
 -- a timeout that is due after a start was so before: a start opens no idle line
-start-timeout : (s : Settings) (at : ℕ) (l : Line) (date : ℕ) → DueAt date (timeoutAt s (start s at l)) → DueAt date (timeoutAt s l)
+start-timeout : (s : Settings) (at : ℕ) (l : Line) (date : ℕ) → DueAt date (timeoutAt s (start s at l))
+    → timeoutAt s (start s at l) ≡ timeoutAt s l
 unfolding timeoutAt start noteSource afterDate
 start-timeout s at l date =
-    choose-ind (λ (x : Line). DueAt date (afterDate (s .«timeout_time») (x .«idle_since»)) → DueAt date (timeoutAt s l)) (s .«rx_sclk_en»)
-    (λ _ h. let e : None ≡ At (h .at) = h .is in apart (cc)) (λ _ h. h)
+    choose-ind (λ (x : Line). DueAt date (afterDate (s .«timeout_time») (x .«idle_since»))
+    → afterDate (s .«timeout_time») (x .«idle_since») ≡ timeoutAt s l) (s .«rx_sclk_en»)
+    (λ _ h. let e : None ≡ At (h .at) = h .is in apart (cc)) (λ _ _. refl)
 
 timeOut-closes : (s : Settings) (held : ℕ) (l : Line) → timeOut s held l .«idle_since» ≡ None
 unfolding timeOut raiseIf noteSource
@@ -167,6 +170,17 @@ module _ {H : Type 0} where
   received-lost ClockOff b held n = refl
   received-lost Unheard b held n = refl
 
+-- a due timeout has its date
+instant-is : (d : Date) {n : ℕ} → DueAt n d → d ≡ At (instantOf d)
+unfolding instantOf
+instant-is None h = let e : None ≡ At (h .at) = h .is in apart (cc)
+instant-is (At t) h = refl
+
+instant-due : (d : Date) {n : ℕ} → DueAt n d → instantOf d ≤ n
+unfolding instantOf
+instant-due None h = let e : None ≡ At (h .at) = h .is in apart (cc)
+instant-due (At t) h = omega (arith, h .due, ap instantOf (h .is))
+
 -- ---- one pass
 
 module _ {H W : Type 0} (s : Settings) (date : ℕ) where
@@ -175,11 +189,11 @@ module _ {H W : Type 0} (s : Settings) (date : ℕ) where
     kept : Kept u v
     pends : underway v ≡ underway u
     rx : v .rx ≡ u .rx
-    timeout : DueAt date (timeoutAt s (lineOf v)) → DueAt date (timeoutAt s (lineOf u))
+    timeout : DueAt date (timeoutAt s (lineOf v)) → timeoutAt s (lineOf v) ≡ timeoutAt s (lineOf u)
 
   same-refl : (u : Uart H W) → Same u u
   same-refl u =
-      record { kept = record { map = refl; control = refl; inFlight = refl; tx = refl }; pends = refl; rx = refl; timeout = λ h. h }
+      record { kept = record { map = refl; control = refl; inFlight = refl; tx = refl }; pends = refl; rx = refl; timeout = λ _. refl }
 
   module _ (u v : Uart H W) (same : Same u v) where
     timedOut-law : DueAt date (timeoutAt s (lineOf v)) → PassLaw s date u (timedOut s v)
@@ -192,10 +206,16 @@ module _ {H W : Type 0} (s : Settings) (date : ℕ) where
             inFlight = same .kept .inFlight;
             tx = same .kept .tx;
           };
-      takes = record { timeout = same .timeout h; closed = timeOut-closes s _ _; pends = same .pends; rx = same .rx };
+      takes = record {
+        comes = sym (same .timeout h) ∙ instant-is _ h;
+        due = instant-due _ h;
+        closed = timeOut-closes s _ _;
+        pends = same .pends;
+        rx = same .rx;
+      };
     }
 
-    nothingDue-law : LineQuiet s date v → PassLaw s date u (nothingDue v)
+    nothingDue-law : LineQuiet s date v → PassLaw s date u (nothingDue date v)
     unfolding nothingDue
     nothingDue-law q = record { kept = same .kept; takes = record { quiet = q; pends = same .pends; rx = same .rx } }
 
@@ -211,10 +231,10 @@ module _ {H W : Type 0} (s : Settings) (date : ℕ) where
               tx = same .kept .tx;
             };
         takes = record {
-          byte = l .byte;
           pends = sym (same .pends) ∙ ap (λ r. lineBytes r ++ v .host) e;
           free = refl;
-          due = rw (land-free s (Line.fate s (length (v .rx)) (l .frame)) (l .frame) (lineOf v)) due;
+          lands = land-free s (Line.fate s (length (v .rx)) (l .frame)) (l .frame) (lineOf v);
+          due = due;
           fate = ap₂ (λ h f. Line.fate s (length h) f) (same .rx) fr;
           stored = λ f. received-stored _ (l .byte) (v .rx) f ∙ ap (λ h. h ++ (l .byte ∷ [])) (same .rx);
           lost = λ f. received-lost _ (l .byte) (v .rx) f ∙ same .rx;

@@ -14,7 +14,7 @@ use Rattle.model.specs.Registers.{placeOf}
 use Rattle.model.specs.Tests.{sentLimit, runsLimit, periodLimit, hostFull, runsFull, periodTooLong}
 use Rattle.model.specs.Calls
 use Rattle.model.specs.Calls.{unsettled, afterSettling, undated, lastDate, hostDate, clearedLine, dated, settleAt, quiet, handOver}
-use Rattle.model.specs.Calls.{added, clocked, reclocked, cleared, receiveWork, wakeWork, watchWork, powerDownWork, clockWork}
+use Rattle.model.specs.Calls.{clocked, reclocked, cleared, receiveWork, wakeWork, watchWork, powerDownWork, clockWork}
 use Rattle.model.specs.Calls.{resetWork, takeTxWork, takeWrittenWork}
 use Rattle.model.specs.Limits.{Chain, All, Fits, Within}
 use Rattle.model.specs.Laws.PlaceCases.{write-ind}
@@ -96,7 +96,7 @@ module _ {H W : Type 0} where
       putClock p (record { low = le-max-right _ _; high = max-le h (lit≤ tt); last = p .clock .last; wake = p .clock .wake })
 
   clockChange-parts : (now period : ℕ) (u : Uart H W) → Parts u → Parts (Calls.clockChange now period u .state)
-  unfolding Calls.clockChange clockWork afterSettling reclocked added quiet periodTooLong
+  unfolding Calls.clockChange clockWork afterSettling reclocked quiet periodTooLong
   clockChange-parts now period u p =
       dated-parts Done.Refused _ u p now _
       (λ h e. arm-parts _ (settle-parts now _ (clocked-parts period _ (ltb-false _ _ (not-refused _ _ none e .0))

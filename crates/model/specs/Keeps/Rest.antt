@@ -5,7 +5,7 @@ use mathlib.Core.Bool.{true, false}
 use mathlib.Core.Option.{none}
 use mathlib.Core.List.{[]}
 use Rattle.model.specs.State.{Uart, withLine, withLevel, withControl, withHost, withReceiving, withRx}
-use Rattle.model.specs.Settle.{Pass, leave, depart, nothingDue, timedOut, landed, begun, pass, begin, passes, levels, leveled}
+use Rattle.model.specs.Settle.{Pass, leave, depart, nothingDue, timedOut, landed, begun, pass, passes, levels, leveled}
 use Rattle.model.specs.Settle.{assertLevels, drive, settingsOf, settleTo}
 use Rattle.model.specs.Laws.Cases.{pass-cases, passes-on}
 use Rattle.model.specs.declared.Date.{Date}
@@ -29,7 +29,7 @@ module _ {H W : Type 0} where
 
   -- a settling beyond its departures changes only the line, the receive side and the level
   pub settleTo-keeps : (date : ℕ) (u : Uart H W) → rest (settleTo date u .state) ≡ rest (depart date u)
-  unfolding settleTo leveled levels drive assertLevels passes begin
+  unfolding settleTo leveled levels drive assertLevels passes
   settleTo-keeps date u =
       passes-on (λ (v w : Uart H W). rest w ≡ rest v) (settingsOf u) date (λ v. refl) (λ v w x a b. b ∙ a)
       (pass-keeps (settingsOf u) date) _ true _

@@ -12,8 +12,8 @@ use Rattle.model.specs.Numbers.{dueBy}
 use Rattle.model.specs.Laws.Choose.{choose-ind}
 use Rattle.model.specs.State.{Run, OnTheLine, Uart, lineOf}
 use Rattle.model.specs.Line.{timeoutAt, fate}
-use Rattle.model.specs.Settle.{Pass, Settled, nothingDue, timedOut, landed, inFrame, begun, beforeStart, idle, lineFree, passOn, pass}
-use Rattle.model.specs.Settle.{counted, passesFrom, begin, passes}
+use Rattle.model.specs.Settle.{Pass, nothingDue, timedOut, landed, inFrame, begun, beforeStart, idle, lineFree, passOn, pass}
+use Rattle.model.specs.Settle.{found, ended, passesFrom, passes}
 use Rattle.model.specs.declared.Date.{Date}
 use Rattle.model.specs.declared.Settings.{Settings}
 
@@ -27,7 +27,7 @@ earlier-due date at (Date.At a) h =
 -- a pass is a timeout that is due, or nothing, or a landing, or one of these after a start
 module _ {H W : Type 0} (s : Settings) (date : ℕ) (P : Uart H W → Pass H W → Type 0)
     (out : (u : Uart H W) → dueBy date (timeoutAt s (lineOf u)) ≡ true → P u (timedOut s u))
-    (nothing : (u : Uart H W) → P u (nothingDue u))
+    (nothing : (u : Uart H W) → P u (nothingDue date u))
     (lands : (u : Uart H W) (l : OnTheLine H) → u .receiving ≡ some l → P u (landed s (fate s (length (u .rx)) (l .frame)) l u))
     (starts : (u : Uart H W) (at : ℕ) (b : H) (bs : List H) (p : Pass H W) → u .receiving ≡ none → u .host ≡ b ∷ bs
     → P (begun s at b bs u) p → P u p) where
@@ -59,12 +59,12 @@ module _ {H W : Type 0} (s : Settings) (date : ℕ) (P : Uart H W → Pass H W �
 -- what every pass does to a state, and what holds from a state to itself and on from one to the next, the passes do
 pub passes-on : {H W : Type 0} (R : Uart H W → Uart H W → Type 0) (s : Settings) (date : ℕ) → ((u : Uart H W) → R u u)
     → ((u v w : Uart H W) → R u v → R v w → R u w) → ((u : Uart H W) → R u (pass s date u .state))
-    → (k : ℕ) (go : Bool) (t : Settled H W) → R (t .state) (passesFrom s date k go t .state)
-unfolding passesFrom counted
-passes-on R s date same on one zero false t = same (t .state)
-passes-on R s date same on one zero true t = same (t .state)
-passes-on R s date same on one (suc k) false t = same (t .state)
-passes-on R s date same on one (suc k) true t = on (t .state) _ _ (one (t .state)) (passes-on R s date same on one k _ _)
+    → (k : ℕ) (go : Bool) (u : Uart H W) → R u (passesFrom s date k go u .state)
+unfolding passesFrom
+passes-on R s date same on one zero false u = same u
+passes-on R s date same on one zero true u = same u
+passes-on R s date same on one (suc k) false u = same u
+passes-on R s date same on one (suc k) true u = on u _ _ (one u) (passes-on R s date same on one k _ _)
 
 -- ---- a fact that every pass keeps
 
@@ -84,5 +84,5 @@ module _ {H W : Type 0} (s : Settings) (P : Uart H W → Type 0) (k : KeptOnLine
 
   -- all passes keep it
   pub passes-ind : (date : ℕ) (u : Uart H W) → P u → P (passes s date u .state)
-  unfolding passes begin
-  passes-ind date u = passes-on (λ (v w : Uart H W). P v → P w) s date (λ v p. p) (λ v w x a b p. b (a p)) (pass-ind date) _ true (begin u)
+  unfolding passes
+  passes-ind date u = passes-on (λ (v w : Uart H W). P v → P w) s date (λ v p. p) (λ v w x a b p. b (a p)) (pass-ind date) _ true u

@@ -23,3 +23,10 @@ pub choose-nat {ℓ κ} : {X : Type ℓ} {Y : Type κ} (g : X → Y) (t : Bool) 
 unfolding choose
 choose-nat g true p q = p
 choose-nat g false p q = q
+
+-- two functions that agree on both cases agree on the choice
+pub choose-both {ℓ κ μ} : {X : Type ℓ} {Y : Type κ} {Z : Type μ} (h : X → Z) (g : Y → Z) (t : Bool) {x y : X} {x′ y′ : Y} → h x ≡ g x′
+    → h y ≡ g y′ → h (choose t x y) ≡ g (choose t x′ y′)
+unfolding choose
+choose-both h g true p q = p
+choose-both h g false p q = q

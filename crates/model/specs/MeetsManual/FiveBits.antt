@@ -10,29 +10,29 @@ use lib.Dec.{ltb, eqb}
 use lib.ListN.{length}
 use borrow.Author.Tests.{lt-ltb}
 use Rattle.model.specs.Manual
+use Rattle.model.specs.Events.{Event, departure, timeout, landing, nothing, total, goesOn, lost, overflowsIn}
 use Rattle.model.specs.State.{Uart}
 use Rattle.model.specs.Timing.{settings}
-use Rattle.model.specs.Settle.{Settled, depart, pass, goesOn, lost, counted, passesFrom, passes, pending, begin, aboveFull}
+use Rattle.model.specs.Settle.{depart, pass, passesFrom, passes, pending, departures, aboveFull}
 use Rattle.model.specs.Settle.{belowEmpty, inFifo, emptyThreshold, leveled, settingsOf, settleTo}
 use Rattle.model.specs.Tests.{among}
+use Rattle.model.specs.Laws.Events.{departures-lose}
 use Rattle.model.specs.Keeps.Rest.{settleTo-words}
 use Rattle.model.specs.MeetsManual.Rises.{rawBit, raisedBy, somePass, doneIn, passedIn, fullIn, emptyIn, settleTo-raises}
 use Rattle.model.specs.declared.Words.{Words}
 use Rattle.model.specs.declared.Settings.{Settings}
 use Rattle.model.specs.declared.Fate.the-variants.{Stored, Overflowed, Cleared, ClockOff, Unheard}
-use Rattle.model.specs.declared.Found.{Found}
-use Rattle.model.specs.declared.Found.the-variants.{NothingDue, TimedOut, Landed}
 
 -- ---- some pass of a settling
 
-module _ {H W : Type 0} (q : ℕ → Found → Bool) (s : Settings) (date : ℕ) where
-  same-passes : (r : ℕ → Found → Bool) → ((held : ℕ) (f : Found) → q held f ≡ r held f) → (k : ℕ) (go : Bool) (u : Uart H W)
+module _ {H W : Type 0} (q : ℕ → Event H W → Bool) (s : Settings) (date : ℕ) where
+  same-passes : (r : ℕ → Event H W → Bool) → ((held : ℕ) (f : Event H W) → q held f ≡ r held f) → (k : ℕ) (go : Bool) (u : Uart H W)
       → somePass q s date k go u ≡ somePass r s date k go u
   unfolding somePass
   same-passes r h zero false u = refl
   same-passes r h zero true u = refl
   same-passes r h (suc k) false u = refl
-  same-passes r h (suc k) true u = ap₂ _||_ (h (length (u .rx)) (pass s date u .found)) (same-passes r h k _ _)
+  same-passes r h (suc k) true u = ap₂ _||_ (h (length (u .rx)) (pass s date u .event)) (same-passes r h k _ _)
 
   on-some-pass : (b : Bool) (k : ℕ) (go : Bool) (u : Uart H W)
       → somePass (λ held f. b && q held f) s date k go u ≡ (b && somePass q s date k go u)
@@ -42,21 +42,22 @@ module _ {H W : Type 0} (q : ℕ → Found → Bool) (s : Settings) (date : ℕ)
   on-some-pass b (suc k) false u = sym (and-false b)
   on-some-pass b (suc k) true u =
       let p = pass s date u in
-      ap (λ (t : Bool). (b && q (length (u .rx)) (p .found)) || t) (on-some-pass b k (goesOn (p .found)) (p .state))
-      ∙ sym (and-or-distrib-left b (q (length (u .rx)) (p .found)) (somePass q s date k (goesOn (p .found)) (p .state)))
+      ap (λ (t : Bool). (b && q (length (u .rx)) (p .event)) || t) (on-some-pass b k (goesOn (p .event)) (p .state))
+      ∙ sym (and-or-distrib-left b (q (length (u .rx)) (p .event)) (somePass q s date k (goesOn (p .event)) (p .state)))
 
-  pub no-pass : ((held : ℕ) (f : Found) → q held f ≡ false) → (k : ℕ) (go : Bool) (u : Uart H W) → somePass q s date k go u ≡ false
+  pub no-pass : ((held : ℕ) (f : Event H W) → q held f ≡ false) → (k : ℕ) (go : Bool) (u : Uart H W) → somePass q s date k go u ≡ false
   no-pass h k go u = same-passes (λ held f. false) h k go u ∙ on-some-pass false k go u
 
-not-raised : (s : Settings) (n held : ℕ) (f : Found) → eqb n 4 ≡ false → eqb n 8 ≡ false → raisedBy s n held f ≡ false
+not-raised : {H W : Type 0} (s : Settings) (n held : ℕ) (f : Event H W) → eqb n 4 ≡ false → eqb n 8 ≡ false → raisedBy s n held f ≡ false
 unfolding raisedBy
-not-raised s n held NothingDue a b = refl
-not-raised s n held TimedOut a b = ap (λ (t : Bool). t && (s .«rx_tout_en» && s .«rx_sclk_en» && ltb 0 held)) b
-not-raised s n held (Landed Stored) a b = refl
-not-raised s n held (Landed Overflowed) a b = ap (λ (t : Bool). t && not (s .«dis_rx_dat_ovf»)) a
-not-raised s n held (Landed Cleared) a b = refl
-not-raised s n held (Landed ClockOff) a b = refl
-not-raised s n held (Landed Unheard) a b = refl
+not-raised s n held (departure at x) a b = refl
+not-raised s n held (timeout at) a b = ap (λ (t : Bool). t && (s .«rx_tout_en» && s .«rx_sclk_en» && ltb 0 held)) b
+not-raised s n held (landing at x Stored) a b = refl
+not-raised s n held (landing at x Overflowed) a b = ap (λ (t : Bool). t && not (s .«dis_rx_dat_ovf»)) a
+not-raised s n held (landing at x Cleared) a b = refl
+not-raised s n held (landing at x ClockOff) a b = refl
+not-raised s n held (landing at x Unheard) a b = refl
+not-raised s n held (nothing at) a b = refl
 
 -- ---- RXFIFO_OVF: by the count of overflows
 
@@ -65,30 +66,29 @@ ltb-sum zero b = ap (ltb 0) (zero-add b)
 ltb-sum (suc a) b = lt-ltb 0 (suc a + b) (omega arith) ∙ ap (λ (t : Bool). t || ltb 0 b) (sym (lt-ltb 0 (suc a) (omega arith)))
 
 -- a pass overflowed
-lossy : ℕ → Found → Bool
-lossy held f = ltb 0 (lost f)
+lossy : {H W : Type 0} → ℕ → Event H W → Bool
+lossy held e = ltb 0 (lost e)
 
-losses : {H W : Type 0} (s : Settings) (date k : ℕ) (go : Bool) (t : Settled H W)
-    → ltb 0 (passesFrom s date k go t .overflows) ≡ (ltb 0 (t .overflows) || somePass lossy s date k go (t .state))
-unfolding passesFrom counted somePass lossy
-losses s date zero false t = sym (or-false _)
-losses s date zero true t = sym (or-false _)
-losses s date (suc k) false t = sym (or-false _)
-losses s date (suc k) true t =
-    let p = pass s date (t .state) in
-    losses s date k (goesOn (p .found)) (counted t p)
-    ∙ ap (λ (b : Bool). b || somePass lossy s date k (goesOn (p .found)) (p .state)) (ltb-sum (t .overflows) (lost (p .found)))
-    ∙ or-assoc (ltb 0 (t .overflows)) (ltb 0 (lost (p .found))) (somePass lossy s date k (goesOn (p .found)) (p .state))
+losses : {H W : Type 0} (s : Settings) (date k : ℕ) (go : Bool) (u : Uart H W)
+    → ltb 0 (overflowsIn (passesFrom s date k go u .events)) ≡ somePass lossy s date k go u
+unfolding passesFrom somePass lossy overflowsIn total
+losses s date zero false u = refl
+losses s date zero true u = refl
+losses s date (suc k) false u = refl
+losses s date (suc k) true u =
+    let p = pass s date u in
+    ltb-sum (lost (p .event)) _ ∙ ap (λ (b : Bool). ltb 0 (lost (p .event)) || b) (losses s date k (goesOn (p .event)) (p .state))
 
-overflow-raises : (s : Settings) (held : ℕ) (f : Found) → raisedBy s 4 held f ≡ (not (s .«dis_rx_dat_ovf») && lossy held f)
+overflow-raises : {H W : Type 0} (s : Settings) (held : ℕ) (f : Event H W) → raisedBy s 4 held f ≡ (not (s .«dis_rx_dat_ovf») && lossy held f)
 unfolding raisedBy lossy lost
-overflow-raises s held NothingDue = sym (and-false (not (s .«dis_rx_dat_ovf»)))
-overflow-raises s held TimedOut = sym (and-false (not (s .«dis_rx_dat_ovf»)))
-overflow-raises s held (Landed Stored) = sym (and-false (not (s .«dis_rx_dat_ovf»)))
-overflow-raises s held (Landed Overflowed) = sym (and-true (not (s .«dis_rx_dat_ovf»)))
-overflow-raises s held (Landed Cleared) = sym (and-false (not (s .«dis_rx_dat_ovf»)))
-overflow-raises s held (Landed ClockOff) = sym (and-false (not (s .«dis_rx_dat_ovf»)))
-overflow-raises s held (Landed Unheard) = sym (and-false (not (s .«dis_rx_dat_ovf»)))
+overflow-raises s held (departure at b) = sym (and-false (not (s .«dis_rx_dat_ovf»)))
+overflow-raises s held (timeout at) = sym (and-false (not (s .«dis_rx_dat_ovf»)))
+overflow-raises s held (landing at b Stored) = sym (and-false (not (s .«dis_rx_dat_ovf»)))
+overflow-raises s held (landing at b Overflowed) = sym (and-true (not (s .«dis_rx_dat_ovf»)))
+overflow-raises s held (landing at b Cleared) = sym (and-false (not (s .«dis_rx_dat_ovf»)))
+overflow-raises s held (landing at b ClockOff) = sym (and-false (not (s .«dis_rx_dat_ovf»)))
+overflow-raises s held (landing at b Unheard) = sym (and-false (not (s .«dis_rx_dat_ovf»)))
+overflow-raises s held (nothing at) = sym (and-false (not (s .«dis_rx_dat_ovf»)))
 
 -- ---- the five bits, and all others
 
@@ -99,21 +99,23 @@ neither false b h = (refl, h)
 off : {a : Bool} (b : Bool) → a ≡ false → (a && b) ≡ false
 off b e = ap (λ (t : Bool). t && b) e
 
-unfoldable pub isTimeout : Found → Bool
-isTimeout NothingDue = false
-isTimeout TimedOut = true
-isTimeout (Landed f) = false
+unfoldable pub isTimeout : {H W : Type 0} → Event H W → Bool
+isTimeout (departure at b) = false
+isTimeout (timeout at) = true
+isTimeout (landing at b f) = false
+isTimeout (nothing at) = false
 
-timeout-raises : (w : Words) (period held : ℕ) (f : Found)
+timeout-raises : {H W : Type 0} (w : Words) (period held : ℕ) (f : Event H W)
     → raisedBy (settings w period) 8 held f ≡ Manual.RXFIFO-TOUT (w .conf1) (w .«clk_conf») (isTimeout f) held
 unfolding raisedBy isTimeout Manual.RXFIFO-TOUT settings
-timeout-raises w period held NothingDue = refl
-timeout-raises w period held TimedOut = refl
-timeout-raises w period held (Landed Stored) = refl
-timeout-raises w period held (Landed Overflowed) = refl
-timeout-raises w period held (Landed Cleared) = refl
-timeout-raises w period held (Landed ClockOff) = refl
-timeout-raises w period held (Landed Unheard) = refl
+timeout-raises w period held (departure at b) = refl
+timeout-raises w period held (timeout at) = refl
+timeout-raises w period held (landing at b Stored) = refl
+timeout-raises w period held (landing at b Overflowed) = refl
+timeout-raises w period held (landing at b Cleared) = refl
+timeout-raises w period held (landing at b ClockOff) = refl
+timeout-raises w period held (landing at b Unheard) = refl
+timeout-raises w period held (nothing at) = refl
 
 module _ {H W : Type 0} (date : ℕ) (u : Uart H W) where
   -- some pass of the settling was a timeout that came with its bit enabled, the clock on and a byte held
@@ -137,14 +139,15 @@ module _ {H W : Type 0} (date : ℕ) (u : Uart H W) where
   no-pass-raises : (n : ℕ) → eqb n 4 ≡ false → eqb n 8 ≡ false → passedIn n date u ≡ false
   no-pass-raises n a b = no-pass (raisedBy (settingsOf u) n) (settingsOf u) date (λ held f. not-raised (settingsOf u) n held f a b) _ true _
 
-  overflows-raise : passedIn 4 date u ≡ Manual.RXFIFO-OVF (u .control .words .conf1) (settleTo date u .overflows)
-  unfolding Manual.RXFIFO-OVF settleTo leveled passes settingsOf settings begin
+  overflows-raise : passedIn 4 date u ≡ Manual.RXFIFO-OVF (u .control .words .conf1) (overflowsIn (settleTo date u .events))
+  unfolding Manual.RXFIFO-OVF settleTo leveled passes settingsOf settings
   overflows-raise =
       let s : Settings = settingsOf u in
       let k : ℕ = 2 * pending (depart date u) + 2 in
       same-passes (raisedBy s 4) s date (λ held f. not (s .«dis_rx_dat_ovf») && lossy held f) (overflow-raises s) k true (depart date u)
       ∙ on-some-pass lossy s date (not (s .«dis_rx_dat_ovf»)) k true (depart date u)
-      ∙ ap (λ (b : Bool). not (s .«dis_rx_dat_ovf») && b) (sym (losses s date k true (begin (depart date u))))
+      ∙ ap (λ (b : Bool). not (s .«dis_rx_dat_ovf») && b)
+      (sym (ap (ltb 0) (departures-lose date u (passesFrom s date k true (depart date u) .events)) ∙ losses s date k true (depart date u)))
 
   timeouts-raise : passedIn 8 date u ≡ timeoutCame
   unfolding timeoutCame settingsOf
@@ -173,7 +176,7 @@ module _ {H W : Type 0} (date : ℕ) (u : Uart H W) where
       only n done (no-pass-raises n c d) full empty ∙ simp or-false
 
   -- a settling raises each of the five bits exactly when the manual says
-  pub settling-rises : FiveBits after (settleTo date u .overflows)
+  pub settling-rises : FiveBits after (overflowsIn (settleTo date u .events))
   unfolding Manual.RXFIFO-FULL Manual.TXFIFO-EMPTY Manual.TX-DONE aboveFull belowEmpty inFifo emptyThreshold among
   settling-rises = record {
     full =

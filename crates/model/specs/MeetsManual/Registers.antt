@@ -13,6 +13,7 @@ use Rattle.model.specs.Numbers.{bit}
 use Rattle.model.specs.Manual
 use Rattle.model.specs.Manual.{RXFIFO-CNT, TXFIFO-CNT}
 use Rattle.model.specs.State.{Uart, lineOf}
+use Rattle.model.specs.Events.{overflowsIn}
 use Rattle.model.specs.Settle.{inFifo, aboveFull, belowEmpty, emptyThreshold, intStatus, drive, levels, leveled, settleTo, settle}
 use Rattle.model.specs.Settle.{settlingDate}
 use Rattle.model.specs.Arm.{arm}
@@ -162,6 +163,6 @@ module _ (now : ℕ) (u : Uart ℕ ℕ) (t : InTime now u) where
   -- last date moved
   pub raw-read-rises : (offset : ℕ) → placeOf (u .map .offsets) offset ≡ IntRaw
       → (step (Call.read now offset) u .answer .reply ≡ reads (word (lineOf (settled now u) .«int_raw»)))
-      × FiveBits (settlingDate now (u .control)) (dated now u) (settled now u) (settleAt now u .overflows)
+      × FiveBits (settlingDate now (u .control)) (dated now u) (settled now u) (overflowsIn (settleAt now u .events))
   unfolding settleAt settle settlingDate dated
   raw-read-rises offset e = (raw-read offset e, settling-rises _ (dated now u))

@@ -131,5 +131,5 @@ carriedOut Call.hostPending u = answering pends (hostPending u)
 -- refused with the first number whose condition holds, everything else kept; or carried out, where none holds
 pub data Result (c : Request) (u : Uart ℕ ℕ) : Step ℕ ℕ ℕ → Type 0 where
   refusal : {r : Refusal} {reply : Reply ℕ ℕ ℕ} → First (λ q. Condition u q c) order r → Refuses r c reply
-      → Result c u (record { answer = record { reply = reply; report = noReport }; state = u })
+      → Result c u (record { answer = record { reply = reply; report = noReport }; state = u; events = [] })
   done : All (λ q. ¬ Condition u q c) order → Result c u (carriedOut c u)

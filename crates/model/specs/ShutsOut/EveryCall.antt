@@ -14,7 +14,7 @@ use Rattle.model.specs.Replies.{ReadOf}
 use Rattle.model.specs.Registers.{Access, placeOf, pop, gives, readPlace, looks, readLooking, readAt, sendByte, sent, dropped}
 use Rattle.model.specs.Registers.{storing, clearing, resetFifos, writePlace, concluded}
 use Rattle.model.specs.Calls
-use Rattle.model.specs.Calls.{Outcome, refusing, unless, unsettled, undated, quiet, settleAt, dated, added, clocked, reclocked}
+use Rattle.model.specs.Calls.{Outcome, refusing, unless, unsettled, undated, quiet, settleAt, dated, clocked, reclocked}
 use Rattle.model.specs.Calls.{cleared, handOver, afterSettling, readWork, sendWork, writePlaced, writeWork, send, wakeWork, clockWork}
 use Rattle.model.specs.Calls.{resetWork}
 use Rattle.model.specs.Call.{Call, Written, Request}
@@ -180,7 +180,7 @@ module _ (now : ℕ) (R : Uart ℕ ℕ → Uart ℕ ℕ → Type 0) (k : Walk no
 
   -- a clock change settles twice
   walk-clock : (period : ℕ) (u : Uart ℕ ℕ) → R u (clockWork now period u .state)
-  unfolding clockWork afterSettling reclocked added clocked arm quiet
+  unfolding clockWork afterSettling reclocked clocked arm quiet
   walk-clock period u =
       let v : Uart ℕ ℕ = settleAt now u .state in
       let w : Uart ℕ ℕ = clocked period v in

@@ -13,9 +13,10 @@ use borrow.Author.Tests.{le-ltb, lt-ltb}
 use Rattle.model.specs.Numbers.{choose, bit, dueBy}
 use Rattle.model.specs.State.{OnTheLine, Uart, lineOf}
 use Rattle.model.specs.Timing.{settings}
+use Rattle.model.specs.Events.{Event, departure, timeout, landing, nothing, goesOn, lost}
 use Rattle.model.specs.Line.{raiseIf, fifoBytes, afterDate, timeoutAt, frame, fate}
 use Rattle.model.specs.Settle.{Pass, txDone, leave, depart, received, nothingDue, timedOut, landed, inFrame, begun, passOn, pass}
-use Rattle.model.specs.Settle.{goesOn, lost, counted, passesFrom, pending, begin, passes, levels, leveled, settingsOf, settleTo}
+use Rattle.model.specs.Settle.{passesFrom, pending, passes, levels, leveled, settingsOf, settleTo}
 use Rattle.model.specs.Settle.{settle, settlingDate}
 use Rattle.model.specs.Replies.{byte}
 use Rattle.model.specs.Registers.{placeOf, pop, looks, readPlace, readLooking, readAt}
@@ -31,8 +32,6 @@ use Rattle.model.specs.declared.Settings.{Settings}
 use Rattle.model.specs.declared.Fate.{Fate}
 use Rattle.model.specs.declared.Fate.the-variants.{Stored, Overflowed, Cleared, ClockOff, Unheard}
 use Rattle.model.specs.declared.Unsupported.{Unsupported}
-use Rattle.model.specs.declared.Found.{Found}
-use Rattle.model.specs.declared.Found.the-variants.{NothingDue, TimedOut, Landed}
 
 -- ---- a heard byte with room
 
@@ -58,7 +57,7 @@ module _ {H W : Type 0} (s : Settings) (date : ℕ) (u : Uart H W) (l : OnTheLin
   byte-lands closed on heard clock rst room come =
       let q : pass s date u ≡ landed s Stored l u =
       ap (λ (o : Option (OnTheLine H)). passOn s date o u) on
-      ∙ ap₂ (λ (a b : Bool). choose a (timedOut s u) (choose b (nothingDue u) (landed s (fate s (length (u .rx)) (l .frame)) l u)))
+      ∙ ap₂ (λ (a b : Bool). choose a (timedOut s u) (choose b (nothingDue date u) (landed s (fate s (length (u .rx)) (l .frame)) l u)))
       (no-timeout closed) (le-ltb date (lineOf u .«line_free_at») come)
       ∙ ap (λ (f : Fate). landed s f l u) (room-stores heard clock rst room) in
       (ap (λ (p : Pass H W). p .state .rx) q, ap (λ (p : Pass H W). p .state .receiving) q)
@@ -96,19 +95,19 @@ landing-settled : {H W : Type 0} (date : ℕ) (u : Uart H W) (l : OnTheLine H) �
     → bit 25 (u .control .words .«clk_conf») ≡ true → bit 17 (u .control .words .conf0) ≡ false → length (u .rx) < 128
     → lineOf u .«line_free_at» ≤ date
     → Grown (u .rx ++ (l .byte ∷ [])) (settleTo date u .state .rx)
-unfolding settleTo leveled levels passes begin counted passesFrom depart leave txDone raiseIf settingsOf settings
+unfolding settleTo leveled levels passes passesFrom depart leave txDone raiseIf settingsOf settings
 landing-settled {H} {W} date u l closed on heard clock rst room come =
     let s : Settings = settingsOf u in
     let v : Uart H W = depart date u in
     let p : Pass H W = pass s date v in
     let k : ℕ = 2 * pending v in
     let first : p .state .rx ≡ u .rx ++ (l .byte ∷ []) = byte-lands s date v l closed on heard clock rst room come .0 in
-    let more : Grown (p .state .rx) (passesFrom s date (suc k) (goesOn (p .found)) (counted (begin v) p) .state .rx) =
+    let more : Grown (p .state .rx) (passesFrom s date (suc k) (goesOn (p .event)) (p .state) .state .rx) =
     passes-on (λ (a b : Uart H W). Grown (a .rx) (b .rx)) s date (λ a. as-it-was (a .rx)) (λ a b c. and-on (a .rx) (b .rx) (c .rx))
     (pass-grows s date)
-    (suc k) (goesOn (p .found)) (counted (begin v) p) in (
+    (suc k) (goesOn (p .event)) (p .state) in (
       more .0,
-      ap (λ (n : ℕ). passesFrom s date n true (begin v) .state .rx) (add-two k) ∙ more .1 ∙ ap (λ (x : List H). x ++ more .0) first,
+      ap (λ (n : ℕ). passesFrom s date n true v .state .rx) (add-two k) ∙ more .1 ∙ ap (λ (x : List H). x ++ more .0) first,
     )
 
 pop-first : {H W : Type 0} (ns : List Unsupported) (bs : List H) (u : Uart H W) (b : H) (more : List H) → bs ≡ b ∷ more
@@ -132,25 +131,26 @@ byte-read now offset u l t limits e on heard clock rst empty come =
 
 -- ---- which landings overflow
 
-unfoldable pub isLanding : Found → Bool
-isLanding NothingDue = false
-isLanding TimedOut = false
-isLanding (Landed f) = true
+unfoldable pub isLanding : {H W : Type 0} → Event H W → Bool
+isLanding (departure at b) = false
+isLanding (timeout at) = false
+isLanding (landing at b f) = true
+isLanding (nothing at) = false
 
 -- whether the byte that is on the line, or that starts now, is heard
 unfoldable pub heardOn : {H : Type 0} → Settings → Option (OnTheLine H) → Bool
 heardOn s none = s .«rx_sclk_en»
 heardOn s (some l) = l .frame .heard
 
-lost-when : (h c r t : Bool)
-    → ltb 0 (lost (Landed (choose h (choose c (choose r Cleared (choose t Stored Overflowed)) ClockOff) Unheard)))
+lost-when : {H : Type 0} (W : Type 0) (at : ℕ) (b : H) (h c r t : Bool)
+    → ltb 0 (lost {W = W} (landing at b (choose h (choose c (choose r Cleared (choose t Stored Overflowed)) ClockOff) Unheard)))
     ≡ (h && c && not r && not t)
 unfolding lost choose
-lost-when false c r t = refl
-lost-when true false r t = refl
-lost-when true true true t = refl
-lost-when true true false true = refl
-lost-when true true false false = refl
+lost-when W at b false c r t = refl
+lost-when W at b true false r t = refl
+lost-when W at b true true true t = refl
+lost-when W at b true true false true = refl
+lost-when W at b true true false false = refl
 
 -- heard, with the clock on, RXFIFO_RST clear and 128 bytes held
 abbrev pub tooMany : Settings → Bool → ℕ → Bool
@@ -158,12 +158,12 @@ tooMany s heard held = heard && s .«rx_sclk_en» && not (s .«rxfifo_rst») && 
 
 -- a byte overflows exactly when it lands so
 pub overflows-when : {H W : Type 0} (s : Settings) (date : ℕ) (u : Uart H W)
-    → ltb 0 (lost (pass s date u .found)) ≡ (isLanding (pass s date u .found) && tooMany s (heardOn s (u .receiving)) (length (u .rx)))
+    → ltb 0 (lost (pass s date u .event)) ≡ (isLanding (pass s date u .event) && tooMany s (heardOn s (u .receiving)) (length (u .rx)))
 unfolding timedOut nothingDue landed begun isLanding lost heardOn fate frame
-overflows-when s date =
-    pass-cases s date (λ (u : Uart _ _) (p : Pass _ _). ltb 0 (lost (p .found))
-    ≡ (isLanding (p .found) && tooMany s (heardOn s (u .receiving)) (length (u .rx))))
+overflows-when {W = W} s date =
+    pass-cases s date (λ (u : Uart _ _) (p : Pass _ _). ltb 0 (lost (p .event))
+    ≡ (isLanding (p .event) && tooMany s (heardOn s (u .receiving)) (length (u .rx))))
     (λ u _. refl) (λ u. refl)
-    (λ u l e. lost-when (l .frame .heard) (s .«rx_sclk_en») (s .«rxfifo_rst») (ltb (length (u .rx)) fifoBytes)
+    (λ u l e. lost-when W (lineOf u .«line_free_at») (l .byte) (l .frame .heard) (s .«rx_sclk_en») (s .«rxfifo_rst») (ltb (length (u .rx)) fifoBytes)
     ∙ ap (λ (o : Option (OnTheLine _)). tooMany s (heardOn s o) (length (u .rx))) (sym e))
-    (λ u at b bs p e _ h. h ∙ ap (λ (o : Option (OnTheLine _)). isLanding (p .found) && tooMany s (heardOn s o) (length (u .rx))) (sym e))
+    (λ u at b bs p e _ h. h ∙ ap (λ (o : Option (OnTheLine _)). isLanding (p .event) && tooMany s (heardOn s o) (length (u .rx))) (sym e))

@@ -10,7 +10,7 @@ use Rattle.dates.specs.Dates.{subcycles}
 use Rattle.model.specs.Numbers.{bit}
 use Rattle.model.specs.State.{OnTheLine, Uart, lineOf}
 use Rattle.model.specs.Line.{raiseIf, noteSource, timeOut}
-use Rattle.model.specs.Settle.{Pass, txDone, leave, depart, nothingDue, timedOut, inFrame, passOn, pass, begin, passes, assertLevels}
+use Rattle.model.specs.Settle.{Pass, txDone, leave, depart, nothingDue, timedOut, inFrame, passOn, pass, passes, assertLevels}
 use Rattle.model.specs.Settle.{drive, levels, leveled, settingsOf, settleTo}
 use Rattle.model.specs.Arm.{arm}
 use Rattle.model.specs.Registers.{Access, placeOf, sendByte, sent, dropped, storing, clearing, resetFifos, writePlace, concluded}
@@ -102,10 +102,10 @@ module _ {H W : Type 0} (date : ℕ) where
       (subst (λ (d : ℕ). date < d) (sym (ap (λ (x : Option (OnTheLine H) × ℕ). x .1) q)) early) ∙ q
 
   settling-stayed : (u : Uart H W) → Stayed date u (settleTo date u .state)
-  unfolding settleTo leveled levels drive assertLevels raiseIf passes begin depart leave txDone
+  unfolding settleTo leveled levels drive assertLevels raiseIf passes depart leave txDone
   settling-stayed u =
       passes-on (Stayed date) (settingsOf u) date (λ v l e early. refl) stayed-on (pass-stayed (settingsOf u)) _ true
-      (begin (depart date u))
+      (depart date u)
 
 stayed-walk : (now : ℕ) → Walk now (Stayed (subcycles now))
 unfolding levels drive assertLevels raiseIf

@@ -11,6 +11,7 @@ use lib.ListN.{length, take, drop, length-append}
 use borrow.Author.Tests.{le-ltb, le-leb}
 use Rattle.model.specs.State.{Sent, Uart}
 use Rattle.model.specs.Timing.{unmodelledSource}
+use Rattle.model.specs.Events.{passesIn, overflowsIn}
 use Rattle.model.specs.Settle.{gone, leave, depart, levels, settleTo, settle, settlingDate}
 use Rattle.model.specs.Arm.{arm}
 use Rattle.model.specs.Replies.{Take, report}
@@ -42,7 +43,7 @@ module _ (now : ℕ) (u : Uart ℕ ℕ) (x : Written) (t : InTime now u) (e : pl
 
   -- its report with these notices
   abbrev reported : List Unsupported → Report
-  reported ns = report (settleAt now u .passes) (settleAt now u .overflows) ns (given .state)
+  reported ns = report (passesIn (settleAt now u .events)) (overflowsIn (settleAt now u .events)) ns (given .state)
 
   send-answer : (a : Access Write ℕ ℕ) → sendByte now (x .value % 256) (settled now u) ≡ a
       → (given .answer .reply ≡ writes (a .reply)) × (given .state .inFlight ≡ a .state .inFlight)
@@ -54,7 +55,7 @@ module _ (now : ℕ) (u : Uart ℕ ℕ) (x : Written) (t : InTime now u) (e : pl
         ap (λ (z : Step ℕ ℕ ℕ). z .answer .reply) q,
         ap (λ (z : Step ℕ ℕ ℕ). z .state .inFlight) q,
         ap (λ (z : Step ℕ ℕ ℕ). z .answer .report) q
-            ∙ ap (λ (z : Step ℕ ℕ ℕ). report (settleAt now u .passes) (settleAt now u .overflows) (a .notes) (z .state)) (sym q),
+            ∙ ap (λ (z : Step ℕ ℕ ℕ). report (passesIn (settleAt now u .events)) (overflowsIn (settleAt now u .events)) (a .notes) (z .state)) (sym q),
       )
 
   -- with 128 bytes in flight, and with fewer, the byte joins them, and no notice but the clock's is given

@@ -12,8 +12,8 @@ use Rattle.model.specs.Numbers.{choose, bit, dueBy}
 use Rattle.model.specs.Manual
 use Rattle.model.specs.State.{Run, OnTheLine, Uart, lineOf}
 use Rattle.model.specs.Line.{raiseIf, noteSource, afterDate, timeoutAt, timeOut, start}
-use Rattle.model.specs.Settle.{Pass, Settled, txDone, leave, depart, nothingDue, timedOut, landed, begun, idle, lineFree, passOn}
-use Rattle.model.specs.Settle.{pass, counted, passesFrom, pending, begin, passes, assertLevels, drive, levels, leveled, settingsOf}
+use Rattle.model.specs.Settle.{Pass, txDone, leave, depart, nothingDue, timedOut, landed, begun, idle, lineFree, passOn}
+use Rattle.model.specs.Settle.{pass, passesFrom, pending, passes, assertLevels, drive, levels, leveled, settingsOf}
 use Rattle.model.specs.Settle.{settleTo, settle, settlingDate}
 use Rattle.model.specs.Registers.{Access, pop, gives, readPlace, readLooking, readAt, looks, placeOf}
 use Rattle.model.specs.Calls.{dated, settleAt, afterSettling, readWork}
@@ -49,14 +49,14 @@ module _ (s : Settings) where
   module _ {H W : Type 0} where
     -- a pass that is a timeout was due, and closes the idle line
     pub record Closes (date : ℕ) (u : Uart H W) (p : Pass H W) : Type 0 where
-      pub due : isTimeout (p .found) ≡ true → Due date (lineOf u)
-      pub closed : isTimeout (p .found) ≡ true → lineOf (p .state) .«idle_since» ≡ Date.None
+      pub due : isTimeout (p .event) ≡ true → Due date (lineOf u)
+      pub closed : isTimeout (p .event) ≡ true → lineOf (p .state) .«idle_since» ≡ Date.None
 
     timedOut-closes : (date : ℕ) (u : Uart H W) → Due date (lineOf u) → Closes date u (timedOut s u)
     unfolding timedOut
     timedOut-closes date u h = record { due = λ _. h; closed = λ _. timeOut-closes _ _ }
 
-    nothingDue-closes : (date : ℕ) (u v : Uart H W) → Closes date u (nothingDue v)
+    nothingDue-closes : (date : ℕ) (u v : Uart H W) → Closes date u (nothingDue date v)
     unfolding nothingDue isTimeout
     nothingDue-closes date u v = record { due = λ h. absurd (false≢true h); closed = λ h. absurd (false≢true h) }
 
@@ -97,16 +97,16 @@ module _ {H W : Type 0} (s : Settings) (date : ℕ) where
       ap (λ (o : Option (OnTheLine H)). passOn s date o u) (h .line) ∙ ap (λ (bs : List H). lineFree s date (u .hostRuns) bs u) (h .waiting)
       ∙ no-host (u .hostRuns) u
 
-  idle-due : (u : Uart H W) (b : Bool) → dueBy date (timeoutAt s (lineOf u)) ≡ b → idle s date u ≡ choose b (timedOut s u) (nothingDue u)
+  idle-due : (u : Uart H W) (b : Bool) → dueBy date (timeoutAt s (lineOf u)) ≡ b → idle s date u ≡ choose b (timedOut s u) (nothingDue date u)
   unfolding idle
-  idle-due u b h = ap (λ (t : Bool). choose t (timedOut s u) (nothingDue u)) h
+  idle-due u b h = ap (λ (t : Bool). choose t (timedOut s u) (nothingDue date u)) h
 
-  closed-pass : (u : Uart H W) → Closed u → pass s date u ≡ nothingDue u
+  closed-pass : (u : Uart H W) → Closed u → pass s date u ≡ nothingDue date u
   unfolding choose timeoutAt afterDate dueBy
   closed-pass u h =
       still-pass u (h .still) ∙ idle-due u false (ap (λ (d : Date). dueBy date (afterDate (s .«timeout_time») d)) (h .idleLine))
 
-  closed-passes : (k : ℕ) (go : Bool) (t : Settled H W) → Closed (t .state) → Closed (passesFrom s date k go t .state)
+  closed-passes : (k : ℕ) (go : Bool) (u : Uart H W) → Closed u → Closed (passesFrom s date k go u .state)
   unfolding nothingDue
   closed-passes =
       passes-on (λ (u v : Uart H W). Closed u → Closed v) s date (λ u h. h) (λ u v w a b h. b (a h))
@@ -118,19 +118,18 @@ module _ {H W : Type 0} (s : Settings) (date : ℕ) where
       subst (λ (p : Pass H W). Closed (p .state)) (sym (still-pass u h ∙ idle-due u true due))
       (record { still = record { line = h .line; waiting = h .waiting }; idleLine = timeOut-closes s (length (u .rx)) (lineOf u) })
 
-  due-passes : (k : ℕ) (t : Settled H W) → Still (t .state) → dueBy date (timeoutAt s (lineOf (t .state))) ≡ true
-      → Closed (passesFrom s date (suc k) true t .state)
-  unfolding passesFrom counted
-  due-passes k t h due = closed-passes k _ _ (due-pass (t .state) h due)
+  due-passes : (k : ℕ) (u : Uart H W) → Still u → dueBy date (timeoutAt s (lineOf u)) ≡ true → Closed (passesFrom s date (suc k) true u .state)
+  unfolding passesFrom
+  due-passes k u h due = closed-passes k _ _ (due-pass u h due)
 
 -- a settling at or after the timeout's date closes the idle line
 settling-closes : {H W : Type 0} (date : ℕ) (u : Uart H W) → Still u → dueBy date (timeoutAt (settingsOf u) (lineOf u)) ≡ true
     → lineOf (settleTo date u .state) .«idle_since» ≡ Date.None
-unfolding settleTo leveled levels drive assertLevels raiseIf passes begin depart leave txDone timeoutAt
+unfolding settleTo leveled levels drive assertLevels raiseIf passes depart leave txDone timeoutAt
 settling-closes date u h due =
-    ap (λ (k : ℕ). lineOf (passesFrom (settingsOf u) date k true (begin (depart date u)) .state) .«idle_since»)
+    ap (λ (k : ℕ). lineOf (passesFrom (settingsOf u) date k true (depart date u) .state) .«idle_since»)
     (add-two (2 * pending (depart date u)))
-    ∙ due-passes (settingsOf u) date (suc (2 * pending (depart date u))) (begin (depart date u))
+    ∙ due-passes (settingsOf u) date (suc (2 * pending (depart date u))) (depart date u)
     (record { line = h .line; waiting = h .waiting }) due .idleLine
 
 -- ---- of step

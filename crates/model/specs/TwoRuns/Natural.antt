@@ -8,9 +8,10 @@ use lib.Dec.{leb}
 use lib.ListN.{take, drop, length-map}
 use Rattle.model.specs.Numbers.{choose}
 use Rattle.model.specs.State.{Sent, Run, OnTheLine, Uart, lineOf, withLineOf, mapSent, mapOnTheLine, mapReceiving, mapUart}
+use Rattle.model.specs.Events.{Event, departure, timeout, landing, nothing, goesOn, onePass, lost, total, passesIn, overflowsIn}
 use Rattle.model.specs.Line.{frame}
 use Rattle.model.specs.Settle.{gone, leave, depart, Pass, received, nothingDue, timedOut, landed, inFrame, begun, beforeStart, idle}
-use Rattle.model.specs.Settle.{lineFree, passOn, pass, Settled, goesOn, onTheLine, counted, passesFrom, pending, begin, passes}
+use Rattle.model.specs.Settle.{lineFree, passOn, pass, Settled, found, onTheLine, passesFrom, pending, departures, passes}
 use Rattle.model.specs.Settle.{levels, leveled, settingsOf, settleTo, settle}
 use Rattle.model.specs.Arm.{nthGone, firstGone, lastGone, belowThresholdAt, nextStart, landingOf, nextLanding, instants, arm}
 use Rattle.model.specs.declared.Fate.{Fate}
@@ -19,11 +20,18 @@ use Rattle.model.specs.declared.Settings.{Settings}
 use Rattle.model.specs.Laws.Choose.{choose-nat}
 use Rattle.model.specs.Laws.Lists.{map-take, map-drop}
 
+-- events with other bytes
+unfoldable pub mapEvent : {H H′ W W′ : Type 0} → (H → H′) → (W → W′) → Event H W → Event H′ W′
+mapEvent f g (departure at b) = departure at (g b)
+mapEvent f g (timeout at) = timeout at
+mapEvent f g (landing at b k) = landing at (f b) k
+mapEvent f g (nothing at) = nothing at
+
 unfoldable pub mapPass : {H H′ W W′ : Type 0} → (H → H′) → (W → W′) → Pass H W → Pass H′ W′
-mapPass f g p = record { found = p .found; state = mapUart f g (p .state) }
+mapPass f g p = record { event = mapEvent f g (p .event); state = mapUart f g (p .state) }
 
 unfoldable pub mapSettled : {H H′ W W′ : Type 0} → (H → H′) → (W → W′) → Settled H W → Settled H′ W′
-mapSettled f g t = record { state = mapUart f g (t .state); passes = t .passes; overflows = t .overflows }
+mapSettled f g t = record { state = mapUart f g (t .state); events = map (mapEvent f g) (t .events) }
 
 module _ {W W′ : Type 0} (g : W → W′) where
   gone-nat : (date : ℕ) (ss : List (Sent W)) → gone date (map (mapSent g) ss) ≡ gone date ss
@@ -79,16 +87,16 @@ module _ {H H′ W W′ : Type 0} (f : H → H′) (g : W → W′) where
   -- ---- one pass
 
   module _ (s : Settings) where
-    nothingDue-nat : (u : Uart H W) → nothingDue (mapUart f g u) ≡ mapPass f g (nothingDue u)
-    unfolding nothingDue mapPass
-    nothingDue-nat u = refl
+    nothingDue-nat : (date : ℕ) (u : Uart H W) → nothingDue date (mapUart f g u) ≡ mapPass f g (nothingDue date u)
+    unfolding nothingDue mapPass mapEvent
+    nothingDue-nat date u = refl
 
     timedOut-nat : (u : Uart H W) → timedOut s (mapUart f g u) ≡ mapPass f g (timedOut s u)
-    unfolding timedOut mapPass
+    unfolding timedOut mapPass mapEvent
     timedOut-nat u = rw (length-map (u .rx) f)
 
     landed-nat : (k : Fate) (l : OnTheLine H) (u : Uart H W) → landed s k (mapOnTheLine f l) (mapUart f g u) ≡ mapPass f g (landed s k l u)
-    unfolding landed mapPass mapReceiving
+    unfolding landed mapPass mapEvent mapReceiving
     landed-nat k l u = rw (received-nat f k (l .byte) (u .rx))
 
     inFrame-nat : (date : ℕ) (l : OnTheLine H) (u : Uart H W)
@@ -96,7 +104,7 @@ module _ {H H′ W W′ : Type 0} (f : H → H′) (g : W → W′) where
     unfolding inFrame
     inFrame-nat date l u =
         rw (length-map (u .rx) f) (choose-nat (mapPass f g) _ (timedOut-nat u)
-        (choose-nat (mapPass f g) _ (nothingDue-nat u) (landed-nat _ l u)))
+        (choose-nat (mapPass f g) _ (nothingDue-nat date u) (landed-nat _ l u)))
 
     begun-nat : (at : ℕ) (b : H) (bs : List H) (u : Uart H W)
         → begun s at (f b) (map f bs) (mapUart f g u) ≡ mapUart f g (begun s at b bs u)
@@ -107,12 +115,12 @@ module _ {H H′ W W′ : Type 0} (f : H → H′) (g : W → W′) where
         → beforeStart s date at (f b) (map f bs) (mapUart f g u) ≡ mapPass f g (beforeStart s date at b bs u)
     unfolding beforeStart
     beforeStart-nat date at b bs u =
-        choose-nat (mapPass f g) _ (timedOut-nat u) (choose-nat (mapPass f g) _ (nothingDue-nat u)
+        choose-nat (mapPass f g) _ (timedOut-nat u) (choose-nat (mapPass f g) _ (nothingDue-nat date u)
         (ap (inFrame s date _) (begun-nat at b bs u) ∙ inFrame-nat date (record { byte = b; frame = frame s }) (begun s at b bs u)))
 
     idle-nat : (date : ℕ) (u : Uart H W) → idle s date (mapUart f g u) ≡ mapPass f g (idle s date u)
     unfolding idle
-    idle-nat date u = choose-nat (mapPass f g) _ (timedOut-nat u) (nothingDue-nat u)
+    idle-nat date u = choose-nat (mapPass f g) _ (timedOut-nat u) (nothingDue-nat date u)
 
     lineFree-nat : (date : ℕ) (rs : List Run) (bs : List H) (u : Uart H W)
         → lineFree s date rs (map f bs) (mapUart f g u) ≡ mapPass f g (lineFree s date rs bs u)
@@ -133,33 +141,32 @@ module _ {H H′ W W′ : Type 0} (f : H → H′) (g : W → W′) where
 
     -- ---- pass by pass
 
-    counted-nat : (t : Settled H W) (p : Pass H W) → counted (mapSettled f g t) (mapPass f g p) ≡ mapSettled f g (counted t p)
-    unfolding counted mapSettled mapPass
-    counted-nat t p = refl
+    goes-nat : (e : Event H W) → goesOn (mapEvent f g e) ≡ goesOn e
+    unfolding mapEvent goesOn
+    goes-nat (departure at b) = refl
+    goes-nat (timeout at) = refl
+    goes-nat (landing at b k) = refl
+    goes-nat (nothing at) = refl
 
-    found-nat : (date : ℕ) (u : Uart H W) → pass s date (mapUart f g u) .found ≡ pass s date u .found
-    unfolding mapPass
-    found-nat date u = ap (λ p. p .found) (pass-nat date u)
-
-    passesFrom-nat : (date k : ℕ) (more : Bool) (t : Settled H W)
-        → passesFrom s date k more (mapSettled f g t) ≡ mapSettled f g (passesFrom s date k more t)
-    unfolding passesFrom mapSettled
-    passesFrom-nat date zero false t = refl
-    passesFrom-nat date zero true t = refl
-    passesFrom-nat date (suc k) false t = refl
-    passesFrom-nat date (suc k) true t =
-        ap₂ (λ m r. passesFrom s date k m r) (ap goesOn (found-nat date (t .state)))
-        (ap (counted (mapSettled f g t)) (pass-nat date (t .state)) ∙ counted-nat t _)
-        ∙ passesFrom-nat date k _ (counted t (pass s date (t .state)))
+    passesFrom-nat : (date k : ℕ) (more : Bool) (u : Uart H W)
+        → passesFrom s date k more (mapUart f g u) ≡ mapSettled f g (passesFrom s date k more u)
+    unfolding passesFrom mapSettled mapPass
+    passesFrom-nat date zero false u = refl
+    passesFrom-nat date zero true u = refl
+    passesFrom-nat date (suc k) false u = refl
+    passesFrom-nat date (suc k) true u =
+        let p = pass s date u in
+        ap (λ q. found (q .event ∷ []) (passesFrom s date k (goesOn (q .event)) (q .state))) (pass-nat date u)
+        ∙ ap (λ m. found (mapEvent f g (p .event) ∷ []) (passesFrom s date k m (mapUart f g (p .state)))) (goes-nat (p .event))
+        ∙ ap (found (mapEvent f g (p .event) ∷ [])) (passesFrom-nat date k (goesOn (p .event)) (p .state))
 
   pub pending-nat : (u : Uart H W) → pending (mapUart f g u) ≡ pending u
   unfolding pending
   pending-nat u = ap₂ _+_ (length-map (u .host) f) (onTheLine-nat f (u .receiving))
 
   passes-nat : (s : Settings) (date : ℕ) (u : Uart H W) → passes s date (mapUart f g u) ≡ mapSettled f g (passes s date u)
-  unfolding passes begin mapSettled
-  passes-nat s date u =
-      ap (λ n. passesFrom s date (2 * n + 2) true (begin (mapUart f g u))) (pending-nat u) ∙ passesFrom-nat s date _ true (begin u)
+  unfolding passes
+  passes-nat s date u = ap (λ n. passesFrom s date (2 * n + 2) true (mapUart f g u)) (pending-nat u) ∙ passesFrom-nat s date _ true u
 
   -- ---- levels and the interrupt
 
@@ -169,11 +176,64 @@ module _ {H H′ W W′ : Type 0} (f : H → H′) (g : W → W′) where
 
   leveled-nat : (t : Settled H W) → leveled (mapSettled f g t) ≡ mapSettled f g (leveled t)
   unfolding leveled mapSettled
-  leveled-nat t = ap (λ v. record { state = v; passes = t .passes; overflows = t .overflows }) (levels-nat (t .state))
+  leveled-nat t = ap (λ v. record { state = v; events = map (mapEvent f g) (t .events) }) (levels-nat (t .state))
+
+  left-nat : (ss : List (Sent W)) → map (λ s. departure (s .goneAt) (s .byte)) (map (mapSent g) ss)
+      ≡ map (mapEvent f g) (map (λ s. departure (s .goneAt) (s .byte)) ss)
+  unfolding mapEvent
+  left-nat [] = refl
+  left-nat (s ∷ ss) = ap (λ r. departure (s .goneAt) (g (s .byte)) ∷ r) (left-nat ss)
+
+  departures-nat : (date : ℕ) (u : Uart H W) → departures date (mapUart f g u) ≡ map (mapEvent f g) (departures date u)
+  unfolding departures
+  departures-nat date u =
+      let ss : List (Sent W) = take (gone date (u .inFlight)) (u .inFlight) in
+      rw (gone-nat g date (u .inFlight), ← map-take (mapSent g)) (left-nat ss)
+
+  pub found-nat : (es : List (Event H W)) (t : Settled H W) → found (map (mapEvent f g) es) (mapSettled f g t) ≡ mapSettled f g (found es t)
+  unfolding mapSettled
+  found-nat es t = ap (λ l. record { state = mapUart f g (t .state); events = l }) (sym (map-append (mapEvent f g) es (t .events)))
+
+  -- ---- what is counted of events
+
+  total-nat : (n : Event H W → ℕ) (n′ : Event H′ W′ → ℕ) → ((e : Event H W) → n′ (mapEvent f g e) ≡ n e) → (es : List (Event H W))
+      → total n′ (map (mapEvent f g) es) ≡ total n es
+  unfolding total
+  total-nat n n′ h [] = refl
+  total-nat n n′ h (e ∷ es) = ap₂ _+_ (h e) (total-nat n n′ h es)
+
+  pass-count-nat : (e : Event H W) → onePass (mapEvent f g e) ≡ onePass e
+  unfolding mapEvent onePass
+  pass-count-nat (departure at b) = refl
+  pass-count-nat (timeout at) = refl
+  pass-count-nat (landing at b k) = refl
+  pass-count-nat (nothing at) = refl
+
+  lost-nat : (e : Event H W) → lost (mapEvent f g e) ≡ lost e
+  unfolding mapEvent lost
+  lost-nat (departure at b) = refl
+  lost-nat (timeout at) = refl
+  lost-nat (landing at b Stored) = refl
+  lost-nat (landing at b Overflowed) = refl
+  lost-nat (landing at b Cleared) = refl
+  lost-nat (landing at b ClockOff) = refl
+  lost-nat (landing at b Unheard) = refl
+  lost-nat (nothing at) = refl
+
+  pub passes-in-nat : (es : List (Event H W)) → passesIn (map (mapEvent f g) es) ≡ passesIn es
+  unfolding passesIn
+  passes-in-nat es = total-nat onePass onePass pass-count-nat es
+
+  pub overflows-in-nat : (es : List (Event H W)) → overflowsIn (map (mapEvent f g) es) ≡ overflowsIn es
+  unfolding overflowsIn
+  overflows-in-nat es = total-nat lost lost lost-nat es
 
   settleTo-nat : (date : ℕ) (u : Uart H W) → settleTo date (mapUart f g u) ≡ mapSettled f g (settleTo date u)
   unfolding settleTo settingsOf
-  settleTo-nat date u = ap leveled (ap (passes _ date) (depart-nat date u) ∙ passes-nat _ date (depart date u)) ∙ leveled-nat _
+  settleTo-nat date u =
+      ap₂ found (departures-nat date u)
+      (ap leveled (ap (passes _ date) (depart-nat date u) ∙ passes-nat _ date (depart date u)) ∙ leveled-nat _)
+      ∙ found-nat (departures date u) _
 
   pub settle-nat : (now : ℕ) (u : Uart H W) → settle now (mapUart f g u) ≡ mapSettled f g (settle now u)
   unfolding settle

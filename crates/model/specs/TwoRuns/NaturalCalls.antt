@@ -7,7 +7,8 @@ use mathlib.Core.List.{List, [], _∷_, _++_, map, map-append}
 use lib.Dec.{ltb}
 use lib.ListN.{length, take, length-map}
 use Rattle.model.specs.State.{Uart, withHost, mapSent, mapUart}
-use Rattle.model.specs.Settle.{Settled, settle, levels}
+use Rattle.model.specs.Events.{passesIn, overflowsIn}
+use Rattle.model.specs.Settle.{Settled, found, settle, levels}
 use Rattle.model.specs.Arm.{arm}
 use Rattle.model.specs.Replies.{ReadOf, word, byte, report}
 use Rattle.model.specs.Registers.{Access, loaded, pop, gives, readPlace, readLooking, readAt, goneAt, sent, dropped, sendByte}
@@ -15,11 +16,11 @@ use Rattle.model.specs.Registers.{resetFifos, storing, clearing, writePl
 use Rattle.model.specs.Calls
 use Rattle.model.specs.Calls.{Outcome, refusing, unless, unsettled, afterSettling, undated, filled, notTaken, dated, settleAt, quiet}
 use Rattle.model.specs.Calls.{readWork, readPlaced, writeWork, writePlaced, sendWork, send, joined, handOver, receiveWork, wakeWork}
-use Rattle.model.specs.Calls.{watchWork, powerDownWork, added, clocked, reclocked, clockWork, cleared, resetWork, written, takeTxWork}
+use Rattle.model.specs.Calls.{watchWork, powerDownWork, clocked, reclocked, clockWork, cleared, resetWork, written, takeTxWork}
 use Rattle.model.specs.Calls.{takeWrittenWork}
 use Rattle.model.specs.Call.{Call, Reply}
 use Rattle.model.specs.Run.{Step, answering, stepBy, runBy}
-use Rattle.model.specs.TwoRuns.Natural.{mapSettled, bytes-nat, lastGone-nat, pending-nat, levels-nat, settle-nat, arm-nat}
+use Rattle.model.specs.TwoRuns.Natural.{mapEvent, mapSettled, found-nat, passes-in-nat, overflows-in-nat, bytes-nat, lastGone-nat, pending-nat, levels-nat, settle-nat, arm-nat}
 use Rattle.model.specs.TwoRuns.Placed.{Put, Placed, changed, putting, stepPlaced}
 use Rattle.model.specs.TwoRuns.Alike.{mapReadOf, mapTake, mapReply, mapAnswer, itself}
 use Rattle.model.specs.declared.Place.{Place}
@@ -40,14 +41,14 @@ unfoldable pub mapPlaced : {H H′ W W′ L L′ : Type 0} → (H → H′) → 
 mapPlaced f g h c = changed itself (mapPut g) (map f) (map h) c
 
 unfoldable pub mapStep : {H H′ W W′ L L′ : Type 0} → (H → H′) → (W → W′) → (L → L′) → Step H W L → Step H′ W′ L′
-mapStep f g h s = record { answer = mapAnswer f g h (s .answer); state = mapUart f g (s .state) }
+mapStep f g h s = record { answer = mapAnswer f g h (s .answer); state = mapUart f g (s .state); events = map (mapEvent f g) (s .events) }
 
 module _ {R R′ H H′ W W′ : Type 0} (m : R → R′) (f : H → H′) (g : W → W′) where
   unfoldable mapAccess : Access R H W → Access R′ H′ W′
   mapAccess a = record { reply = m (a .reply); notes = a .notes; state = mapUart f g (a .state) }
 
   unfoldable mapOutcome : Outcome R H W → Outcome R′ H′ W′
-  mapOutcome o = record { reply = m (o .reply); report = o .report; state = mapUart f g (o .state) }
+  mapOutcome o = record { reply = m (o .reply); report = o .report; state = mapUart f g (o .state); events = map (mapEvent f g) (o .events) }
 
   unless-nat : (o : Option Refusal) (reply : Refusal → R) (reply′ : Refusal → R′) (work : Uart H W → Outcome R H W)
       (work′ : Uart H′ W′ → Outcome R′ H′ W′) (u : Uart H W)
@@ -62,8 +63,13 @@ module _ {R R′ H H′ W W′ : Type 0} (m : R → R′) (f : H → H′) (g : 
       → afterSettling (mapSettled f g t) work′ ≡ mapOutcome (afterSettling t work)
   unfolding afterSettling mapSettled mapAccess mapOutcome report
   after-nat t work work′ p =
-      ap (λ a. record { reply = a .reply; report = report (t .passes) (t .overflows) (a .notes) (a .state); state = a .state })
-      (p (t .state))
+      ap (λ a. record {
+        reply = a .reply;
+        report = report (passesIn (map (mapEvent f g) (t .events))) (overflowsIn (map (mapEvent f g) (t .events))) (a .notes) (a .state);
+        state = a .state;
+        events = map (mapEvent f g) (t .events);
+      }) (p (t .state))
+      ∙ rw (passes-in-nat f g (t .events), overflows-in-nat f g (t .events))
 
   -- settled, and then the work
   settled-nat : (now : ℕ) (u : Uart H W) (work : Uart H W → Access R H W) (work′ : Uart H′ W′ → Access R′ H′ W′)
@@ -228,19 +234,15 @@ module _ {H H′ W W′ : Type 0} (f : H → H′) (g : W → W′) where
   unfolding Calls.powerDown powerDownWork
   powerDown-nat now u = unless-nat itself f g _ _ _ _ _ u (λ r. refl) (unsettled-nat itself f g Done.Done _ refl refl)
 
-  added-nat : (s t : Settled H W) → added (mapSettled f g s) (mapSettled f g t) ≡ mapSettled f g (added s t)
-  unfolding added mapSettled
-  added-nat s t = refl
-
   clocked-nat : (period : ℕ) (t : Settled H W) → clocked period (mapSettled f g t .state) ≡ mapUart f g (clocked period (t .state))
   unfolding clocked mapSettled
   clocked-nat period t = refl
 
   reclocked-nat : (now period : ℕ) (t : Settled H W) → reclocked now period (mapSettled f g t) ≡ mapSettled f g (reclocked now period t)
-  unfolding reclocked
+  unfolding reclocked mapSettled
   reclocked-nat now period t =
-      ap (λ v. added (mapSettled f g t) (settle now v)) (clocked-nat period t)
-      ∙ ap (added (mapSettled f g t)) (settle-nat f g now (clocked period (t .state))) ∙ added-nat t _
+      ap (λ v. found (mapSettled f g t .events) (settle now v)) (clocked-nat period t)
+      ∙ ap (found (mapSettled f g t .events)) (settle-nat f g now (clocked period (t .state))) ∙ found-nat f g (t .events) (settle now (clocked period (t .state)))
 
   clockChange-nat : (now period : ℕ) (u : Uart H W)
       → Calls.clockChange now period (mapUart f g u) ≡ mapOutcome itself f g (Calls.clockChange now period u)
@@ -300,8 +302,11 @@ module _ {H H′ W W′ : Type 0} (f : H → H′) (g : W → W′) where
         → ((r : R) → k′ (m r) ≡ mapReply f g h (k r)) → o′ ≡ mapOutcome m f g o → answering k′ o′ ≡ mapStep f g h (answering k o)
     unfolding answering mapStep mapAnswer mapOutcome
     answering-nat m k k′ o o′ p q =
-        ap (answering k′) q ∙ ap (λ r. record { answer = record { reply = r; report = o .report }; state = mapUart f g (o .state) })
-        (p (o .reply))
+        ap (answering k′) q ∙ ap (λ r. record {
+          answer = record { reply = r; report = o .report };
+          state = mapUart f g (o .state);
+          events = map (mapEvent f g) (o .events);
+        }) (p (o .reply))
 
     -- a call is natural where its read and its write are
     stepBy-nat : {R R′ X X′ : Type 0} (a : R → R′) (b : X → X′) (rd : ℕ → R → Uart H W → Outcome (ReadOf H) H W)

@@ -7,9 +7,10 @@ use Prim.Native.Nat.{ℕ, _-_, _≤_}
 use borrow.Author.Tests.{not-true, not-false}
 use Rattle.model.specs.State.{Uart}
 use Rattle.model.specs.Settle
-use Rattle.model.specs.Ends.Through.{Ran}
+use Rattle.model.specs.Events.{passesIn}
+use Rattle.line.specs.Seen.{lost-low}
 use Rattle.device.specs.Receives.{Fit, with}
-use Rattle.device.specs.Rounds.{behind, blank, few-passes, lost-low, ran-first, ran-more, ran-end}
+use Rattle.device.specs.Rounds.{Ran, blank, few-passes, ran-first, ran-more, ran-end}
 use Rattle.device.proofs.passes.take_all_on_the_line.Statement.{statement}
 use Rattle.device.proofs.passes.take_all_on_the_line.Tie as tie
 
@@ -17,14 +18,14 @@ abbrev Inv-loop : tie.InvT-loop
 Inv-loop settings date host run-at run-len₀ rx₀ at₀ passes₀ overflows₀ run-len rx at passes overflows =
     Fit at host run-at run-len rx
     × ((u : Uart ℕ ℕ)
-    → Ran settings date (behind settings date (with at host run-at run-len rx u) passes overflows)
+    → Ran settings date (with at host run-at run-len rx u) passes overflows
     (Settle.passes settings date (with at₀ host run-at run-len₀ rx₀ u)))
     × (overflows ≤ passes)
-    × (Settle.passes settings date (with at₀ host run-at run-len₀ rx₀ blank) .passes ≤ 2052)
+    × (passesIn (Settle.passes settings date (with at₀ host run-at run-len₀ rx₀ blank) .events) ≤ 2052)
 
 abbrev μ-loop : tie.MeasureT-loop
 μ-loop settings date host run-at run-len₀ rx₀ at₀ passes₀ overflows₀ run-len rx at passes overflows =
-    Settle.passes settings date (with at₀ host run-at run-len₀ rx₀ blank) .passes - passes
+    passesIn (Settle.passes settings date (with at₀ host run-at run-len₀ rx₀ blank) .events) - passes
 
 loop-holds : tie.Need-loop-holds Inv-loop μ-loop
 loop-holds c = (c .pre, λ u. ran-first (c .args .settings) (c .args .date) _, omega arith, few-passes _ _ _ _ _ _ _ (c .pre))
@@ -34,7 +35,7 @@ take-next-on-the-line-requires c κs = c .before .before .loop .inv .0
 
 add-passes : tie.Need-add-passes Inv-loop μ-loop
 add-passes c = let k = c .before .before .before .before .loop .inv in
-    omega (arith, k .1 blank .passes, k .3)
+    omega (arith, k .1 blank .left, k .3)
 
 add-overflows : tie.Need-add-overflows Inv-loop μ-loop
 add-overflows c = let k = c .before .before .before .before .before .loop .inv in
@@ -42,13 +43,13 @@ add-overflows c = let k = c .before .before .before .before .before .loop .inv i
       arith,
       c .overflow-of .ensures,
       lost-low (c .before .before .take-next-on-the-line .result .found),
-      k .1 blank .passes,
+      k .1 blank .left,
       k .2,
       k .3,
     )
 
 loop-less : tie.Need-loop-less Inv-loop μ-loop
-loop-less c = omega (arith, c .before .before .before .before .before .before .before .loop .inv .1 blank .passes)
+loop-less c = omega (arith, c .before .before .before .before .before .before .before .loop .inv .1 blank .left)
 
 loop-again : tie.Need-loop-again Inv-loop μ-loop
 loop-again c = let o = c .before .before .before .before .before .before .before .before .args in
