@@ -1,9 +1,12 @@
 -- The UART chapter of the ESP32-C3 Technical Reference Manual, in numbers, fields and bits alone. The manual itself is not at
 -- hand: each line rests on document 01 and uart.rs's comments. MeetsManual proves it of `step`. Assumes nothing.
+use mathlib.Core.Path.{_≡_}
 use Prim.Native.Nat.{ℕ, _+_, _*_}
 use mathlib.Core.Bool.{Bool, _&&_, not}
-use lib.Dec.{ltb, eqb}
-use Rattle.model.specs.Numbers.{field, bit}
+use mathlib.Core.List.{List, [], _∷_}
+use lib.Dec.{leb, ltb, eqb}
+use Rattle.dates.specs.Dates.{after, later}
+use Rattle.model.specs.Numbers.{choose, field, bit}
 
 -- ---- UART_CONF0: the frame, a start bit, 5 to 8 data bits, a parity bit or none, 1, 1.5 or 2 stop bits
 
@@ -42,9 +45,19 @@ halfBits f = 2 * (f .startBits + f .dataBits + f .parityBits) + stopHalves (f .s
 unfoldable pub divider : ℕ → ℕ
 divider clkdiv = 16 * field 0 12 clkdiv + field 20 4 clkdiv
 
--- SCLK_DIV_NUM (bits 12-19) plus 1. Bits 0-11 are the divider's fraction, which uart.rs ignores: it is taken as 0 here
-unfoldable pub sourceDivider : ℕ → ℕ
-sourceDivider clkConf = field 12 8 clkConf + 1
+pub record Ratio : Type 0 where
+  pub over : ℕ
+  pub under : ℕ
+
+-- SCLK_DIV_A (bits 6-11): how many parts of SCLK_DIV_B (bits 0-5) the source divider has beyond its whole number
+abbrev pub fraction : ℕ → ℕ
+fraction clkConf = field 6 6 clkConf
+
+-- SCLK_DIV_NUM (bits 12-19) plus 1, and the fraction
+unfoldable pub sourceDivider : ℕ → Ratio
+sourceDivider clkConf =
+    choose (eqb (fraction clkConf) 0) (record { over = field 12 8 clkConf + 1; under = 1 })
+    (record { over = (field 12 8 clkConf + 1) * field 0 6 clkConf + fraction clkConf; under = field 0 6 clkConf })
 
 -- SCLK_SEL (bits 20-21): 1 is APB_CLK, 3 the crystal
 pub data Source : Type 0 where
@@ -54,10 +67,30 @@ unfoldable pub sourceCode : Source → ℕ
 sourceCode apb = 1
 sourceCode crystal = 3
 
--- a bit lasts the divider times the source divider times the source's period: in sixteenths of the period's unit, and so
--- half a bit in thirty-seconds of it
-unfoldable pub bitTime : ℕ → ℕ → ℕ → ℕ
-bitTime clkdiv clkConf period = divider clkdiv * sourceDivider clkConf * period
+-- a source's period in cycles: APB_CLK's is what the system clock makes it, and the crystal's 40 MHz are a quarter of the cycles'
+unfoldable pub periodOf : Source → ℕ → ℕ
+periodOf apb period = period
+periodOf crystal period = 4
+
+-- a time in subcycles is so many half bits. A bit lasts the divider times the source divider times the source's period; the divider counts
+-- sixteenths and a cycle has 32 subcycles, so that half a bit has that product
+abbrev pub Lasts : ℕ → ℕ → ℕ → ℕ → ℕ → Type 0
+Lasts halves clkdiv clkConf period time =
+    time * sourceDivider clkConf .under ≡ halves * (divider clkdiv * sourceDivider clkConf .over * period)
+
+-- ---- the receive line
+
+-- host bytes, each with its date, on a line that is free from a date on: when each lands. It starts at the later of its date and the
+-- line's being free, and lands a frame's time after its start; dates are held at the last one
+unfoldable pub landings : {B : Type 0} → ℕ → ℕ → List (ℕ × B) → List (ℕ × B)
+landings time free [] = []
+landings time free (b ∷ bs) =
+    (after (later (b .0) free) time, b .1) ∷ landings time (after (later (b .0) free) time) bs
+
+-- those of a list that come by a date
+unfoldable pub by : {B : Type 0} → ℕ → List (ℕ × B) → List (ℕ × B)
+by date [] = []
+by date (b ∷ bs) = choose (leb (b .0) date) (b ∷ by date bs) []
 
 -- ---- UART_STATUS: the bytes in each FIFO
 

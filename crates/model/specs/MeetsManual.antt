@@ -3,4 +3,5 @@ pub mod Rises
 pub mod FiveBits
 pub mod Answers
 pub mod Timing
+pub mod Reception
 pub mod Registers

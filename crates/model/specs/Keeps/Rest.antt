@@ -25,7 +25,7 @@ module _ {H W : Type 0} where
   unfolding timedOut nothingDue landed begun
   pass-keeps s date =
       pass-cases s date (λ (u : Uart H W) (p : Pass H W). rest (p .state) ≡ rest u) (λ u _. refl) (λ u. refl) (λ u l _. refl)
-      (λ u at b bs p _ _ h. h)
+      (λ u r rs b bs p _ _ _ h. h)
 
   -- a settling beyond its departures changes only the line, the receive side and the level
   pub settleTo-keeps : (date : ℕ) (u : Uart H W) → rest (settleTo date u .state) ≡ rest (depart date u)

@@ -7,7 +7,7 @@ use mathlib.Core.Option.{Option, none, some}
 use mathlib.Core.List.{List, [], _∷_}
 use lib.ListN.{length}
 use borrow.Author.Tests.{leb-true, le-leb}
-use Rattle.dates.specs.Dates.{earlier}
+use Rattle.dates.specs.Dates.{later, earlier}
 use Rattle.model.specs.Numbers.{dueBy}
 use Rattle.model.specs.Laws.Choose.{choose-ind}
 use Rattle.model.specs.State.{Run, OnTheLine, Uart, lineOf}
@@ -29,8 +29,8 @@ module _ {H W : Type 0} (s : Settings) (date : ℕ) (P : Uart H W → Pass H W �
     (out : (u : Uart H W) → dueBy date (timeoutAt s (lineOf u)) ≡ true → P u (timedOut s u))
     (nothing : (u : Uart H W) → P u (nothingDue date u))
     (lands : (u : Uart H W) (l : OnTheLine H) → u .receiving ≡ some l → P u (landed s (fate s (length (u .rx)) (l .frame)) l u))
-    (starts : (u : Uart H W) (at : ℕ) (b : H) (bs : List H) (p : Pass H W) → u .receiving ≡ none → u .host ≡ b ∷ bs
-    → P (begun s at b bs u) p → P u p) where
+    (starts : (u : Uart H W) (r : Run) (rs : List Run) (b : H) (bs : List H) (p : Pass H W) → u .receiving ≡ none → u .hostRuns ≡ r ∷ rs
+    → u .host ≡ b ∷ bs → P (begun s (later (r .date) (lineOf u .«line_free_at»)) b bs u) p → P u p) where
   in-frame : (l : OnTheLine H) (u : Uart H W) → u .receiving ≡ some l → P u (inFrame s date l u)
   unfolding inFrame
   in-frame l u e = choose-ind (P u) _ (λ h. out u h) (λ _. choose-ind (P u) _ (λ _. nothing u) (λ _. lands u l e))
@@ -39,17 +39,18 @@ module _ {H W : Type 0} (s : Settings) (date : ℕ) (P : Uart H W → Pass H W �
   unfolding idle
   line-idle u = choose-ind (P u) _ (λ h. out u h) (λ _. nothing u)
 
-  line-free : (rs : List Run) (bs : List H) (u : Uart H W) → u .receiving ≡ none → u .host ≡ bs → P u (lineFree s date rs bs u)
+  line-free : (rs : List Run) (bs : List H) (u : Uart H W) → u .receiving ≡ none → u .hostRuns ≡ rs → u .host ≡ bs
+      → P u (lineFree s date rs bs u)
   unfolding lineFree beforeStart begun
-  line-free [] bs u e h = line-idle u
-  line-free (r ∷ rs) [] u e h = line-idle u
-  line-free (r ∷ rs) (b ∷ bs) u e w =
+  line-free [] bs u e q h = line-idle u
+  line-free (r ∷ rs) [] u e q h = line-idle u
+  line-free (r ∷ rs) (b ∷ bs) u e q w =
       choose-ind (P u) _ (λ h. out u (earlier-due date _ _ h))
-      (λ _. choose-ind (P u) _ (λ _. nothing u) (λ _. starts u _ b bs _ e w (in-frame _ (begun s _ b bs u) refl)))
+      (λ _. choose-ind (P u) _ (λ _. nothing u) (λ _. starts u r rs b bs _ e q w (in-frame _ (begun s _ b bs u) refl)))
 
   pass-on : (l : Option (OnTheLine H)) (u : Uart H W) → u .receiving ≡ l → P u (passOn s date l u)
   unfolding passOn
-  pass-on none u e = line-free (u .hostRuns) (u .host) u e refl
+  pass-on none u e = line-free (u .hostRuns) (u .host) u e refl refl
   pass-on (some l) u e = in-frame l u e
 
   pub pass-cases : (u : Uart H W) → P u (pass s date u)
@@ -80,7 +81,7 @@ module _ {H W : Type 0} (s : Settings) (P : Uart H W → Type 0) (k : KeptOnLine
   unfolding nothingDue
   pass-ind date =
       pass-cases s date (λ (u : Uart H W) (p : Pass H W). P u → P (p .state)) (λ u _. k .timeout u) (λ u p. p) (λ u l _. k .landing l u)
-      (λ u at b bs p e h on q. on (k .start at b bs u e h q))
+      (λ u r rs b bs p e _ h on q. on (k .start _ b bs u e h q))
 
   -- all passes keep it
   pub passes-ind : (date : ℕ) (u : Uart H W) → P u → P (passes s date u .state)

@@ -107,7 +107,7 @@ module _ (s : Settings) (n : ℕ) where
     unfolding Raises
     pass-raises date =
         pass-cases s date Raises (λ u _. timedOut-raises u) (nothingDue-raises date) (λ u l _. landed-raises u _ l)
-        (λ u at b bs p e _. begun-raises u at b bs p e)
+        (λ u r rs b bs p e _ _. begun-raises u _ b bs p e)
 
 -- ---- the passes of a settling
 

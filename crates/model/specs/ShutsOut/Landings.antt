@@ -87,7 +87,7 @@ pass-grows : {H W : Type 0} (s : Settings) (date : ℕ) (u : Uart H W) → Grown
 unfolding timedOut nothingDue landed begun
 pass-grows s date =
     pass-cases s date (λ (u : Uart _ _) (p : Pass _ _). Grown (u .rx) (p .state .rx)) (λ u _. as-it-was (u .rx)) (λ u. as-it-was (u .rx))
-    (λ u l _. received-grows _ (l .byte) (u .rx)) (λ u at b bs p _ _ h. h)
+    (λ u l _. received-grows _ (l .byte) (u .rx)) (λ u r rs b bs p _ _ _ h. h)
 
 -- the byte that is due is stored before whatever the later passes store
 landing-settled : {H W : Type 0} (date : ℕ) (u : Uart H W) (l : OnTheLine H) → lineOf u .«idle_since» ≡ Date.None → u .receiving ≡ some l
@@ -166,4 +166,4 @@ overflows-when {W = W} s date =
     (λ u _. refl) (λ u. refl)
     (λ u l e. lost-when W (lineOf u .«line_free_at») (l .byte) (l .frame .heard) (s .«rx_sclk_en») (s .«rxfifo_rst») (ltb (length (u .rx)) fifoBytes)
     ∙ ap (λ (o : Option (OnTheLine _)). tooMany s (heardOn s o) (length (u .rx))) (sym e))
-    (λ u at b bs p e _ h. h ∙ ap (λ (o : Option (OnTheLine _)). isLanding (p .event) && tooMany s (heardOn s o) (length (u .rx))) (sym e))
+    (λ u r rs b bs p e _ _ h. h ∙ ap (λ (o : Option (OnTheLine _)). isLanding (p .event) && tooMany s (heardOn s o) (length (u .rx))) (sym e))

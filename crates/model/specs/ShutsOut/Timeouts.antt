@@ -73,7 +73,7 @@ module _ (s : Settings) where
     pub pass-closes : (date : ℕ) (u : Uart H W) → Closes date u (pass s date u)
     pass-closes date =
         pass-cases s date (Closes date) (timedOut-closes date) (λ u. nothingDue-closes date u u) (λ u l _. landed-closes date u u _ l)
-        (λ u at b bs p e _. begun-closes date u at b bs p e)
+        (λ u r rs b bs p e _ _. begun-closes date u _ b bs p e)
 
 -- ---- with no host byte on the line or waiting
 
