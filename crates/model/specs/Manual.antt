@@ -3,10 +3,13 @@
 use mathlib.Core.Path.{_≡_}
 use Prim.Native.Nat.{ℕ, _+_, _*_}
 use mathlib.Core.Bool.{Bool, _&&_, not}
-use mathlib.Core.List.{List, [], _∷_}
+use mathlib.Core.Option.{Option, none, some}
+use mathlib.Core.List.{List, [], _∷_, _++_}
 use lib.Dec.{leb, ltb, eqb}
 use Rattle.dates.specs.Dates.{after, later}
 use Rattle.model.specs.Numbers.{choose, field, bit}
+use Rattle.model.specs.declared.Date.{Date}
+use Rattle.model.specs.declared.Date.the-variants.{None, At}
 
 -- ---- UART_CONF0: the frame, a start bit, 5 to 8 data bits, a parity bit or none, 1, 1.5 or 2 stop bits
 
@@ -86,6 +89,23 @@ unfoldable pub landings : {B : Type 0} → ℕ → ℕ → List (ℕ × B) → L
 landings time free [] = []
 landings time free (b ∷ bs) =
     (after (later (b .0) free) time, b .1) ∷ landings time (after (later (b .0) free) time) bs
+
+-- the receive timeout of a line that is idle since a date: so long after it
+unfoldable pub timeout : {B : Type 0} → ℕ → Date → List (ℕ × Option B)
+timeout span None = []
+timeout span (At since) = (after since span, none) ∷ []
+
+-- the same where a byte starts at a date, if the timeout comes no later: a start ends the idle line
+unfoldable pub timeoutBefore : {B : Type 0} → ℕ → ℕ → Date → List (ℕ × Option B)
+timeoutBefore start span None = []
+timeoutBefore start span (At since) = choose (leb (after since span) start) ((after since span, none) ∷ []) []
+
+-- all that a receiver with its clock on shows, each with its date: a byte that lands, or none for a timeout
+unfoldable pub reception : {B : Type 0} → ℕ → ℕ → Date → ℕ → List (ℕ × B) → List (ℕ × Option B)
+reception time span idle free [] = timeout span idle
+reception time span idle free (b ∷ bs) =
+    timeoutBefore (later (b .0) free) span idle ++ (after (later (b .0) free) time, some (b .1))
+    ∷ reception time span (At (after (later (b .0) free) time)) (after (later (b .0) free) time) bs
 
 -- those of a list that come by a date
 unfoldable pub by : {B : Type 0} → ℕ → List (ℕ × B) → List (ℕ × B)

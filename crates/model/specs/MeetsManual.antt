@@ -4,4 +4,5 @@ pub mod FiveBits
 pub mod Answers
 pub mod Timing
 pub mod Reception
+pub mod ReceiveTimeout
 pub mod Registers

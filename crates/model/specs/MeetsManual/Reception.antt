@@ -75,24 +75,24 @@ one-dated date (suc n) rs b bs =
     rw (lt-leb (suc (suc n)) 1 (omega arith)) (ap {B = List _} (λ k. (date, b) ∷ map (λ c. (date, c)) (take k bs) ++ datedBytes rs (drop k bs))
     (let e : suc n ≡ suc (suc n) - 1 = omega arith in e))
 
-first-dated : {H : Type 0} (r : Run) (rs : List Run) (b : H) (bs : List H) → 1 ≤ r .count
+pub first-dated : {H : Type 0} (r : Run) (rs : List Run) (b : H) (bs : List H) → 1 ≤ r .count
     → datedBytes (r ∷ rs) (b ∷ bs) ≡ (r .date, b) ∷ datedBytes (popRun (r ∷ rs)) bs
 first-dated r rs b bs h =
     subst (λ n. datedBytes (record { date = r .date; count = n } ∷ rs) (b ∷ bs)
     ≡ (r .date, b) ∷ datedBytes (popRun (record { date = r .date; count = n } ∷ rs)) bs)
     (let e : suc (r .count - 1) ≡ r .count = omega arith in e) (one-dated (r .date) (r .count - 1) rs b bs)
 
-popped-counted : (rs : List Run) → All (λ n. 1 ≤ n) (runCounts rs) → All (λ n. 1 ≤ n) (runCounts (popRun rs))
+pub popped-counted : (rs : List Run) → All (λ n. 1 ≤ n) (runCounts rs) → All (λ n. 1 ≤ n) (runCounts (popRun rs))
 unfolding popRun
 popped-counted [] c = c
 popped-counted (r ∷ rs) (cons p c) =
     choose-ind (λ (l : List Run). All (λ n. 1 ≤ n) (runCounts l)) _ (λ _. c) (λ t. cons (omega (arith, leb-false (r .count) 1 t)) c)
 
-timeOut-free : (s : Settings) (held : ℕ) (l : Line) → timeOut s held l .«line_free_at» ≡ l .«line_free_at»
+pub timeOut-free : (s : Settings) (held : ℕ) (l : Line) → timeOut s held l .«line_free_at» ≡ l .«line_free_at»
 unfolding timeOut raiseIf noteSource
 timeOut-free s held l = choose-ind (λ (x : Line). x .«line_free_at» ≡ l .«line_free_at») _ (λ _. refl) (λ _. refl)
 
-land-free : (s : Settings) (f : Fate) (fr : Frame) (l : Line) → land s f fr l .«line_free_at» ≡ l .«line_free_at»
+pub land-free : (s : Settings) (f : Fate) (fr : Frame) (l : Line) → land s f fr l .«line_free_at» ≡ l .«line_free_at»
 unfolding land opened raiseIf noteSource
 land-free s Stored fr l = refl
 land-free s Overflowed fr l = refl
@@ -152,24 +152,24 @@ module _ {H : Type 0} where
   none-dropped zero = refl
   none-dropped (suc n) = refl
 
-  none-dated : (rs : List Run) → _≡_ {A = List (ℕ × H)} (datedBytes rs []) []
+  pub none-dated : (rs : List Run) → _≡_ {A = List (ℕ × H)} (datedBytes rs []) []
   unfolding datedBytes
   none-dated [] = refl
   none-dated (r ∷ rs) =
       ap₂ (λ x y. map (λ b. (r .date, b)) x ++ datedBytes rs y) (none-taken (r .count)) (none-dropped (r .count)) ∙ none-dated rs
 
-  not-yet : (date d : ℕ) (b : H) (bs : List (ℕ × H)) → date < d → by date ((d, b) ∷ bs) ≡ []
+  pub not-yet : (date d : ℕ) (b : H) (bs : List (ℕ × H)) → date < d → by date ((d, b) ∷ bs) ≡ []
   unfolding by
   not-yet date d b bs h = choose-false _ _ (lt-leb d date h)
 
-  abbrev Due : ℕ → List (ℕ × H) → Type 0
+  abbrev pub Due : ℕ → List (ℕ × H) → Type 0
   Due date l = All (λ x. x .0 ≤ date) l
 
-  due-append : {date : ℕ} (xs ys : List (ℕ × H)) → Due date xs → Due date ys → Due date (xs ++ ys)
+  pub due-append : {date : ℕ} (xs ys : List (ℕ × H)) → Due date xs → Due date ys → Due date (xs ++ ys)
   due-append [] ys a b = b
   due-append (x ∷ xs) ys (cons p a) b = cons p (due-append xs ys a b)
 
-  all-by : (date : ℕ) (xs ys : List (ℕ × H)) → Due date xs → by date ys ≡ [] → by date (xs ++ ys) ≡ xs
+  pub all-by : (date : ℕ) (xs ys : List (ℕ × H)) → Due date xs → by date ys ≡ [] → by date (xs ++ ys) ≡ xs
   unfolding by
   all-by date [] ys a e = e
   all-by date (x ∷ xs) ys (cons p a) e = choose-true _ _ (le-leb (x .0) date p) ∙ ap (λ l. x ∷ l) (all-by date xs ys a e)
