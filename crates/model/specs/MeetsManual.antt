@@ -5,4 +5,5 @@ pub mod Answers
 pub mod Timing
 pub mod Reception
 pub mod ReceiveTimeout
+pub mod Receiver
 pub mod Registers

@@ -42,10 +42,13 @@ toShow time span idle free none bs = reception time span idle free bs
 toShow time span idle free (some l) bs = (free, some (l .byte)) ∷ reception time span (At free) free bs
 
 module _ {H W : Type 0} where
-  unfoldable pub shows : Settings → Uart H W → List (ℕ × Option H)
-  shows s u =
-      toShow (s .«byte_time») (s .«timeout_time») (lineOf u .«idle_since») (lineOf u .«line_free_at») (u .receiving)
-      (datedBytes (u .hostRuns) (u .host))
+  -- all that it is to show, given the time of a byte and of the timeout
+  unfoldable pub showsIn : ℕ → ℕ → Uart H W → List (ℕ × Option H)
+  showsIn time span u =
+      toShow time span (lineOf u .«idle_since») (lineOf u .«line_free_at») (u .receiving) (datedBytes (u .hostRuns) (u .host))
+
+  abbrev shows : Settings → Uart H W → List (ℕ × Option H)
+  shows s u = showsIn (s .«byte_time») (s .«timeout_time») u
 
   -- what an event shows, and all events, in order
   unfoldable pub shownBy : Event H W → List (ℕ × Option H)
@@ -137,7 +140,7 @@ module _ {H W : Type 0} (s : Settings) (date : ℕ) (clock : s .«rx_sclk_en» �
 
   lands-shows : (l : OnTheLine H) (u : Uart H W) → u .receiving ≡ some l → l .frame .heard ≡ true
       → Shows u (landed s (fate s (length (u .rx)) (l .frame)) l u)
-  unfolding landed shows shownBy toShow
+  unfolding landed showsIn shownBy toShow
   lands-shows l u e h =
       let free : ℕ = lineOf u .«line_free_at» in
       let bs : List (ℕ × H) = datedBytes (u .hostRuns) (u .host) in
@@ -163,7 +166,7 @@ module _ {H W : Type 0} (s : Settings) (date : ℕ) (clock : s .«rx_sclk_en» �
       → shows s u ≡ (at, none) ∷ rest
       → reception (s .«byte_time») (s .«timeout_time») None (lineOf u .«line_free_at») (datedBytes (u .hostRuns) (u .host)) ≡ rest
       → Shows u (timedOut s u)
-  unfolding timedOut shows shownBy toShow
+  unfolding timedOut showsIn shownBy toShow
   out-shows u at rest n ea first later =
       let bs : List (ℕ × H) = datedBytes (u .hostRuns) (u .host) in
       record {
@@ -179,7 +182,7 @@ module _ {H W : Type 0} (s : Settings) (date : ℕ) (clock : s .«rx_sclk_en» �
 
   free-shows : (u : Uart H W) → u .receiving ≡ none → (bs : List (ℕ × H)) → datedBytes (u .hostRuns) (u .host) ≡ bs
       → shows s u ≡ reception (s .«byte_time») (s .«timeout_time») (lineOf u .«idle_since») (lineOf u .«line_free_at») bs
-  unfolding shows toShow
+  unfolding showsIn toShow
   free-shows u n bs e =
       ap₂ (λ o x. toShow (s .«byte_time») (s .«timeout_time») (lineOf u .«idle_since») (lineOf u .«line_free_at») o x) n e
 
@@ -207,7 +210,7 @@ module _ {H W : Type 0} (s : Settings) (date : ℕ) (clock : s .«rx_sclk_en» �
     dated = ap₂ datedBytes er eh ∙ first-dated r rs b bs one
 
     begun-shows : shows s (begun s at b bs u) ≡ then
-    unfolding shows begun toShow start
+    unfolding showsIn begun toShow start
     begun-shows =
         ap (λ x. (lands, some b) ∷ reception (s .«byte_time») (s .«timeout_time») (At lands) lands (datedBytes (popRun x) bs)) er
 
@@ -301,7 +304,7 @@ module _ {H W : Type 0} (s : Settings) (date : ℕ) (clock : s .«rx_sclk_en» �
     later : by date (shows s v) ≡ []
 
   through-met : {u v : Uart H W} {es : List (Event H W)} → Through s date u es v → Heard u → Within u → Met u es v
-  unfolding shownIn shows
+  unfolding shownIn showsIn
   through-met (ends {u = u} {v = v} {e = x} e g) h w =
       let law : PassLaw s date u (record { event = x; state = v }) = subst (PassLaw s date u) e (pass-law s date u) in
       let within : Within v = subst (λ p. Within (p .state)) e (pass-within s date u w) in
@@ -337,7 +340,7 @@ module _ {H W : Type 0} where
   -- what a settling to a date finds on the line is what the manual has a receiver with its clock on show by then
   pub settling-shows : (date : ℕ) (u : Uart H W) → Within u → (clock : settingsOf u .«rx_sclk_en» ≡ true) → ((l : OnTheLine H) → u .receiving ≡ some l → l .frame .heard ≡ true)
       → Showing (settingsOf u) date clock u (settleTo date u .events) (settleTo date u .state)
-  unfolding settleTo leveled levels drive assertLevels raiseIf departures depart leave txDone shows
+  unfolding settleTo leveled levels drive assertLevels raiseIf departures depart leave txDone showsIn
   settling-shows date u w clock heard =
       let s : Settings = settingsOf u in
       let t = passes s date (depart date u) in
