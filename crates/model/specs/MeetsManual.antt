@@ -6,4 +6,5 @@ pub mod Timing
 pub mod Reception
 pub mod ReceiveTimeout
 pub mod Receiver
+pub mod Level
 pub mod Registers

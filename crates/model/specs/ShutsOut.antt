@@ -3,4 +3,5 @@ pub mod EveryCall
 pub mod LineAndBits
 pub mod Moves
 pub mod Timeouts
+pub mod Notices
 pub mod Landings

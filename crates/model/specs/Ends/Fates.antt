@@ -1,20 +1,24 @@
 -- What becomes of the byte that a pass takes off the line, and what is pending after a pass. Assumes nothing.
-use mathlib.Core.Path.{_≡_, sym, subst, _∙_}
+use mathlib.Core.Path.{_≡_, refl, sym, ap, ap₂, subst, _∙_}
 use mathlib.Core.Logic.{_↔_}
 use Prim.Native.Nat.{ℕ, _+_, _≤_, _<_}
 use native.Mathlib.Omega.{arith}
-use mathlib.Core.Bool.{true, false}
+use mathlib.Core.Bool.{Bool, true, false, true≢false}
 use mathlib.Core.Option.{Option, none, some}
-use mathlib.Core.List.{List, _++_}
+use mathlib.Core.List.{List, _∷_, _++_}
 use lib.ListN.{length}
 use borrow.Author.Tests.{ltb-true, ltb-false, le-ltb}
 use Rattle.model.specs.Numbers.{choose}
-use Rattle.model.specs.State.{OnTheLine, Uart}
+use Rattle.model.specs.State.{OnTheLine, Uart, lineOf}
 use Rattle.model.specs.Events.{Event, departure, timeout, landing, nothing}
-use Rattle.model.specs.Line.{fate}
-use Rattle.model.specs.Settle.{pass, onTheLine, pending}
+use Rattle.model.specs.Line.{raiseIf, noteSource, opened, frame, start, fate, land}
+use Rattle.model.specs.Settle.{Pass, nothingDue, timedOut, landed, begun, pass, onTheLine, pending}
 use Rattle.model.specs.Laws.Choose.{choose-ind}
-use Rattle.model.specs.Ends.Passes.{lineBytes, frameOf, underway, Takes, PassLaw, pass-law}
+use Rattle.model.specs.Laws.Cases.{pass-cases}
+use Rattle.model.specs.Ends.Passes.{apart, lineBytes, frameOf, underway, Takes, PassLaw, pass-law}
+use Rattle.model.specs.declared.Date.{Date}
+use Rattle.model.specs.declared.Date.the-variants.{None, At}
+use Rattle.model.specs.declared.Line.{Line}
 use Rattle.model.specs.declared.Frame.{Frame}
 use Rattle.model.specs.declared.Settings.{Settings}
 use Rattle.model.specs.declared.Fate.{Fate}
@@ -54,6 +58,89 @@ pass-overflows s date u v at b f e =
     let law : PassLaw s date u (record { event = landing at b f; state = v }) = subst (PassLaw s date u) e (pass-law s date u) in
     let exact = overflowed-exactly s (length (u .rx)) (frameOf s (u .receiving)) in
     (λ o. exact .0 (sym (law .takes .fate) ∙ o), λ o. law .takes .fate ∙ exact .1 o)
+
+-- ---- the idle line
+
+-- whether a landing with this fate opens the idle line: the byte was heard, and the receiver's clock is on
+unfoldable pub opens : Fate → Bool
+opens Stored = true
+opens Overflowed = true
+opens Cleared = true
+opens ClockOff = false
+opens Unheard = false
+
+land-idle : (s : Settings) (f : Fate) (fr : Frame) (l : Line)
+    → land s f fr l .«idle_since» ≡ choose (opens f) (At (l .«line_free_at»)) (l .«idle_since»)
+unfolding land opens opened raiseIf noteSource choose
+land-idle s Stored fr l = refl
+land-idle s Overflowed fr l = refl
+land-idle s Cleared fr l = refl
+land-idle s ClockOff fr l = refl
+land-idle s Unheard fr l = refl
+
+-- where a byte starts in the pass and does not open the idle line, it was not heard, and the idle line stays as it was
+start-idle : (s : Settings) (at held : ℕ) (l : Line) → opens (fate s held (frame s)) ≡ false → start s at l .«idle_since» ≡ l .«idle_since»
+unfolding start frame fate noteSource opens
+start-idle s at held l =
+    choose-ind (λ (x : Line). opens (fate s held (frame s)) ≡ false → x .«idle_since» ≡ l .«idle_since») (s .«rx_sclk_en»)
+    (λ on e. absurd (true≢false (sym (heard-opens on) ∙ e))) (λ _ _. refl)
+  where
+    heard-opens : s .«rx_sclk_en» ≡ true → opens (fate s held (frame s)) ≡ true
+    heard-opens on =
+        choose-ind Opens (s .«rx_sclk_en»)
+        (λ _. choose-ind Opens (s .«rx_sclk_en»)
+        (λ _. choose-ind Opens (s .«rxfifo_rst») (λ _. refl) (λ _. choose-ind Opens _ (λ _. refl) (λ _. refl)))
+        (λ off. absurd (true≢false (sym on ∙ off)))) (λ off. absurd (true≢false (sym on ∙ off)))
+      where
+        Opens : Fate → Type 0
+        Opens f = opens f ≡ true
+
+same-unless : (t : Bool) (x : Date) {y z : Date} → (t ≡ false → y ≡ z) → choose t x y ≡ choose t x z
+unfolding choose
+same-unless true x h = refl
+same-unless false x h = h refl
+
+-- the fate that a landing tells
+unfoldable landedFate : {H W : Type 0} → Event H W → Fate
+landedFate (departure at b) = Stored
+landedFate (timeout at) = Stored
+landedFate (landing at b f) = f
+landedFate (nothing at) = Stored
+
+-- the idle line after a landing: it opens then, or stays as it was, by the byte's fate
+unfoldable pub idleAfter : {H W : Type 0} → Event H W → Date → Date
+idleAfter (departure at b) d = d
+idleAfter (timeout at) d = None
+idleAfter (landing at b f) d = choose (opens f) (At at) d
+idleAfter (nothing at) d = d
+
+module _ {H W : Type 0} (s : Settings) where
+  abbrev Lands : Uart H W → Pass H W → Type 0
+  Lands u p =
+      (at : ℕ) (b : H) (f : Fate) → p .event ≡ landing at b f
+      → (f ≡ fate s (length (u .rx)) (frameOf s (u .receiving))) × (lineOf (p .state) .«idle_since» ≡ choose (opens f) (At at) (lineOf u .«idle_since»))
+
+  landed-lands : (u : Uart H W) (l : OnTheLine H) → u .receiving ≡ some l → Lands u (landed s (fate s (length (u .rx)) (l .frame)) l u)
+  unfolding landed idleAfter landedFate
+  landed-lands u l e at b f q = (
+    sym (ap landedFate q) ∙ ap (λ o. fate s (length (u .rx)) (frameOf s o)) (sym e),
+    land-idle s (fate s (length (u .rx)) (l .frame)) (l .frame) (lineOf u) ∙ ap (λ x. idleAfter x (lineOf u .«idle_since»)) q,
+  )
+
+  begun-lands : (u : Uart H W) (at : ℕ) (c : H) (cs : List H) (p : Pass H W) → u .receiving ≡ none → Lands (begun s at c cs u) p → Lands u p
+  unfolding begun
+  begun-lands u at c cs p n h d b f q =
+      let (which, idle) = h d b f q in (
+        which ∙ ap (λ o. fate s (length (u .rx)) (frameOf s o)) (sym n),
+        idle ∙ same-unless (opens f) (At d) (λ o. start-idle s at (length (u .rx)) (lineOf u) (sym (ap opens which) ∙ o)),
+      )
+
+  -- of a pass that found a landing: the idle line opens at the landing, or stays as it was, by the byte's fate
+  pub pass-opens : (date : ℕ) (u : Uart H W) → Lands u (pass s date u)
+  unfolding timedOut nothingDue
+  pass-opens date =
+      pass-cases s date Lands (λ u _ at b f q. apart (cc)) (λ u at b f q. apart (cc)) landed-lands
+      (λ u r rs c cs p n _ _ h. begun-lands u _ c cs p n h)
 
 -- ---- pending
 
