@@ -17,6 +17,8 @@ use Rattle.ffi.specs.declared.replies.PlainReply.{PlainReply}
 -- whatever stands in the slots
 pub record SetsUpPlainly (offsets resets : List ℕ) (core : PlainCore) (reply : PlainReply) : Type 0 where
   pub replies : reply ≡ plainSetUp (setUpReply offsets)
+  -- the new core, number by number
+  pub numbers : core ≡ plainCore (newCore offsets resets)
   pub state : (a : Arrays) → abs (coreOf core) a ≡ new offsets resets
   -- no other number stands behind a mark that is not set: a refused first call gives these numbers back one by one
   pub plain : core ≡ plainCore (coreOf core)
@@ -29,6 +31,7 @@ sets-up offsets resets {core} {reply} sixteen e r =
     let meant : coreOf core ≡ newCore offsets resets = ap coreOf e ∙ core-back (newCore offsets resets) in
     record {
       replies = r;
+      numbers = e;
       state = λ a. ap (λ (c : Core). abs c a) meant ∙ new-means offsets resets a;
       plain = e ∙ sym (ap plainCore meant);
       good = λ ready a slots. subst (λ (c : Core). Ok c a) (sym meant) (new-good offsets resets a sixteen slots refl ready);

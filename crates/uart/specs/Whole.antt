@@ -72,9 +72,15 @@ afterDone u done = record { uart = withCore (done .core) u; reply = done .reply;
 abbrev pub afterTake : Uart → TakeCore → AfterTake
 afterTake u taken = record { uart = withCore (taken .core) u; reply = taken .reply; report = taken .report }
 
--- set-up gives the definition's new state, within the limits unless it is refused
+-- slots of zeros
+abbrev pub zeros : Arrays
+zeros = arrays (replicate 129 0) (replicate 129 0) (replicate 1152 0) (replicate 1024 0) (replicate 64 0) (replicate 64 0) (replicate 128 0)
+
+-- set-up gives the new core and slots of zeros, which stand for the definition's new state, within the limits unless it is refused
 pub record SetsUp (offsets resets : List ℕ) (u : Uart) (reply : SetUp) : Type 0 where
   pub replies : reply ≡ setUpReply offsets
+  pub core : u .core ≡ newCore offsets resets
+  pub slots : arraysOf u ≡ zeros
   pub state : meaning u ≡ new offsets resets
   pub good : reply ≡ SetUp.Ready → Good u
 
@@ -89,10 +95,6 @@ sent-few c a ok =
     )
 
 -- ---- set-up
-
--- slots of zeros
-abbrev pub zeros : Arrays
-zeros = arrays (replicate 129 0) (replicate 129 0) (replicate 1152 0) (replicate 1024 0) (replicate 64 0) (replicate 64 0) (replicate 128 0)
 
 module _ (offsets resets : List ℕ) (a : Arrays) where
   -- whatever stands in the slots

@@ -4,7 +4,7 @@ use Rattle.calls.proofs.queries.has_left.Statement.{statement}
 use Rattle.calls.proofs.queries.has_left.Tie as tie
 
 returns : tie.Need-returns
-returns c = λ a ok. has-left-of (c .before .args .core) a
+returns c = λ a. has-left-of (c .before .args .core) a
 
 pub has-left-spec : {M : Type 1} → statement M
 has-left-spec = tie.close (tie.spec returns)

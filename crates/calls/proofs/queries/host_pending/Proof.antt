@@ -5,10 +5,10 @@ use Rattle.calls.proofs.queries.host_pending.Statement.{statement}
 use Rattle.calls.proofs.queries.host_pending.Tie as tie
 
 returns : tie.Need-returns
-returns c = λ a ok. pending-free (c .before .before .args .core) a (c .enum-told .given .1)
+returns c = λ a. pending-free (c .before .before .args .core) a (c .enum-told .given .1)
 
 returns-2 : tie.Need-returns-2
-returns-2 c = λ a ok. pending-on (c .before .before .before .args .core) a _ (c .before .enum-told2 .given .1)
+returns-2 c = λ a. pending-on (c .before .before .before .args .core) a _ (c .before .enum-told2 .given .1)
 
 pub host-pending-spec : {M : Type 1} → statement M
 host-pending-spec = tie.close (tie.spec (λ c. search needs) (λ c. search needs) (λ c. search needs) returns returns-2)

@@ -9,8 +9,7 @@ has-left-requires : tie.Need-has-left-requires
 has-left-requires c κs = tt
 
 returns : tie.Need-returns
-returns c = λ a ok.
-    rw (c .before .core-of .ensures) at (c .has-left .ensures a (rw (c .before .core-of .ensures) ok))
+returns c = λ a. rw (c .before .core-of .ensures) at (c .has-left .ensures a)
 
 pub wondraxu-has-left-spec : {M : Type 1} → statement M
 wondraxu-has-left-spec = tie.close (tie.spec core-of-requires has-left-requires returns)

@@ -9,8 +9,7 @@ host-pending-requires : tie.Need-host-pending-requires
 host-pending-requires c κs = rw (c .core-of .ensures) (c .before .pre)
 
 returns : tie.Need-returns
-returns c = λ a ok.
-    rw (c .before .core-of .ensures) at (c .host-pending .ensures a (rw (c .before .core-of .ensures) ok))
+returns c = λ a. rw (c .before .core-of .ensures) at (c .host-pending .ensures a)
 
 pub wondraxu-host-pending-spec : {M : Type 1} → statement M
 wondraxu-host-pending-spec = tie.close (tie.spec core-of-requires host-pending-requires returns)

@@ -14,6 +14,8 @@ returns c =
     rw (c .before .set-up .ensures)
     (record {
       replies = refl;
+      core = refl;
+      slots = refl;
       state = new-means (o .offsets) (o .resets) zeros;
       good = λ ready. new-good (o .offsets) (o .resets) zeros (omega arith) (refl, refl, refl, refl, refl, refl, refl) refl ready;
     })
