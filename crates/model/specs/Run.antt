@@ -4,7 +4,7 @@ use mathlib.Core.Bool.{Bool}
 use mathlib.Core.List.{List, [], _∷_}
 use Rattle.model.specs.State.{Uart}
 use Rattle.model.specs.Replies.{ReadOf, readNumber, writeNumber, doneNumber, takenNumber}
-use Rattle.model.specs.Registers.{placeOf}
+use Rattle.model.specs.Places.{placeOf}
 use Rattle.model.specs.Calls
 use Rattle.model.specs.Calls.{Outcome}
 use Rattle.model.specs.Call.{Call, Written, Request, Reply, reads, writes, does, takes, left, pends, Answer}

@@ -10,7 +10,7 @@ use lib.Dec.{ltb, lit≤}
 use lib.ListN.{length}
 use borrow.Author.Tests.{leb-false, ltb-false, lt-ltb}
 use Rattle.model.specs.State.{Uart, withTx}
-use Rattle.model.specs.Registers.{placeOf}
+use Rattle.model.specs.Places.{placeOf}
 use Rattle.model.specs.Tests.{sentLimit, runsLimit, periodLimit, hostFull, runsFull, periodTooLong}
 use Rattle.model.specs.Calls
 use Rattle.model.specs.Calls.{unsettled, afterSettling, undated, lastDate, hostDate, clearedLine, dated, settleAt, quiet, handOver}
@@ -185,5 +185,5 @@ module _ {H W : Type 0} where
 pub write-within : {H : Type 0} (now offset v : ℕ) (u : Uart H ℕ) → Within u → Within (Calls.write now offset v u .state)
 unfolding Calls.write
 write-within now offset v u w =
-    write-ind (λ _ o. Within (o .state)) now v u (send-within now (v % 256) u w) (λ p. writePlaced-within now p v u w)
-    (placeOf (u .map .offsets) offset)
+    let p : Place = placeOf (u .map .offsets) offset in
+    write-ind (λ o. Within (o .state)) now p v u (λ _. send-within now (v % 256) u w) (λ _. writePlaced-within now p v u w)

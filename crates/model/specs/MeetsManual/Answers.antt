@@ -1,7 +1,7 @@
 -- What `step` does with a register access that is not refused. Assumes nothing.
 use mathlib.Core.Path.{_≡_, ap, ap₂, _∙_}
 use Prim.Native.Nat.{ℕ, _+_, _%_, _<_, _≤_}
-use mathlib.Core.Bool.{Bool}
+use mathlib.Core.Bool.{Bool, decide}
 use mathlib.Core.Option.{Option, none, some}
 use mathlib.Core.List.{List}
 use lib.ListN.{length}
@@ -10,8 +10,8 @@ use Rattle.model.specs.Numbers.{choose}
 use Rattle.model.specs.State.{Uart}
 use Rattle.model.specs.Line.{fifoBytes}
 use Rattle.model.specs.Replies.{ReadOf}
-use Rattle.model.specs.Registers.{Access, placeOf, pop, gives, readPlace, sendByte, sent, dropped, storing, clearing, resetFifos}
-use Rattle.model.specs.Registers.{writePlace}
+use Rattle.model.specs.Places.{placeOf, kind, isFifo}
+use Rattle.model.specs.Registers.{sendByte, sent, dropped}
 use Rattle.model.specs.Tests.{dateEnd, pastEnd, wentBack, sentLimit, transmitFull, refuseIf, refuseDate}
 use Rattle.model.specs.Calls
 use Rattle.model.specs.Calls.{Outcome, refusing, unless, settleAt, readPlaced, readWork, writePlaced, writeWork, send, sendWork}
@@ -19,8 +19,7 @@ use Rattle.model.specs.Calls.{writeAt}
 use Rattle.model.specs.Call.{Call, Written, reads, writes}
 use Rattle.model.specs.Run.{answering, stepBy, writing, step}
 use Rattle.model.specs.declared.Place.{Place}
-use Rattle.model.specs.declared.Place.the-variants.{Fifo, IntRaw, IntSt, IntEna, IntClr, Clkdiv, Status, FsmStatus, Conf0, Conf1}
-use Rattle.model.specs.declared.Place.the-variants.{ClkConf, IdleConf, Rs485Conf, AtCmdChar, MemConf, MemRxStatus, Unknown}
+use Rattle.model.specs.declared.Place.the-variants.{Fifo, IntClr}
 use Rattle.model.specs.declared.Refusal.{Refusal}
 use Rattle.model.specs.declared.Refusal.the-variants.{DatePastEnd, DateWentBack, TransmitFull}
 use Rattle.model.specs.declared.Unsupported.{Unsupported}
@@ -57,7 +56,7 @@ module _ {now : ℕ} {u : Uart ℕ ℕ} (t : InTime now u) where
   -- a write to FIFO that 4 does not refuse
   pub fifo-answer : (x : Written) → placeOf (u .map .offsets) (x .offset) ≡ Fifo → length (u .tx) + length (u .inFlight) < sentLimit
       → step (Call.write now x) u ≡ answering writes (sendWork now (x .value % 256) u)
-  unfolding step stepBy writing Calls.write writeAt send refuseIf transmitFull
+  unfolding step stepBy writing Calls.write writeAt isFifo kind decide choose send refuseIf transmitFull
   fifo-answer x e room =
       ap (λ (q : Place). answering writes (writeAt now q (x .value) u)) e
       ∙ ap (answering writes) (carried-out _ (sendWork now (x .value % 256)) u
@@ -65,7 +64,7 @@ module _ {now : ℕ} {u : Uart ℕ ℕ} (t : InTime now u) where
 
   pub clear-answer : (x : Written) → placeOf (u .map .offsets) (x .offset) ≡ IntClr
       → step (Call.write now x) u ≡ answering writes (writeWork now IntClr (x .value) u)
-  unfolding step stepBy writing Calls.write writeAt writePlaced
+  unfolding step stepBy writing Calls.write writeAt isFifo kind decide choose writePlaced
   clear-answer x e =
       ap (λ (q : Place). answering writes (writeAt now q (x .value) u)) e
       ∙ ap (answering writes) (carried-out _ (writeWork now IntClr (x .value)) u (in-time t none))

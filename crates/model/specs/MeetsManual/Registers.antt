@@ -4,7 +4,7 @@ use mathlib.Core.Path.{_≡_, refl, sym, ap, ap₂, _∙_}
 use Prim.Native.Nat.{ℕ, _-_, _*_, _/_, _%_, _^_, _<_, _≤_}
 use native.Mathlib.Nat.{div-one}
 use native.Mathlib.Omega.{arith}
-use mathlib.Core.Bool.{Bool, true, false, _&&_, _||_, not}
+use mathlib.Core.Bool.{Bool, true, false, _&&_, decide, _||_, not}
 use mathlib.Core.List.{List, [], _∷_}
 use lib.Dec.{eqb}
 use lib.ListN.{length}
@@ -17,14 +17,14 @@ use Rattle.model.specs.Settle.{inFifo, aboveFull, belowEmpty, emptyThres
 use Rattle.model.specs.Settle.{settlingDate}
 use Rattle.model.specs.Arm.{arm}
 use Rattle.model.specs.Replies.{word, report}
-use Rattle.model.specs.Registers.{placeOf, loaded, looks, statusWord, pop, gives, readPlace, readLooking, readAt, clearing}
-use Rattle.model.specs.Registers.{writePlace, concluded}
+use Rattle.model.specs.Places.{placeOf, Kind, kind, valueOf}
+use Rattle.model.specs.Registers.{looks, statusWord, pop, shownIn, readKind, readLooking, readAt, clearing, writeKind, concluded}
 use Rattle.model.specs.SetUp.{fifoCounts}
 use Rattle.model.specs.Calls.{afterSettling, dated, settleAt, readWork, writeWork}
 use Rattle.model.specs.Call.{Call, Written, reads}
 use Rattle.model.specs.Run.{Step, answering, step}
 use Rattle.model.specs.Limits.{Within}
-use Rattle.model.specs.Laws.PlaceCases.{readPlace-ind}
+use Rattle.model.specs.Laws.PlaceCases.{readKind-ind}
 use Rattle.model.specs.Laws.Bits.{bit-and, bit-without}
 use Rattle.model.specs.Keeps.Parts.{apart, together}
 use Rattle.model.specs.Keeps.Dated.{settleAt-parts}
@@ -81,17 +81,17 @@ unfolding pop
 pop-level ns [] u = refl
 pop-level ns (b ∷ bs) u = refl
 
-level-kept : {H W : Type 0} (look : Bool) (p : Place) (u : Uart H W) → readLooking look p u .state .control .level ≡ u .control .level
-unfolding readLooking gives
-level-kept true p u = readPlace-ind (λ a. a .state .control .level ≡ u .control .level) _ _ (pop-level _ (u .rx) _) (λ r. refl) p
-level-kept false p u = readPlace-ind (λ a. a .state .control .level ≡ u .control .level) [] u (pop-level [] (u .rx) u) (λ r. refl) p
+level-kept : {H W : Type 0} (look : Bool) (p : Kind) (u : Uart H W) → readLooking look p u .state .control .level ≡ u .control .level
+unfolding readLooking
+level-kept true p u = readKind-ind (λ a. a .state .control .level ≡ u .control .level) _ _ (pop-level _ (u .rx) _) (λ r. refl) p
+level-kept false p u = readKind-ind (λ a. a .state .control .level ≡ u .control .level) [] u (pop-level [] (u .rx) u) (λ r. refl) p
 
 module _ (now : ℕ) (u : Uart ℕ ℕ) (t : InTime now u) where
   -- STATUS bits 0-9 are the bytes held, and bits 16-25 those in the transmit FIFO: all in flight but the one that is being sent
   pub status-read : (offset : ℕ) → placeOf (u .map .offsets) offset ≡ Status → Within u
       → (w : ℕ) × (step (Call.read now offset) u .answer .reply ≡ reads (word w))
       × (RXFIFO-CNT w ≡ length (settled now u .rx)) × (TXFIFO-CNT w ≡ length (settled now u .inFlight) - 1)
-  unfolding answering readWork afterSettling readAt looks readLooking readPlace gives
+  unfolding answering readWork afterSettling readAt looks kind decide readLooking readKind shownIn
   status-read offset e within =
       let v : Uart ℕ ℕ = settled now u in
       let limits : Within v = together v (settleAt-parts now u (t .beforeEnd) (apart u within)) in (
@@ -106,18 +106,18 @@ module _ (now : ℕ) (u : Uart ℕ ℕ) (t : InTime now u) where
       → step (Call.read now offset) u .answer .report .level ≡ not (eqb (intStatus (settled now u .control)) 0)
   unfolding answering readWork afterSettling readAt report settleAt settle settleTo leveled levels drive intStatus
   level-read offset p e =
-      ap (λ (s : Step ℕ ℕ ℕ). s .answer .report .level) (read-answer t offset p e) ∙ level-kept (looks p) p (settled now u)
+      ap (λ (s : Step ℕ ℕ ℕ). s .answer .report .level) (read-answer t offset p e) ∙ level-kept _ (kind p) (settled now u)
 
   -- ---- INT_RAW, INT_ENA, INT_ST
 
   pub raw-read : (offset : ℕ) → placeOf (u .map .offsets) offset ≡ IntRaw
       → step (Call.read now offset) u .answer .reply ≡ reads (word (lineOf (settled now u) .«int_raw»))
-  unfolding answering readWork afterSettling readAt looks readLooking readPlace gives
+  unfolding answering readWork afterSettling readAt looks kind decide readLooking readKind shownIn
   raw-read offset e = ap (λ (s : Step ℕ ℕ ℕ). s .answer .reply) (read-answer t offset IntRaw e)
 
   pub ena-read : (offset : ℕ) → placeOf (u .map .offsets) offset ≡ IntEna
       → step (Call.read now offset) u .answer .reply ≡ reads (word (settled now u .control .words .«int_ena»))
-  unfolding answering readWork afterSettling readAt looks readLooking readPlace gives loaded
+  unfolding answering readWork afterSettling readAt looks kind decide readLooking readKind valueOf
   ena-read offset e = ap (λ (s : Step ℕ ℕ ℕ). s .answer .reply) (read-answer t offset IntEna e)
 
   -- INT_ST reads, bit by bit, as what INT_RAW and INT_ENA would have read
@@ -126,7 +126,7 @@ module _ (now : ℕ) (u : Uart ℕ ℕ) (t : InTime now u) where
       → (w r e : ℕ) × (step (Call.read now st) u .answer .reply ≡ reads (word w))
       × (step (Call.read now raw) u .answer .reply ≡ reads (word r))
       × (step (Call.read now ena) u .answer .reply ≡ reads (word e)) × ((n : ℕ) → bit n w ≡ Manual.masked (bit n r) (bit n e))
-  unfolding answering readWork afterSettling readAt looks readLooking readPlace gives intStatus
+  unfolding answering readWork afterSettling readAt looks kind decide readLooking readKind shownIn intStatus
   status-of-interrupts st raw ena a b c =
       let v : Uart ℕ ℕ = settled now u in (
         intStatus (v .control),
@@ -147,7 +147,7 @@ module _ (now : ℕ) (u : Uart ℕ ℕ) (t : InTime now u) where
       ≡ (Manual.cleared (rawBit n v) (bit n (x .value))
       || (eqb n 0 && Manual.RXFIFO-FULL (v .control .words .conf1) (length (v .rx)))
       || (eqb n 1 && Manual.TXFIFO-EMPTY (v .control .words .conf1) (length (v .inFlight) - 1)))
-  unfolding answering writeWork afterSettling writePlace clearing concluded arm Manual.RXFIFO-FULL Manual.TXFIFO-EMPTY aboveFull belowEmpty
+  unfolding answering writeWork afterSettling kind writeKind clearing concluded arm Manual.RXFIFO-FULL Manual.TXFIFO-EMPTY aboveFull belowEmpty
       inFifo emptyThreshold
   clear-write x e small n h =
       let v : Uart ℕ ℕ = settled now u in

@@ -12,7 +12,8 @@ use Rattle.model.specs.State.{Sent, Uart}
 use Rattle.model.specs.Timing.{xtalPeriod, stopHalfBits, frameHalfBits, halfBitTime, bitTime, byteTime, timeoutTime, sourcePeriod}
 use Rattle.model.specs.Settle.{levels, settle}
 use Rattle.model.specs.Arm.{arm, nthGone, lastGone}
-use Rattle.model.specs.Registers.{Access, placeOf, startsAt, goneAt, sent, concluded}
+use Rattle.model.specs.Places.{placeOf}
+use Rattle.model.specs.Registers.{Access, startsAt, goneAt, sent, concluded}
 use Rattle.model.specs.Tests.{sentLimit}
 use Rattle.model.specs.Calls.{afterSettling, dated, settleAt, sendWork}
 use Rattle.model.specs.Call.{Call, Written}

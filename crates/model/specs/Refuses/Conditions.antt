@@ -9,7 +9,7 @@ use lib.ListN.{length}
 use Rattle.model.specs.State.{Run, Uart}
 use Rattle.model.specs.Numbers.{choose}
 use Rattle.model.specs.Replies.{refused, noReport}
-use Rattle.model.specs.Registers.{placeOf}
+use Rattle.model.specs.Places.{placeOf, isFifo}
 use Rattle.model.specs.Calls.{Outcome, readWork, writeWork, sendWork, receiveWork, wakeWork, watchWork, powerDownWork, clockWork}
 use Rattle.model.specs.Calls.{resetWork, takeTxWork, takeWrittenWork}
 use Rattle.model.specs.Calls.{hasLeft, hostPending}
@@ -17,8 +17,6 @@ use Rattle.model.specs.Call.{Call, Written, Request, Reply, reads, write
 use Rattle.model.specs.Run.{Step, answering}
 use Rattle.model.specs.Limits.{All}
 use Rattle.model.specs.declared.Place.{Place}
-use Rattle.model.specs.declared.Place.the-variants.{Fifo, IntRaw, IntSt, IntEna, IntClr, Clkdiv, Status, FsmStatus, Conf0, Conf1}
-use Rattle.model.specs.declared.Place.the-variants.{ClkConf, IdleConf, Rs485Conf, AtCmdChar, MemConf, MemRxStatus, Unknown}
 use Rattle.model.specs.declared.Refusal.{Refusal}
 use Rattle.model.specs.declared.Refusal.the-variants.{DatePastEnd, DateWentBack, TransmitFull, HostFull, RunsFull, PeriodTooLong}
 use Rattle.model.specs.declared.Refusal.the-variants.{BufferTooShort}
@@ -86,26 +84,6 @@ pub data Refuses (r : Refusal) : Request → Reply ℕ ℕ ℕ → Type 0 where
   takeWritten : {lent : List ℕ} → Refuses r (Call.takeWritten lent) (takes (record { taken = Taken.Refused r; front = []; rest = lent }))
 
 -- ---- a call that no condition stops
-
--- whether a place is FIFO's
-unfoldable pub isFifo : Place → Bool
-isFifo Fifo = true
-isFifo IntRaw = false
-isFifo IntSt = false
-isFifo IntEna = false
-isFifo IntClr = false
-isFifo Clkdiv = false
-isFifo Status = false
-isFifo FsmStatus = false
-isFifo Conf0 = false
-isFifo Conf1 = false
-isFifo ClkConf = false
-isFifo IdleConf = false
-isFifo Rs485Conf = false
-isFifo AtCmdChar = false
-isFifo MemConf = false
-isFifo MemRxStatus = false
-isFifo Unknown = false
 
 -- a write that is carried out: to FIFO it sends the word's low 8 bits, elsewhere it stores or clears
 unfoldable pub writtenAt : ℕ → Place → ℕ → Uart ℕ ℕ → Outcome Write ℕ ℕ

@@ -2,22 +2,21 @@
 use mathlib.Core.Path.{_≡_, refl, sym, ap}
 use mathlib.Core.Logic.{_↔_}
 use Prim.Native.Nat.{ℕ}
-use mathlib.Core.Bool.{true, false}
+use mathlib.Core.Bool.{true, false, decide}
 use mathlib.Core.List.{List, [], _∷_}
 use lib.Dec.{eqb}
 use lib.ListN.{drop}
 use borrow.Author.Tests.{eqb-true, eq-eqb}
 use Rattle.model.specs.Numbers.{choose}
-use Rattle.model.specs.Registers.{places, placeAmong, placeOf}
+use Rattle.model.specs.Places.{places, placeAmong, placeOf, kind, isFifo}
 use Rattle.model.specs.Limits.{All, nil, cons}
 use Rattle.model.specs.Laws.Choose.{choose-ind}
 use Rattle.model.specs.Ends.Passes.{apart}
-use Rattle.model.specs.Refuses.Conditions.{isFifo}
 use Rattle.model.specs.declared.Place.{Place}
 use Rattle.model.specs.declared.Place.the-variants.{Fifo}
 
 among-others : (offset : ℕ) (os : List ℕ) {ps : List Place} → All (λ p. isFifo p ≡ false) ps → isFifo (placeAmong offset os ps) ≡ false
-unfolding placeAmong isFifo
+unfolding placeAmong isFifo kind decide
 among-others offset [] nil = refl
 among-others offset [] (cons h hs) = refl
 among-others offset (o ∷ os) nil = refl
@@ -27,8 +26,9 @@ among-others offset (o ∷ os) (cons h hs) = choose-ind (λ (p : Place). isFifo 
 abbrev others : List Place
 others = drop 1 places
 
-after-first : (offset : ℕ) (os : List ℕ) → isFifo (placeAmong offset os others) ≡ false
-unfolding isFifo
+-- no place after the first is FIFO's
+pub after-first : (offset : ℕ) (os : List ℕ) → isFifo (placeAmong offset os others) ≡ false
+unfolding isFifo kind decide
 after-first offset os = among-others offset os
     (cons refl (cons refl (cons refl (cons refl (cons refl (cons refl (cons refl (cons refl
     (cons refl (cons refl (cons refl (cons refl (cons refl (cons refl (cons refl nil)))))))))))))))
@@ -40,7 +40,7 @@ first-is-fifo offset os = rw (eq-eqb offset offset refl)
 
 -- what becomes FIFO is the first offset
 pub fifo-is-first : (offsets : List ℕ) (offset : ℕ) → isFifo (placeOf offsets offset) ≡ true → (os : List ℕ) × (offsets ≡ offset ∷ os)
-unfolding placeOf placeAmong isFifo
+unfolding placeOf placeAmong isFifo kind decide
 fifo-is-first [] offset = λ h. apart (cc)
 fifo-is-first (o ∷ os) offset = choose-ind (λ (p : Place). isFifo p ≡ true → (os′ : List ℕ) × (o ∷ os ≡ offset ∷ os′)) (eqb offset o)
     (λ e _. (os, ap (λ x. x ∷ os) (sym (eqb-true offset o e))))
@@ -51,7 +51,7 @@ same-first e = cc
 
 -- in a map that has an offset, a place is FIFO exactly where the offset is the first
 pub fifo-exactly : (first : ℕ) (os : List ℕ) (offset : ℕ) → placeOf (first ∷ os) offset ≡ Fifo ↔ offset ≡ first
-unfolding isFifo
+unfolding isFifo kind decide
 fifo-exactly first os offset = (
   λ e. let f : (os′ : List ℕ) × (first ∷ os ≡ offset ∷ os′) = fifo-is-first (first ∷ os) offset (ap isFifo e) in sym (same-first (f .1)),
   λ e. rw e (first-is-fifo first os),

@@ -4,7 +4,7 @@ use mathlib.Core.Path.{_≡_, refl, sym, ap, ap₂, _∙_}
 use Prim.Native.Nat.{ℕ, suc, _*_, _<_, _≤_}
 use native.Mathlib.Numerals.{add-two}
 use native.Mathlib.Omega.{arith}
-use mathlib.Core.Bool.{Bool, true, false, _&&_, not}
+use mathlib.Core.Bool.{Bool, true, false, _&&_, decide, not}
 use mathlib.Core.Option.{Option, none, some}
 use mathlib.Core.List.{List, [], _∷_, _++_, append-nil, append-assoc}
 use lib.Dec.{ltb}
@@ -18,7 +18,8 @@ use Rattle.model.specs.Settle.{Pass, txDone, leave, depart, received, no
 use Rattle.model.specs.Settle.{goesOn, lost, counted, passesFrom, pending, begin, passes, levels, leveled, settingsOf, settleTo}
 use Rattle.model.specs.Settle.{settle, settlingDate}
 use Rattle.model.specs.Replies.{byte}
-use Rattle.model.specs.Registers.{placeOf, pop, looks, readPlace, readLooking, readAt}
+use Rattle.model.specs.Places.{placeOf, kind}
+use Rattle.model.specs.Registers.{pop, looks, readKind, readLooking, readAt}
 use Rattle.model.specs.Calls.{dated, settleAt, afterSettling, readWork}
 use Rattle.model.specs.Call.{Call, reads}
 use Rattle.model.specs.Run.{Step, answering, step}
@@ -123,7 +124,7 @@ pub byte-read : (now offset : ℕ) (u : Uart ℕ ℕ) (l : OnTheLine ℕ) → In
     → l .frame .heard ≡ true → bit 25 (u .control .words .«clk_conf») ≡ true → bit 17 (u .control .words .conf0) ≡ false → u .rx ≡ []
     → lineOf u .«line_free_at» ≤ settlingDate now (u .control)
     → step (Call.read now offset) u .answer .reply ≡ reads (byte (l .byte))
-unfolding answering readWork afterSettling readAt looks readLooking readPlace settleAt settle settlingDate dated
+unfolding answering readWork afterSettling readAt looks kind decide readLooking readKind settleAt settle settlingDate dated
 byte-read now offset u l t limits e on heard clock rst empty come =
     let closed : lineOf u .«idle_since» ≡ Date.None = limits .idleLine (ap isHeard on ∙ heard) in
     let stored = landing-settled (settlingDate now (u .control)) (dated now u) l closed on heard clock rst (rw empty (omega arith)) come in

@@ -14,7 +14,8 @@ use Rattle.model.specs.Timing.{unmodelledSource}
 use Rattle.model.specs.Settle.{gone, leave, depart, levels, settleTo, settle, settlingDate}
 use Rattle.model.specs.Arm.{arm}
 use Rattle.model.specs.Replies.{Take, report}
-use Rattle.model.specs.Registers.{Access, placeOf, sourceNotes, goneAt, sent, dropped, sendByte, concluded}
+use Rattle.model.specs.Places.{placeOf}
+use Rattle.model.specs.Registers.{Access, sourceNotes, goneAt, sent, dropped, sendByte, concluded}
 use Rattle.model.specs.Tests.{dateEnd, sentLimit, hostLimit, hostFull, runsFull, bufferTooShort, refuseIf}
 use Rattle.model.specs.Calls
 use Rattle.model.specs.Calls.{Outcome, afterSettling, quiet, settleAt, dated, filled, hostDate, lastDate, sendWork, takeTxWork}

@@ -3,15 +3,15 @@
 use mathlib.Core.Path.{_≡_, refl, ap}
 use Prim.Native.Nat.{ℕ, _%_}
 use mathlib.Core.List.{List}
+use Rattle.model.specs.Numbers.{choose}
 use Rattle.model.specs.State.{Uart}
-use Rattle.model.specs.Registers.{placeOf}
+use Rattle.model.specs.Places.{placeOf, isFifo}
 use Rattle.model.specs.Calls
 use Rattle.model.specs.Calls.{Outcome, readPlaced, writePlaced, send, writeAt}
 use Rattle.model.specs.Call.{Call, Request}
 use Rattle.model.specs.Run.{Step, answering, stepBy, writing, step}
+use Rattle.model.specs.Laws.Choose.{choose-nat}
 use Rattle.model.specs.declared.Place.{Place}
-use Rattle.model.specs.declared.Place.the-variants.{Fifo, IntRaw, IntSt, IntEna, IntClr, Clkdiv, Status, FsmStatus, Conf0, Conf1}
-use Rattle.model.specs.declared.Place.the-variants.{ClkConf, IdleConf, Rs485Conf, AtCmdChar, MemConf, MemRxStatus, Unknown}
 use Rattle.model.specs.declared.Write.{Write}
 
 -- what is written where: a byte to FIFO, or a word to another place
@@ -41,23 +41,7 @@ changed r x h l Call.hostPending = Call.hostPending
 
 -- a FIFO write's byte is its word's low 8 bits
 unfoldable pub putAt : Place → ℕ → Put ℕ
-putAt Fifo v = Put.byte (v % 256)
-putAt IntRaw v = Put.word IntRaw v
-putAt IntSt v = Put.word IntSt v
-putAt IntEna v = Put.word IntEna v
-putAt IntClr v = Put.word IntClr v
-putAt Clkdiv v = Put.word Clkdiv v
-putAt Status v = Put.word Status v
-putAt FsmStatus v = Put.word FsmStatus v
-putAt Conf0 v = Put.word Conf0 v
-putAt Conf1 v = Put.word Conf1 v
-putAt ClkConf v = Put.word ClkConf v
-putAt IdleConf v = Put.word IdleConf v
-putAt Rs485Conf v = Put.word Rs485Conf v
-putAt AtCmdChar v = Put.word AtCmdChar v
-putAt MemConf v = Put.word MemConf v
-putAt MemRxStatus v = Put.word MemRxStatus v
-putAt Unknown v = Put.word Unknown v
+putAt p v = choose (isFifo p) (Put.byte (v % 256)) (Put.word p v)
 
 -- a caller's call with places for its offsets
 unfoldable pub placed : List ℕ → Request → Placed ℕ ℕ ℕ
@@ -73,23 +57,7 @@ module _ {H W : Type 0} where
 
 writeAt-placed : (now : ℕ) (p : Place) (v : ℕ) (u : Uart ℕ ℕ) → writeAt now p v u ≡ putting now (putAt p v) u
 unfolding writeAt putting putAt
-writeAt-placed now Fifo v u = refl
-writeAt-placed now IntRaw v u = refl
-writeAt-placed now IntSt v u = refl
-writeAt-placed now IntEna v u = refl
-writeAt-placed now IntClr v u = refl
-writeAt-placed now Clkdiv v u = refl
-writeAt-placed now Status v u = refl
-writeAt-placed now FsmStatus v u = refl
-writeAt-placed now Conf0 v u = refl
-writeAt-placed now Conf1 v u = refl
-writeAt-placed now ClkConf v u = refl
-writeAt-placed now IdleConf v u = refl
-writeAt-placed now Rs485Conf v u = refl
-writeAt-placed now AtCmdChar v u = refl
-writeAt-placed now MemConf v u = refl
-writeAt-placed now MemRxStatus v u = refl
-writeAt-placed now Unknown v u = refl
+writeAt-placed now p v u = choose-nat (λ (x : Put ℕ). putting now x u) (isFifo p) refl refl
 
 -- a caller's call does what the placed one does
 pub step-placed : (c : Request) (u : Uart ℕ ℕ) → step c u ≡ stepPlaced (placed (u .map .offsets) c) u
