@@ -10,7 +10,7 @@ use Rattle.model.specs.State
 use Rattle.model.specs.State.{Sent, withIntRaw, withWords, withLine, withInFlight, withRx}
 use Rattle.model.specs.Registers.{Access, holds, stored, storedNotes, resetFifos, storing, clearing, writePlace}
 use Rattle.model.specs.Laws.Choose.{choose-ind, choose-nat}
-use Rattle.model.specs.Laws.PlaceCases.{writePlace-ind}
+use Rattle.model.specs.Laws.AccessCases.{writePlace-ind}
 use Rattle.model.specs.declared.Place.{Place}
 use Rattle.model.specs.declared.Write.{Write}
 use Rattle.queue.specs.Cursors.{Held, slotOf, empty, cutToOne}

@@ -12,12 +12,11 @@ use Rattle.model.specs.State.{withWatched, withPoweredDownAt, withContro
 use Rattle.model.specs.Settle.{Settled, settle, pending, levels}
 use Rattle.model.specs.Arm.{called, arm}
 use Rattle.model.specs.Replies.{noReport, report, ReadOf, refused, Take}
-use Rattle.model.specs.Places.{placeOf, kind, isFifo}
-use Rattle.model.specs.Registers.{Access, readAt, sendByte, writeKind, concluded}
+use Rattle.model.specs.Map.{Register, isFifo, registerOf}
+use Rattle.model.specs.Registers.{Access, readAt, sendByte, writeRegister, concluded}
 use Rattle.model.specs.Tests.{transmitFull, hostFull, runsFull, periodTooLong, bufferTooShort, refuseIf, refuseDate}
 use Rattle.model.specs.declared.Date.{Date}
 use Rattle.model.specs.declared.Source.{Source}
-use Rattle.model.specs.declared.Place.{Place}
 use Rattle.model.specs.declared.Line.{Line}
 use Rattle.model.specs.declared.Refusal.{Refusal}
 use Rattle.model.specs.declared.Refusal.the-variants.{TransmitFull, HostFull, RunsFull, PeriodTooLong, BufferTooShort}
@@ -104,16 +103,16 @@ module _ {H W : Type 0} where
 
   -- ---- register access
 
-  unfoldable pub readWork : ℕ → Place → Uart H W → Outcome (ReadOf H) H W
-  readWork now p u = afterSettling (settleAt now u) (readAt (kind p))
+  unfoldable pub readWork : ℕ → Register → Uart H W → Outcome (ReadOf H) H W
+  readWork now p u = afterSettling (settleAt now u) (readAt p)
 
-  unfoldable pub readPlaced : ℕ → Place → Uart H W → Outcome (ReadOf H) H W
+  unfoldable pub readPlaced : ℕ → Register → Uart H W → Outcome (ReadOf H) H W
   readPlaced now p u = unless (refuseDate now (u .control) none) refused (readWork now p) u
 
-  unfoldable pub writeWork : ℕ → Place → ℕ → Uart H W → Outcome Write H W
-  writeWork now p v u = afterSettling (settleAt now u) (λ s. concluded (writeKind (kind p) v s))
+  unfoldable pub writeWork : ℕ → Register → ℕ → Uart H W → Outcome Write H W
+  writeWork now p v u = afterSettling (settleAt now u) (λ s. concluded (writeRegister p v s))
 
-  unfoldable pub writePlaced : ℕ → Place → ℕ → Uart H W → Outcome Write H W
+  unfoldable pub writePlaced : ℕ → Register → ℕ → Uart H W → Outcome Write H W
   writePlaced now p v u = unless (refuseDate now (u .control) none) Write.Refused (writeWork now p v) u
 
   unfoldable pub sendWork : ℕ → W → Uart H W → Outcome Write H W
@@ -224,14 +223,14 @@ module _ {H W : Type 0} where
     unfoldable pub takeWritten : List L → Uart H W → Outcome (Take W L) H W
     takeWritten lent u = unless (refuseIf (bufferTooShort (length lent)) BufferTooShort none) (notTaken lent) (takeWrittenWork lent) u
 
--- ---- register access as a caller makes it: the offset becomes a place first
+-- ---- register access as a caller makes it: the offset becomes a register first
 
 unfoldable pub read : {H W : Type 0} → ℕ → ℕ → Uart H W → Outcome (ReadOf H) H W
-read now offset u = readPlaced now (placeOf (u .map .offsets) offset) u
+read now offset u = readPlaced now (registerOf (u .map .offsets) offset) u
 
 -- a FIFO write's byte is its word's low 8 bits
-unfoldable pub writeAt : {H : Type 0} → ℕ → Place → ℕ → Uart H ℕ → Outcome Write H ℕ
+unfoldable pub writeAt : {H : Type 0} → ℕ → Register → ℕ → Uart H ℕ → Outcome Write H ℕ
 writeAt now p v u = choose (isFifo p) (send now (v % 256) u) (writePlaced now p v u)
 
 unfoldable pub write : {H : Type 0} → ℕ → ℕ → ℕ → Uart H ℕ → Outcome Write H ℕ
-write now offset v u = writeAt now (placeOf (u .map .offsets) offset) v u
+write now offset v u = writeAt now (registerOf (u .map .offsets) offset) v u

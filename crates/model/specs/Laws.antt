@@ -3,4 +3,4 @@ pub mod Choose
 pub mod Lists
 pub mod Bits
 pub mod Cases
-pub mod PlaceCases
+pub mod AccessCases

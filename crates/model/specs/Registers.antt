@@ -1,4 +1,4 @@
--- Register access by what stands at the place, after settling. Assumes nothing.
+-- Register access, after settling. Assumes nothing.
 use Prim.Native.Nat.{ℕ, _+_, _-_, _*_, _^_}
 use mathlib.Core.Bool.{Bool, true, false, not, _&&_, _||_}
 use mathlib.Core.List.{List, [], _∷_, _++_}
@@ -13,7 +13,7 @@ use Rattle.model.specs.Line.{fifoBytes}
 use Rattle.model.specs.Settle.{inFifo, intStatus, levels}
 use Rattle.model.specs.Arm.{arm, lastGone}
 use Rattle.model.specs.Replies.{ReadOf, word, byte, noValue}
-use Rattle.model.specs.Places.{Word, Shown, Kind, sameWord, sameKind, valueOf, replaced}
+use Rattle.model.specs.Map.{Word, Shown, Register, sameWord, sameRegister, valueOf, replaced}
 use Rattle.model.specs.declared.Date.{Date}
 use Rattle.model.specs.declared.Source.{Source}
 use Rattle.model.specs.declared.Feature.{Feature}
@@ -56,10 +56,10 @@ unfoldable pub fsmStatus : ℕ → ℕ
 fsmStatus flying = choose (ltb 0 flying) (2 ^ 4) 0
 
 -- where the firmware looks at the receiver
-unfoldable pub looks : Kind → Bool
+unfoldable pub looks : Register → Bool
 looks k =
-    sameKind k Kind.fifo || sameKind k (Kind.shown Shown.intRaw) || sameKind k (Kind.shown Shown.intSt)
-    || sameKind k (Kind.shown Shown.status)
+    sameRegister k Register.fifo || sameRegister k (Register.shown Shown.intRaw) || sameRegister k (Register.shown Shown.intSt)
+    || sameRegister k (Register.shown Shown.status)
 
 module _ {H W : Type 0} where
   -- the oldest byte received; from an empty FIFO 0, with a notice
@@ -74,20 +74,20 @@ module _ {H W : Type 0} where
   shownIn u Shown.fsmStatus = fsmStatus (length (u .inFlight))
   shownIn u Shown.memRxStatus = u .map .«mem_rx_status»
 
-  unfoldable pub readKind : List Unsupported → Kind → Uart H W → Access (ReadOf H) H W
-  readKind ns Kind.fifo u = pop ns (u .rx) u
-  readKind ns Kind.intClr u = gives ns u noValue
-  readKind ns Kind.unknown u = gives ns u noValue
-  readKind ns (Kind.shown s) u = gives ns u (word (shownIn u s))
-  readKind ns (Kind.stored x) u = gives ns u (word (valueOf (u .control .words) x))
+  unfoldable pub readRegister : List Unsupported → Register → Uart H W → Access (ReadOf H) H W
+  readRegister ns Register.fifo u = pop ns (u .rx) u
+  readRegister ns Register.intClr u = gives ns u noValue
+  readRegister ns Register.unknown u = gives ns u noValue
+  readRegister ns (Register.shown s) u = gives ns u (word (shownIn u s))
+  readRegister ns (Register.stored x) u = gives ns u (word (valueOf (u .control .words) x))
 
   -- a look at the receiver tells of a mistimed reception, once
-  unfoldable pub readLooking : Bool → Kind → Uart H W → Access (ReadOf H) H W
+  unfoldable pub readLooking : Bool → Register → Uart H W → Access (ReadOf H) H W
   readLooking true k u =
-      readKind (sourceNotes UartReceiveClock (lineOf u .«rx_mistimed»)) k (withLineOf (withMistimed Source.None (lineOf u)) u)
-  readLooking false k u = readKind [] k u
+      readRegister (sourceNotes UartReceiveClock (lineOf u .«rx_mistimed»)) k (withLineOf (withMistimed Source.None (lineOf u)) u)
+  readLooking false k u = readRegister [] k u
 
-  unfoldable pub readAt : Kind → Uart H W → Access (ReadOf H) H W
+  unfoldable pub readAt : Register → Uart H W → Access (ReadOf H) H W
   readAt k u = readLooking (looks k) k u
 
 -- ---- write
@@ -143,13 +143,13 @@ module _ {H W : Type 0} where
   unfoldable pub clearing : ℕ → Uart H W → Access Write H W
   clearing v u = gives [] (withLineOf (withIntRaw (without v (lineOf u .«int_raw»)) (lineOf u)) u) Accepted
 
-  -- at a place other than FIFO. A read-only or unknown register is not accepted
-  unfoldable pub writeKind : Kind → ℕ → Uart H W → Access Write H W
-  writeKind Kind.fifo v u = gives [] u NotAccepted
-  writeKind Kind.intClr v u = clearing v u
-  writeKind Kind.unknown v u = gives [] u NotAccepted
-  writeKind (Kind.shown s) v u = gives [] u NotAccepted
-  writeKind (Kind.stored x) v u = storing x v (choose (sameWord x Word.conf0) (resetFifos v u) u)
+  -- at a register other than FIFO. A read-only or unknown one is not accepted
+  unfoldable pub writeRegister : Register → ℕ → Uart H W → Access Write H W
+  writeRegister Register.fifo v u = gives [] u NotAccepted
+  writeRegister Register.intClr v u = clearing v u
+  writeRegister Register.unknown v u = gives [] u NotAccepted
+  writeRegister (Register.shown s) v u = gives [] u NotAccepted
+  writeRegister (Register.stored x) v u = storing x v (choose (sameWord x Word.conf0) (resetFifos v u) u)
 
   -- every write raises levels, drives the interrupt and arms, accepted or not
   unfoldable pub concluded : {R : Type 0} → Access R H W → Access R H W

@@ -10,20 +10,19 @@ use lib.ListN.{length, length-append, length-map, length-replicate}
 use Rattle.model.specs.State.{Uart}
 use Rattle.model.specs.Settle.{Settled}
 use Rattle.model.specs.Replies.{notices, noReport, report, ReadOf, readNumber, writeNumber, doneNumber, takenNumber}
-use Rattle.model.specs.Places.{Word, Kind, kind}
-use Rattle.model.specs.Registers.{noteIf, sourceNotes, Access, pop, gives, readKind, readLooking, readAt, conf0Notes}
+use Rattle.model.specs.Map.{Word, Register}
+use Rattle.model.specs.Registers.{noteIf, sourceNotes, Access, pop, gives, readRegister, readLooking, readAt, conf0Notes}
 use Rattle.model.specs.Registers.{storedNotes, sent, dropped, sendByte}
-use Rattle.model.specs.Registers.{storing, clearing, writeKind, concluded}
+use Rattle.model.specs.Registers.{storing, clearing, writeRegister, concluded}
 use Rattle.model.specs.Calls.{Outcome, unsettled, afterSettling, undated, filled, quiet, readWork, writeWork, sendWork, receiveWork}
 use Rattle.model.specs.Calls.{wakeWork, watchWork, powerDownWork}
 use Rattle.model.specs.Calls.{clockWork, resetWork, takeTxWork, takeWrittenWork, hasLeft, hostPending}
 use Rattle.model.specs.Call.{Call, Request, Reply, reads, writes, does, takes, left, pends, Answer}
 use Rattle.model.specs.Run.{numberOf, answering}
 use Rattle.model.specs.Laws.Choose.{choose-ind}
-use Rattle.model.specs.Laws.PlaceCases.{writeKind-ind}
+use Rattle.model.specs.Laws.AccessCases.{writeRegister-ind}
 use Rattle.model.specs.Refuses.Conditions.{writtenAt, carriedOut}
 use Rattle.model.specs.declared.Source.{Source}
-use Rattle.model.specs.declared.Place.{Place}
 use Rattle.model.specs.declared.Unsupported.{Unsupported}
 use Rattle.model.specs.declared.Report.{Report}
 use Rattle.model.specs.declared.Write.{Write}
@@ -83,23 +82,23 @@ module _ {H W : Type 0} where
   gives-proper : (ns : List Unsupported) (u : Uart H W) (r : ReadOf H) → length ns ≤ 1 → readNumber r ≡ 0 → Proper readNumber (gives ns u r)
   gives-proper ns u r le e = record { zero = e; few = omega arith }
 
-  read-proper : (ns : List Unsupported) (k : Kind) (u : Uart H W) → length ns ≤ 1 → Proper readNumber (readKind ns k u)
-  unfolding readKind readNumber
-  read-proper ns Kind.fifo u le = pop-proper ns (u .rx) u le
-  read-proper ns Kind.intClr u le = gives-proper ns u _ le refl
-  read-proper ns Kind.unknown u le = gives-proper ns u _ le refl
-  read-proper ns (Kind.shown s) u le = gives-proper ns u _ le refl
-  read-proper ns (Kind.stored x) u le = gives-proper ns u _ le refl
+  read-proper : (ns : List Unsupported) (k : Register) (u : Uart H W) → length ns ≤ 1 → Proper readNumber (readRegister ns k u)
+  unfolding readRegister readNumber
+  read-proper ns Register.fifo u le = pop-proper ns (u .rx) u le
+  read-proper ns Register.intClr u le = gives-proper ns u _ le refl
+  read-proper ns Register.unknown u le = gives-proper ns u _ le refl
+  read-proper ns (Register.shown s) u le = gives-proper ns u _ le refl
+  read-proper ns (Register.stored x) u le = gives-proper ns u _ le refl
 
-  pub looking-proper : (b : Bool) (p : Kind) (u : Uart H W) → Proper readNumber (readLooking b p u)
+  pub looking-proper : (b : Bool) (p : Register) (u : Uart H W) → Proper readNumber (readLooking b p u)
   unfolding readLooking
   looking-proper true p u = read-proper _ p _ (source-le _ _)
   looking-proper false p u = read-proper [] p u (omega arith)
 
-  pub write-proper : (k : Kind) (v : ℕ) (u : Uart H W) → Proper writeNumber (writeKind k v u)
+  pub write-proper : (k : Register) (v : ℕ) (u : Uart H W) → Proper writeNumber (writeRegister k v u)
   unfolding clearing storing writeNumber
   write-proper k v u =
-      writeKind-ind (λ _. Proper writeNumber) v u (λ _. record { zero = refl; few = omega arith })
+      writeRegister-ind (λ _. Proper writeNumber) v u (λ _. record { zero = refl; few = omega arith })
       (record { zero = refl; few = omega arith }) (λ x. record { zero = refl; few = stored-le x v })
       (λ x. record { zero = refl; few = stored-le x v }) k
 
@@ -143,11 +142,11 @@ module _ {R : Type 0} (number : R → ℕ) (as-reply : R → Reply ℕ ℕ ℕ) 
   unfolding answering
   fine e o g = record { zero = e (o .reply) ∙ g .zero; few = g .few }
 
-write-good : (now : ℕ) (p : Place) (v : ℕ) (u : Uart ℕ ℕ) → Good writeNumber (writtenAt now p v u)
+write-good : (now : ℕ) (p : Register) (v : ℕ) (u : Uart ℕ ℕ) → Good writeNumber (writtenAt now p v u)
 unfolding writtenAt sendWork writeWork concluded
 write-good now p v u = choose-ind (Good writeNumber) _
     (λ _. after-good writeNumber _ _ (let p = send-proper now (v % 256) _ in record { zero = p .zero; few = p .few }))
-    (λ _. after-good writeNumber _ _ (let w = write-proper (kind p) v _ in record { zero = w .zero; few = w .few }))
+    (λ _. after-good writeNumber _ _ (let w = write-proper p v _ in record { zero = w .zero; few = w .few }))
 
 -- a call that is carried out answers number 0 and at most 8 notices
 pub carried-fine : (c : Request) (u : Uart ℕ ℕ) → Fine (carriedOut c u .answer)

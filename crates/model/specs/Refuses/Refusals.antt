@@ -11,7 +11,7 @@ use borrow.Author.Tests.{ltb-true, ltb-false, leb-true, leb-false, lt-ltb, le-le
 use Rattle.model.specs.Numbers.{choose}
 use Rattle.model.specs.State.{Run, Uart}
 use Rattle.model.specs.Replies.{refused}
-use Rattle.model.specs.Places.{placeOf, kind, isFifo}
+use Rattle.model.specs.Map.{Register, isFifo, registerOf}
 use Rattle.model.specs.Tests.{pastEnd, wentBack, transmitFull, hostFull, runsFull, periodTooLong, bufferTooShort, refuseIf}
 use Rattle.model.specs.Tests.{refuseDate}
 use Rattle.model.specs.Calls
@@ -22,12 +22,11 @@ use Rattle.model.specs.Run.{answering, stepBy, writing, step}
 use Rattle.model.specs.Limits.{All, nil, cons}
 use Rattle.model.specs.Ends.Passes.{apart}
 use Rattle.model.specs.Laws.Choose.{choose-true, choose-false}
-use Rattle.model.specs.Laws.PlaceCases.{write-ind}
+use Rattle.model.specs.Laws.AccessCases.{write-ind}
 use Rattle.model.specs.Refuses.Conditions.{dateOf, Condition, number2, number3, number4, number5, number6, number7, number8, number8′}
 use Rattle.model.specs.Refuses.Conditions.{order, First, here, next, Refuses}
 use Rattle.model.specs.Refuses.Conditions.{writtenAt, carriedOut, Result, refusal, done}
 use Rattle.model.specs.Refuses.FifoPlace.{first-is-fifo, fifo-is-first}
-use Rattle.model.specs.declared.Place.{Place}
 use Rattle.model.specs.declared.Refusal.{Refusal}
 use Rattle.model.specs.declared.Refusal.the-variants.{DatePastEnd, DateWentBack, TransmitFull, HostFull, RunsFull, PeriodTooLong}
 use Rattle.model.specs.declared.Refusal.the-variants.{BufferTooShort}
@@ -177,17 +176,17 @@ no-other : {P : Refusal → Type 0} → ¬ P PeriodTooLong → ¬ P BufferTooSho
 no-other p b t h r = clear (cons p (cons b (cons t (cons h (cons r nil)))))
 
 module _ (now : ℕ) (x : Written) (u : Uart ℕ ℕ) where
-  abbrev place : Place
-  place = placeOf (u .map .offsets) (x .offset)
+  abbrev register : Register
+  register = registerOf (u .map .offsets) (x .offset)
 
-  not-fifo : isFifo place ≡ false → ¬ Condition u TransmitFull (Call.write now x)
-  unfolding isFifo kind decide
+  not-fifo : isFifo register ≡ false → ¬ Condition u TransmitFull (Call.write now x)
+  unfolding isFifo decide
   not-fifo h (number4 {others = os} is le) =
-      let f : isFifo place ≡ true = ap isFifo (ap (λ l. placeOf l (x .offset)) is ∙ first-is-fifo (x .offset) os) in apart (cc)
+      let f : isFifo register ≡ true = ap isFifo (ap (λ l. registerOf l (x .offset)) is ∙ first-is-fifo (x .offset) os) in apart (cc)
 
-  write-result : Result (Call.write now x) u (answering writes (writeAt now place (x .value) u))
+  write-result : Result (Call.write now x) u (answering writes (writeAt now register (x .value) u))
   unfolding carriedOut send writePlaced writtenAt transmitFull dateOf
-  write-result = write-ind (λ o. Result (Call.write now x) u (answering writes o)) now place (x .value) u
+  write-result = write-ind (λ o. Result (Call.write now x) u (answering writes o)) now register (x .value) u
       (λ e. ends-as _ u writes Write.Refused _ _ (λ r. Refuses.write) (ap (answering writes) (choose-true _ _ e))
       (dates _ u now _ refl (skip (elim [ ]) (skip (elim [ ])
       (tested-le 1152 _ TransmitFull (number4 (fifo-is-first (u .map .offsets) (x .offset) e .1)) (from4 u)

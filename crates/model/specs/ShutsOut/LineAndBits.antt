@@ -13,8 +13,8 @@ use Rattle.model.specs.Line.{raiseIf, noteSource, timeOut}
 use Rattle.model.specs.Settle.{Pass, txDone, leave, depart, nothingDue, timedOut, inFrame, passOn, pass, begin, passes, assertLevels}
 use Rattle.model.specs.Settle.{drive, levels, leveled, settingsOf, settleTo}
 use Rattle.model.specs.Arm.{arm}
-use Rattle.model.specs.Places.{placeOf, Kind, kind}
-use Rattle.model.specs.Registers.{Access, sendByte, sent, dropped, storing, clearing, resetFifos, writeKind, concluded}
+use Rattle.model.specs.Map.{Register, registerOf}
+use Rattle.model.specs.Registers.{Access, sendByte, sent, dropped, storing, clearing, resetFifos, writeRegister, concluded}
 use Rattle.model.specs.Calls
 use Rattle.model.specs.Calls.{Outcome, refusing, clearedLine, cleared, settleAt, afterSettling, sendWork, writeWork, writePlaced}
 use Rattle.model.specs.Calls.{send}
@@ -23,9 +23,8 @@ use Rattle.model.specs.Run.{Step, answering, stepBy, writing, step}
 use Rattle.model.specs.Laws.Choose.{choose-ind}
 use Rattle.model.specs.Laws.Cases.{passes-on}
 use Rattle.model.specs.MeetsManual.Rises.{rawBit, settleTo-raises, levels-raise}
-use Rattle.model.specs.Laws.PlaceCases.{write-ind, unless-ind, writeKind-ind}
+use Rattle.model.specs.Laws.AccessCases.{write-ind, unless-ind, writeRegister-ind}
 use Rattle.model.specs.ShutsOut.EveryCall.{nowOf, Clears, Resets, Walk, every-call}
-use Rattle.model.specs.declared.Place.{Place}
 use Rattle.model.specs.declared.Line.{Line}
 use Rattle.model.specs.declared.Settings.{Settings}
 use Rattle.model.specs.declared.Refusal.{Refusal}
@@ -42,9 +41,10 @@ module _ {H W : Type 0} where
   unfolding concluded arm levels drive assertLevels raiseIf
   concluded-line a = refl
 
-  kind-line : (v : ℕ) (u : Uart H W) (k : Kind) → onLine (writeKind k v u .state) ≡ onLine u
+  register-line : (v : ℕ) (u : Uart H W) (k : Register) → onLine (writeRegister k v u .state) ≡ onLine u
   unfolding storing clearing resetFifos
-  kind-line v u = writeKind-ind (λ _ (a : Access Write H W). onLine (a .state) ≡ onLine u) v u (λ k. refl) refl (λ x. refl) (λ x. refl)
+  register-line v u =
+      writeRegister-ind (λ _ (a : Access Write H W). onLine (a .state) ≡ onLine u) v u (λ k. refl) refl (λ x. refl) (λ x. refl)
 
   send-line : (now : ℕ) (b : W) (u : Uart H W) → onLine (sendByte now b u .state) ≡ onLine u
   unfolding sendByte sent dropped
@@ -63,10 +63,10 @@ write-leaves-line now x u =
     (λ _. unless-ind Left _ Write.Refused (sendWork now b) u (λ r. refused r refl refl)
     (settled (concluded-line (sendByte now b v) ∙ send-line now b v)))
     (λ _. unless-ind Left _ Write.Refused (writeWork now p (x .value)) u (λ r. refused r refl refl)
-    (settled (concluded-line (writeKind (kind p) (x .value) v) ∙ kind-line (x .value) v (kind p))))
+    (settled (concluded-line (writeRegister p (x .value) v) ∙ register-line (x .value) v p)))
   where
-    p : Place
-    p = placeOf (u .map .offsets) (x .offset)
+    p : Register
+    p = registerOf (u .map .offsets) (x .offset)
 
     b : ℕ
     b = x .value % 256

@@ -10,9 +10,9 @@ use Rattle.model.specs.State.{Uart, withHost, mapSent, mapUart}
 use Rattle.model.specs.Settle.{Settled, settle, levels}
 use Rattle.model.specs.Arm.{arm}
 use Rattle.model.specs.Replies.{ReadOf, word, byte, report}
-use Rattle.model.specs.Places.{Word, Shown, Kind, kind}
-use Rattle.model.specs.Registers.{Access, gives, pop, shownIn, readKind, readLooking, readAt, goneAt, sent, dropped, sendByte}
-use Rattle.model.specs.Registers.{resetFifos, storing, clearing, writeKind, concluded}
+use Rattle.model.specs.Map.{Word, Shown, Register}
+use Rattle.model.specs.Registers.{Access, gives, pop, shownIn, readRegister, readLooking, readAt, goneAt, sent, dropped, sendByte}
+use Rattle.model.specs.Registers.{resetFifos, storing, clearing, writeRegister, concluded}
 use Rattle.model.specs.Calls
 use Rattle.model.specs.Calls.{Outcome, refusing, unless, unsettled, afterSettling, undated, filled, notTaken, dated, settleAt, quiet}
 use Rattle.model.specs.Calls.{readWork, readPlaced, writeWork, writePlaced, sendWork, send, joined, handOver, receiveWork, wakeWork}
@@ -23,7 +23,6 @@ use Rattle.model.specs.Run.{Step, answering, stepBy, runBy}
 use Rattle.model.specs.TwoRuns.Natural.{mapSettled, bytes-nat, lastGone-nat, pending-nat, levels-nat, settle-nat, arm-nat}
 use Rattle.model.specs.TwoRuns.Placed.{Put, Placed, changed, putting, stepPlaced}
 use Rattle.model.specs.TwoRuns.Alike.{mapReadOf, mapTake, mapReply, mapAnswer, itself}
-use Rattle.model.specs.declared.Place.{Place}
 use Rattle.model.specs.declared.Refusal.{Refusal}
 use Rattle.model.specs.declared.Unsupported.{Unsupported}
 use Rattle.model.specs.declared.Write.{Write}
@@ -107,26 +106,26 @@ module _ {H H′ W W′ : Type 0} (f : H → H′) (g : W → W′) where
   shownIn-nat Shown.fsmStatus u = rw (length-map (u .inFlight) (mapSent g))
   shownIn-nat Shown.memRxStatus u = refl
 
-  readKind-nat : (ns : List Unsupported) (k : Kind) (u : Uart H W)
-      → readKind ns k (mapUart f g u) ≡ mapAccess (mapReadOf f) f g (readKind ns k u)
-  unfolding readKind mapAccess mapReadOf
-  readKind-nat ns Kind.fifo u = pop-nat ns (u .rx) u
-  readKind-nat ns Kind.intClr u = refl
-  readKind-nat ns Kind.unknown u = refl
-  readKind-nat ns (Kind.shown s) u = ap (λ (n : ℕ). gives ns (mapUart f g u) (word n)) (shownIn-nat s u)
-  readKind-nat ns (Kind.stored x) u = refl
+  readRegister-nat : (ns : List Unsupported) (k : Register) (u : Uart H W)
+      → readRegister ns k (mapUart f g u) ≡ mapAccess (mapReadOf f) f g (readRegister ns k u)
+  unfolding readRegister mapAccess mapReadOf
+  readRegister-nat ns Register.fifo u = pop-nat ns (u .rx) u
+  readRegister-nat ns Register.intClr u = refl
+  readRegister-nat ns Register.unknown u = refl
+  readRegister-nat ns (Register.shown s) u = ap (λ (n : ℕ). gives ns (mapUart f g u) (word n)) (shownIn-nat s u)
+  readRegister-nat ns (Register.stored x) u = refl
 
-  readLooking-nat : (b : Bool) (k : Kind) (u : Uart H W)
+  readLooking-nat : (b : Bool) (k : Register) (u : Uart H W)
       → readLooking b k (mapUart f g u) ≡ mapAccess (mapReadOf f) f g (readLooking b k u)
   unfolding readLooking
-  readLooking-nat true k u = readKind-nat _ k _
-  readLooking-nat false k u = readKind-nat _ k u
+  readLooking-nat true k u = readRegister-nat _ k _
+  readLooking-nat false k u = readRegister-nat _ k u
 
-  readPlaced-nat : (now : ℕ) (p : Place) (u : Uart H W)
+  readPlaced-nat : (now : ℕ) (p : Register) (u : Uart H W)
       → readPlaced now p (mapUart f g u) ≡ mapOutcome (mapReadOf f) f g (readPlaced now p u)
   unfolding readPlaced readWork readAt settleAt dated mapReadOf
   readPlaced-nat now p u =
-      unless-nat (mapReadOf f) f g _ _ _ _ _ u (λ r. refl) (settled-nat (mapReadOf f) f g now _ _ _ (λ v. readLooking-nat _ (kind p) v))
+      unless-nat (mapReadOf f) f g _ _ _ _ _ u (λ r. refl) (settled-nat (mapReadOf f) f g now _ _ _ (λ v. readLooking-nat _ p v))
 
   storing-nat : (x : Word) (v : ℕ) (u : Uart H W) → storing x v (mapUart f g u) ≡ mapAccess itself f g (storing x v u)
   unfolding storing mapAccess
@@ -142,13 +141,13 @@ module _ {H H′ W W′ : Type 0} (f : H → H′) (g : W → W′) where
       rw (choose-nat (map f) _ {x = []} {y = u .rx} refl refl)
       (rw (choose-nat (map (mapSent g)) _ {x = take 1 (u .inFlight)} {y = u .inFlight} (sym (map-take (mapSent g) 1 (u .inFlight))) refl))
 
-  writeKind-nat : (k : Kind) (v : ℕ) (u : Uart H W) → writeKind k v (mapUart f g u) ≡ mapAccess itself f g (writeKind k v u)
-  unfolding writeKind mapAccess
-  writeKind-nat Kind.fifo v u = refl
-  writeKind-nat Kind.intClr v u = clearing-nat v u
-  writeKind-nat Kind.unknown v u = refl
-  writeKind-nat (Kind.shown s) v u = refl
-  writeKind-nat (Kind.stored x) v u =
+  writeRegister-nat : (k : Register) (v : ℕ) (u : Uart H W) → writeRegister k v (mapUart f g u) ≡ mapAccess itself f g (writeRegister k v u)
+  unfolding writeRegister mapAccess
+  writeRegister-nat Register.fifo v u = refl
+  writeRegister-nat Register.intClr v u = clearing-nat v u
+  writeRegister-nat Register.unknown v u = refl
+  writeRegister-nat (Register.shown s) v u = refl
+  writeRegister-nat (Register.stored x) v u =
       ap (storing x v) (choose-nat (mapUart f g) _ (resetFifos-nat v u) refl) ∙ storing-nat x v _
 
   sent-nat : (now : ℕ) (b : W) (u : Uart H W) → sent now (g b) (mapUart f g u) ≡ mapAccess itself f g (sent now b u)
@@ -172,7 +171,7 @@ module _ {H H′ W W′ : Type 0} (f : H → H′) (g : W → W′) where
       (settled-nat itself f g now _ _ _ (λ v. ap concluded (sendByte-nat now b v) ∙ concluded-nat itself f g _)))
   putting-nat now (Put.word p x) u =
       unless-nat itself f g _ _ _ _ _ u (λ r. refl)
-      (settled-nat itself f g now _ _ _ (λ v. ap concluded (writeKind-nat (kind p) x v) ∙ concluded-nat itself f g _))
+      (settled-nat itself f g now _ _ _ (λ v. ap concluded (writeRegister-nat p x v) ∙ concluded-nat itself f g _))
 
   -- ---- the host
 

@@ -10,7 +10,7 @@ use lib.ListN.{length, getD, drop}
 use lib.Seq.{getD-drop, drop-drop, drop-append-seam}
 use borrow.Author.Tests.{eq-eqb}
 use Rattle.model.specs.Numbers.{choose}
-use Rattle.model.specs.Places.{placeAmong, placeOf, kind, isFifo}
+use Rattle.model.specs.Map.{Register, isFifo, registerAmong, registerOf}
 use Rattle.model.specs.Laws.Choose.{choose-true, choose-false}
 use Rattle.model.specs.Refuses.FifoPlace.{after-first}
 use Rattle.model.specs.Call.{Call, Written, Request}
@@ -18,7 +18,6 @@ use Rattle.model.specs.TwoRuns.Placed.{Put, Placed, changed, putAt, plac
 use Rattle.model.specs.TwoRuns.Alike.{Each, Alike, same, hostBytes, fifoWord, lentToTakeTx, lentToTakeWritten, hostOf, writesOf}
 use Rattle.model.specs.TwoRuns.Alike.{fifoByte, hostGiven, fifoWritten, itself, forget}
 use Rattle.model.specs.TwoRuns.NaturalCalls.{mapPut, mapPlaced}
-use Rattle.model.specs.declared.Place.the-variants.{Fifo}
 
 -- ---- laws of a call with other parts
 
@@ -73,15 +72,15 @@ module _ {R R′ X X′ H L : Type 0} (r : R → R′) (x : X → X′) where
   writes-changed Call.hasLeft = refl
   writes-changed Call.hostPending = refl
 
--- ---- FIFO's place and the others
+-- ---- FIFO and the other registers
 
 module _ (fifo : ℕ) (others : List ℕ) where
-  pub other-place : (o : ℕ) → eqb o fifo ≡ false → isFifo (placeOf (fifo ∷ others) o) ≡ false
-  unfolding placeOf placeAmong
+  pub other-place : (o : ℕ) → eqb o fifo ≡ false → isFifo (registerOf (fifo ∷ others) o) ≡ false
+  unfolding registerOf registerAmong
   other-place o e = ap isFifo (choose-false _ _ e) ∙ after-first o others
 
-  pub fifo-place : (o : ℕ) → eqb o fifo ≡ true → placeOf (fifo ∷ others) o ≡ Fifo
-  unfolding placeOf placeAmong
+  pub fifo-place : (o : ℕ) → eqb o fifo ≡ true → registerOf (fifo ∷ others) o ≡ Register.fifo
+  unfolding registerOf registerAmong
   fifo-place o e = choose-true _ _ e
 
 -- ---- the numbered list
@@ -122,11 +121,11 @@ pub host-placed : (offsets : List ℕ) (cs : List Request) → flatMap hostOf (m
 host-placed offsets cs = flatMap-map hostOf (placed offsets) hostOf (host-of-placed offsets) cs
 
 module _ (fifo : ℕ) (others : List ℕ) where
-  put-placed : (x : Written) → putOf (putAt (placeOf (fifo ∷ others) (x .offset)) (x .value)) ≡ fifoByte fifo x
-  unfolding fifoByte choose putOf putAt isFifo kind decide
+  put-placed : (x : Written) → putOf (putAt (registerOf (fifo ∷ others) (x .offset)) (x .value)) ≡ fifoByte fifo x
+  unfolding fifoByte choose putOf putAt isFifo decide
   put-placed x = go (eqb (x .offset) fifo) refl
     where
-      go : (b : Bool) → eqb (x .offset) fifo ≡ b → putOf (putAt (placeOf (fifo ∷ others) (x .offset)) (x .value))
+      go : (b : Bool) → eqb (x .offset) fifo ≡ b → putOf (putAt (registerOf (fifo ∷ others) (x .offset)) (x .value))
           ≡ choose b (x .value % 256 ∷ []) []
       go true e = ap (λ p. putOf (putAt p (x .value))) (fifo-place fifo others (x .offset) e)
       go false e = ap putOf (choose-false _ _ (other-place fifo others (x .offset) e))
@@ -190,8 +189,8 @@ forget-alike (a ∷ s) (b ∷ t) e = ap (λ r. tt ∷ r) (forget-alike s t (suc-
 
 module _ (fifo : ℕ) (others : List ℕ) where
   -- at FIFO's offset every word becomes a byte
-  put-fifo : (v : ℕ) → putAt (placeOf (fifo ∷ others) fifo) v ≡ Put.byte (v % 256)
-  unfolding putAt isFifo kind decide choose
+  put-fifo : (v : ℕ) → putAt (registerOf (fifo ∷ others) fifo) v ≡ Put.byte (v % 256)
+  unfolding putAt isFifo decide choose
   put-fifo v = ap (λ p. putAt p v) (fifo-place fifo others fifo (eq-eqb fifo fifo refl))
 
   module _ (h w : ℕ) where

@@ -1,26 +1,25 @@
--- Calls whose offset has become a place, so that a write to FIFO carries a byte and every other a word; one such call is
+-- Calls whose offset has become a register, so that a write to FIFO carries a byte and every other a word; one such call is
 -- what a caller's call does. Assumes nothing.
 use mathlib.Core.Path.{_≡_, refl, ap}
 use Prim.Native.Nat.{ℕ, _%_}
 use mathlib.Core.List.{List}
 use Rattle.model.specs.Numbers.{choose}
 use Rattle.model.specs.State.{Uart}
-use Rattle.model.specs.Places.{placeOf, isFifo}
+use Rattle.model.specs.Map.{Register, isFifo, registerOf}
 use Rattle.model.specs.Calls
 use Rattle.model.specs.Calls.{Outcome, readPlaced, writePlaced, send, writeAt}
 use Rattle.model.specs.Call.{Call, Request}
 use Rattle.model.specs.Run.{Step, answering, stepBy, writing, step}
 use Rattle.model.specs.Laws.Choose.{choose-nat}
-use Rattle.model.specs.declared.Place.{Place}
 use Rattle.model.specs.declared.Write.{Write}
 
--- what is written where: a byte to FIFO, or a word to another place
+-- what is written where: a byte to FIFO, or a word to another register
 pub data Put (W : Type 0) : Type 0 where
   byte : W → Put W
-  word : Place → ℕ → Put W
+  word : Register → ℕ → Put W
 
 abbrev pub Placed : (H W L : Type 0) → Type 0
-Placed H W L = Call Place (Put W) H L
+Placed H W L = Call Register (Put W) H L
 
 -- ---- a call with other parts
 
@@ -40,12 +39,12 @@ changed r x h l Call.hasLeft = Call.hasLeft
 changed r x h l Call.hostPending = Call.hostPending
 
 -- a FIFO write's byte is its word's low 8 bits
-unfoldable pub putAt : Place → ℕ → Put ℕ
+unfoldable pub putAt : Register → ℕ → Put ℕ
 putAt p v = choose (isFifo p) (Put.byte (v % 256)) (Put.word p v)
 
--- a caller's call with places for its offsets
+-- a caller's call with registers for its offsets
 unfoldable pub placed : List ℕ → Request → Placed ℕ ℕ ℕ
-placed offsets c = changed (placeOf offsets) (λ x. putAt (placeOf offsets (x .offset)) (x .value)) (λ bs. bs) (λ lent. lent) c
+placed offsets c = changed (registerOf offsets) (λ x. putAt (registerOf offsets (x .offset)) (x .value)) (λ bs. bs) (λ lent. lent) c
 
 module _ {H W : Type 0} where
   unfoldable pub putting : ℕ → Put W → Uart H W → Outcome Write H W
@@ -55,7 +54,7 @@ module _ {H W : Type 0} where
   unfoldable pub stepPlaced : {L : Type 0} → Placed H W L → Uart H W → Step H W L
   stepPlaced c u = stepBy readPlaced putting c u
 
-writeAt-placed : (now : ℕ) (p : Place) (v : ℕ) (u : Uart ℕ ℕ) → writeAt now p v u ≡ putting now (putAt p v) u
+writeAt-placed : (now : ℕ) (p : Register) (v : ℕ) (u : Uart ℕ ℕ) → writeAt now p v u ≡ putting now (putAt p v) u
 unfolding writeAt putting putAt
 writeAt-placed now p v u = choose-nat (λ (x : Put ℕ). putting now x u) (isFifo p) refl refl
 
@@ -63,7 +62,7 @@ writeAt-placed now p v u = choose-nat (λ (x : Put ℕ). putting now x u) (isFif
 pub step-placed : (c : Request) (u : Uart ℕ ℕ) → step c u ≡ stepPlaced (placed (u .map .offsets) c) u
 unfolding step stepPlaced placed changed stepBy writing Calls.read Calls.write
 step-placed (Call.read now o) u = refl
-step-placed (Call.write now x) u = ap (answering _) (writeAt-placed now (placeOf (u .map .offsets) (x .offset)) (x .value) u)
+step-placed (Call.write now x) u = ap (answering _) (writeAt-placed now (registerOf (u .map .offsets) (x .offset)) (x .value) u)
 step-placed (Call.receive now at bs) u = refl
 step-placed (Call.wake now) u = refl
 step-placed (Call.reset now) u = refl
