@@ -230,8 +230,8 @@ unfolding upBy4 benchWords bench valueIs dateIs isOverflow isEmptyRead onlyNotic
     belowThresholdAt nextStart landingOf nextLanding instants armAll arm number notices noReport report readNumber writeNumber doneNumber
     takenNumber registerAmong registerOf decide isFifo valueOf wordsBy replaced noteIf sourceNotes statusWord fsmStatus looks pop shownIn
     readRegister readLooking readAt conf0Notes storedNotes startsAt goneAt sent dropped sendByte resetFifos storing clearing writeRegister
-    concluded among repeated pastEnd wentBack transmitFull hostFull runsFull periodTooLong bufferTooShort refuseIf refuseDate refusing unless unsettled afterSettling undated
-    joined lastDate hostDate clearedLine filled notTaken dated settleAt quiet readWork readPlaced writeWork writePlaced sendWork send
-    handOver receiveWork receive wakeWork wake writeAt Calls.read Calls.write wordsAmong mapOf newControl new numberOf answering stepBy
-    writing step
+    concluded among repeated pastEnd wentBack transmitFull hostFull runsFull periodTooLong bufferTooShort refuseIf refuseDate refusing
+    unless unsettled afterSettling undated joined lastDate hostDate clearedLine filled notTaken dated settleAt quiet readWork readPlaced
+    writeWork writePlaced sendWork send handOver receiveWork receive wakeWork wake writeAt Calls.read Calls.write wordsAmong mapOf
+    newControl new numberOf answering stepBy writing step
 marks-hold = refl

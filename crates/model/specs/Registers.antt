@@ -13,7 +13,7 @@ use Rattle.model.specs.Line.{fifoBytes}
 use Rattle.model.specs.Settle.{inFifo, intStatus, levels}
 use Rattle.model.specs.Arm.{arm, lastGone}
 use Rattle.model.specs.Replies.{ReadOf, word, byte, noValue}
-use Rattle.model.specs.Map.{Word, Shown, Register, sameWord, sameRegister, valueOf, replaced}
+use Rattle.model.specs.Map.{Word, Shown, Register, fifo, intClr, unknown, shown, stored, sameWord, sameRegister, valueOf, replaced}
 use Rattle.model.specs.declared.Date.{Date}
 use Rattle.model.specs.declared.Source.{Source}
 use Rattle.model.specs.declared.Feature.{Feature}
@@ -57,9 +57,8 @@ fsmStatus flying = choose (ltb 0 flying) (2 ^ 4) 0
 
 -- where the firmware looks at the receiver
 unfoldable pub looks : Register → Bool
-looks k =
-    sameRegister k Register.fifo || sameRegister k (Register.shown Shown.intRaw) || sameRegister k (Register.shown Shown.intSt)
-    || sameRegister k (Register.shown Shown.status)
+looks r =
+    sameRegister r fifo || sameRegister r (shown Shown.intRaw) || sameRegister r (shown Shown.intSt) || sameRegister r (shown Shown.status)
 
 module _ {H W : Type 0} where
   -- the oldest byte received; from an empty FIFO 0, with a notice
@@ -75,20 +74,20 @@ module _ {H W : Type 0} where
   shownIn u Shown.memRxStatus = u .map .«mem_rx_status»
 
   unfoldable pub readRegister : List Unsupported → Register → Uart H W → Access (ReadOf H) H W
-  readRegister ns Register.fifo u = pop ns (u .rx) u
-  readRegister ns Register.intClr u = gives ns u noValue
-  readRegister ns Register.unknown u = gives ns u noValue
-  readRegister ns (Register.shown s) u = gives ns u (word (shownIn u s))
-  readRegister ns (Register.stored x) u = gives ns u (word (valueOf (u .control .words) x))
+  readRegister ns fifo u = pop ns (u .rx) u
+  readRegister ns intClr u = gives ns u noValue
+  readRegister ns unknown u = gives ns u noValue
+  readRegister ns (shown s) u = gives ns u (word (shownIn u s))
+  readRegister ns (stored x) u = gives ns u (word (valueOf (u .control .words) x))
 
   -- a look at the receiver tells of a mistimed reception, once
   unfoldable pub readLooking : Bool → Register → Uart H W → Access (ReadOf H) H W
-  readLooking true k u =
-      readRegister (sourceNotes UartReceiveClock (lineOf u .«rx_mistimed»)) k (withLineOf (withMistimed Source.None (lineOf u)) u)
-  readLooking false k u = readRegister [] k u
+  readLooking true r u =
+      readRegister (sourceNotes UartReceiveClock (lineOf u .«rx_mistimed»)) r (withLineOf (withMistimed Source.None (lineOf u)) u)
+  readLooking false r u = readRegister [] r u
 
   unfoldable pub readAt : Register → Uart H W → Access (ReadOf H) H W
-  readAt k u = readLooking (looks k) k u
+  readAt r u = readLooking (looks r) r u
 
 -- ---- write
 
@@ -145,11 +144,11 @@ module _ {H W : Type 0} where
 
   -- at a register other than FIFO. A read-only or unknown one is not accepted
   unfoldable pub writeRegister : Register → ℕ → Uart H W → Access Write H W
-  writeRegister Register.fifo v u = gives [] u NotAccepted
-  writeRegister Register.intClr v u = clearing v u
-  writeRegister Register.unknown v u = gives [] u NotAccepted
-  writeRegister (Register.shown s) v u = gives [] u NotAccepted
-  writeRegister (Register.stored x) v u = storing x v (choose (sameWord x Word.conf0) (resetFifos v u) u)
+  writeRegister fifo v u = gives [] u NotAccepted
+  writeRegister intClr v u = clearing v u
+  writeRegister unknown v u = gives [] u NotAccepted
+  writeRegister (shown s) v u = gives [] u NotAccepted
+  writeRegister (stored x) v u = storing x v (choose (sameWord x Word.conf0) (resetFifos v u) u)
 
   -- every write raises levels, drives the interrupt and arms, accepted or not
   unfoldable pub concluded : {R : Type 0} → Access R H W → Access R H W
