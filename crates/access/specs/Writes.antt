@@ -58,7 +58,8 @@ module _ (c : Core) (a : Arrays) (k : Shape c a) (v : ℕ) where
   stored-puts none e =
       subst (Puts (putting none v (abs c a)) a) (sym e) (record { shape = k; replies = refl; notes = refl; state = refl })
   stored-puts (some x) e =
-      subst (Puts (putting (some x) v (abs c a)) a) (sym e) (record { shape = shape-of c a _ k; replies = refl; notes = refl; state = refl })
+      subst (Puts (putting (some x) v (abs c a)) a) (sym e)
+      (record { shape = shape-of c a _ k; replies = refl; notes = refl; state = refl })
 
   pub cleared-puts : {r : PlaceWrite} → r ≡ clearedIn v c → Puts (clearing v (abs c a)) a r
   unfolding clearing

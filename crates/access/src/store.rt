@@ -10,7 +10,7 @@ ghost use Rattle.model.specs.Numbers.{choose};
 ghost use Rattle.model.specs.Registers.{writeRegister};
 ghost use Rattle.model.specs.declared.Write.{Write};
 ghost use Rattle.registers.specs.Places.{registerAt};
-ghost use Rattle.registers.specs.Storage.{held};
+ghost use Rattle.registers.specs.Storage.{heldAt};
 ghost use Rattle.queue.specs.Cursors.{empty, cutToOne};
 ghost use Rattle.device.specs.Holds.{Arrays, abs, Shape};
 ghost use Rattle.calls.specs.Answers.{Accesses};
@@ -35,7 +35,7 @@ fn accepted(held: bool) -> Write
 }
 
 fn store(mut core: Core, place: Place, value: u32) -> PlaceWrite
-    ensures { λ r. ⌜ r ≡ storedIn (held (registerAt place)) value core ⌝ }
+    ensures { λ r. ⌜ r ≡ storedIn (heldAt place) value core ⌝ }
 {
     let mut control = core.control;
     let put = registers::storage::write(control.words, place, value);

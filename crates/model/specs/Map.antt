@@ -16,13 +16,14 @@ pub data Shown : Type 0 where
   intRaw intSt status fsmStatus memRxStatus : Shown
   deriving Discrete as shown-discrete
 
--- a stored word is read and written, a shown one only read, INT_CLR only written; unknown is what an offset gives that the map lacks
+-- a stored word is read and written, a shown one only read, INT_CLR only written; unknown is for an offset that the map lacks
 pub data Register : Type 0 where
   fifo intClr unknown : Register
   shown : Shown → Register
   stored : Word → Register
   deriving Discrete as register-discrete
 
+-- whether two are one; the derived test's type says that it decides that
 abbrev pub sameWord : Word → Word → Bool
 sameWord x y = decide (word-discrete x y)
 
@@ -61,6 +62,7 @@ valueOf w rs485Conf = w .«rs485_conf»
 valueOf w atCmdChar = w .«at_cmd_char»
 valueOf w memConf = w .«mem_conf»
 
+-- nine words, each by its name
 unfoldable pub wordsBy : (Word → ℕ) → Words
 wordsBy value = record {
   «int_ena» = value intEna;

@@ -19,7 +19,7 @@ use Rattle.model.specs.Arm.{called, nthGone, firstGone, lastGone, belowT
 use Rattle.model.specs.Arm.{armAll, arm}
 use Rattle.model.specs.Replies.{number, notices, noReport, report, ReadOf, word, byte, noValue, refused, readNumber, writeNumber}
 use Rattle.model.specs.Replies.{doneNumber, takenNumber}
-use Rattle.model.specs.Map.{isFifo, registerAmong, registerOf, valueOf, wordsBy, replaced}
+use Rattle.model.specs.Map.{registerAmong, registerOf, valueOf, wordsBy, replaced}
 use Rattle.model.specs.Registers.{noteIf, sourceNotes, statusWord, fsmStatus, looks, pop, shownIn, readRegister, readLooking, readAt}
 use Rattle.model.specs.Registers.{conf0Notes, storedNotes, startsAt, goneAt, sent, dropped, sendByte, resetFifos, storing, clearing}
 use Rattle.model.specs.Registers.{writeRegister, concluded}
@@ -228,7 +228,7 @@ unfolding upBy4 benchWords bench valueIs dateIs isOverflow isEmptyRead onlyNotic
     idle lineFree passOn pass goesOn lost onTheLine counted passesFrom pending begin passes aboveFull inFifo emptyThreshold belowEmpty
     assertLevels intStatus drive noLaterThan settlingDate levels leveled settingsOf settleTo settle called nthGone firstGone lastGone
     belowThresholdAt nextStart landingOf nextLanding instants armAll arm number notices noReport report readNumber writeNumber doneNumber
-    takenNumber registerAmong registerOf decide isFifo valueOf wordsBy replaced noteIf sourceNotes statusWord fsmStatus looks pop shownIn
+    takenNumber registerAmong registerOf decide valueOf wordsBy replaced noteIf sourceNotes statusWord fsmStatus looks pop shownIn
     readRegister readLooking readAt conf0Notes storedNotes startsAt goneAt sent dropped sendByte resetFifos storing clearing writeRegister
     concluded among repeated pastEnd wentBack transmitFull hostFull runsFull periodTooLong bufferTooShort refuseIf refuseDate refusing
     unless unsettled afterSettling undated joined lastDate hostDate clearedLine filled notTaken dated settleAt quiet readWork readPlaced

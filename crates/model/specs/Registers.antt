@@ -42,6 +42,7 @@ pub record Access (R H W : Type 0) : Type 0 where
   pub notes : List Unsupported
   pub state : Uart H W
 
+-- an access by its parts
 abbrev pub gives : {R H W : Type 0} → List Unsupported → Uart H W → R → Access R H W
 gives ns u r = record { reply = r; notes = ns; state = u }
 
@@ -73,6 +74,7 @@ module _ {H W : Type 0} where
   shownIn u Shown.fsmStatus = fsmStatus (length (u .inFlight))
   shownIn u Shown.memRxStatus = u .map .«mem_rx_status»
 
+  -- INT_CLR and an unknown register cannot be read
   unfoldable pub readRegister : List Unsupported → Register → Uart H W → Access (ReadOf H) H W
   readRegister ns fifo u = pop ns (u .rx) u
   readRegister ns intClr u = gives ns u noValue
@@ -142,7 +144,7 @@ module _ {H W : Type 0} where
   unfoldable pub clearing : ℕ → Uart H W → Access Write H W
   clearing v u = gives [] (withLineOf (withIntRaw (without v (lineOf u .«int_raw»)) (lineOf u)) u) Accepted
 
-  -- at a register other than FIFO. A read-only or unknown one is not accepted
+  -- at a register other than FIFO. CONF0 resets the FIFOs first; a read-only or unknown register is not accepted
   unfoldable pub writeRegister : Register → ℕ → Uart H W → Access Write H W
   writeRegister fifo v u = gives [] u NotAccepted
   writeRegister intClr v u = clearing v u

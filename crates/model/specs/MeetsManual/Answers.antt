@@ -10,7 +10,7 @@ use Rattle.model.specs.Numbers.{choose}
 use Rattle.model.specs.State.{Uart}
 use Rattle.model.specs.Line.{fifoBytes}
 use Rattle.model.specs.Replies.{ReadOf}
-use Rattle.model.specs.Map.{Register, isFifo, registerOf}
+use Rattle.model.specs.Map.{Register, registerOf}
 use Rattle.model.specs.Registers.{sendByte, sent, dropped}
 use Rattle.model.specs.Tests.{dateEnd, pastEnd, wentBack, sentLimit, transmitFull, refuseIf, refuseDate}
 use Rattle.model.specs.Calls
@@ -55,7 +55,7 @@ module _ {now : ℕ} {u : Uart ℕ ℕ} (t : InTime now u) where
   -- a write to FIFO that 4 does not refuse
   pub fifo-answer : (x : Written) → registerOf (u .map .offsets) (x .offset) ≡ Register.fifo
       → length (u .tx) + length (u .inFlight) < sentLimit → step (Call.write now x) u ≡ answering writes (sendWork now (x .value % 256) u)
-  unfolding step stepBy writing Calls.write writeAt isFifo decide choose send refuseIf transmitFull
+  unfolding step stepBy writing Calls.write writeAt decide choose send refuseIf transmitFull
   fifo-answer x e room =
       ap (λ (q : Register). answering writes (writeAt now q (x .value) u)) e
       ∙ ap (answering writes) (carried-out _ (sendWork now (x .value % 256)) u
@@ -63,7 +63,7 @@ module _ {now : ℕ} {u : Uart ℕ ℕ} (t : InTime now u) where
 
   pub clear-answer : (x : Written) → registerOf (u .map .offsets) (x .offset) ≡ Register.intClr
       → step (Call.write now x) u ≡ answering writes (writeWork now Register.intClr (x .value) u)
-  unfolding step stepBy writing Calls.write writeAt isFifo decide choose writePlaced
+  unfolding step stepBy writing Calls.write writeAt decide choose writePlaced
   clear-answer x e =
       ap (λ (q : Register). answering writes (writeAt now q (x .value) u)) e
       ∙ ap (answering writes) (carried-out _ (writeWork now Register.intClr (x .value)) u (in-time t none))

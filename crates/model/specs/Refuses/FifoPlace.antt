@@ -15,7 +15,7 @@ use Rattle.model.specs.Ends.Passes.{apart}
 
 among-others : (offset : ℕ) (os : List ℕ) {rs : List Register} → All (λ r. isFifo r ≡ false) rs
     → isFifo (registerAmong offset os rs) ≡ false
-unfolding registerAmong isFifo decide
+unfolding registerAmong decide
 among-others offset [] nil = refl
 among-others offset [] (cons h hs) = refl
 among-others offset (o ∷ os) nil = refl
@@ -27,7 +27,7 @@ others = drop 1 registers
 
 -- none of them is FIFO
 pub after-first : (offset : ℕ) (os : List ℕ) → isFifo (registerAmong offset os others) ≡ false
-unfolding isFifo decide
+unfolding decide
 after-first offset os = among-others offset os
     (cons refl (cons refl (cons refl (cons refl (cons refl (cons refl (cons refl (cons refl
     (cons refl (cons refl (cons refl (cons refl (cons refl (cons refl (cons refl nil)))))))))))))))
@@ -39,7 +39,7 @@ first-is-fifo offset os = rw (eq-eqb offset offset refl)
 
 -- what becomes FIFO is the first offset
 pub fifo-is-first : (offsets : List ℕ) (offset : ℕ) → isFifo (registerOf offsets offset) ≡ true → (os : List ℕ) × (offsets ≡ offset ∷ os)
-unfolding registerOf registerAmong isFifo decide
+unfolding registerOf registerAmong decide
 fifo-is-first [] offset = λ h. apart (cc)
 fifo-is-first (o ∷ os) offset = choose-ind (λ (p : Register). isFifo p ≡ true → (os′ : List ℕ) × (o ∷ os ≡ offset ∷ os′)) (eqb offset o)
     (λ e _. (os, ap (λ x. x ∷ os) (sym (eqb-true offset o e))))
@@ -50,7 +50,7 @@ same-first e = cc
 
 -- in a map that has an offset, a register is FIFO exactly where the offset is the first
 pub fifo-exactly : (first : ℕ) (os : List ℕ) (offset : ℕ) → registerOf (first ∷ os) offset ≡ Register.fifo ↔ offset ≡ first
-unfolding isFifo decide
+unfolding decide
 fifo-exactly first os offset = (
   λ e. let f : (os′ : List ℕ) × (first ∷ os ≡ offset ∷ os′) = fifo-is-first (first ∷ os) offset (ap isFifo e) in sym (same-first (f .1)),
   λ e. rw e (first-is-fifo first os),

@@ -180,7 +180,7 @@ module _ (now : ℕ) (x : Written) (u : Uart ℕ ℕ) where
   register = registerOf (u .map .offsets) (x .offset)
 
   not-fifo : isFifo register ≡ false → ¬ Condition u TransmitFull (Call.write now x)
-  unfolding isFifo decide
+  unfolding decide
   not-fifo h (number4 {others = os} is le) =
       let f : isFifo register ≡ true = ap isFifo (ap (λ l. registerOf l (x .offset)) is ∙ first-is-fifo (x .offset) os) in apart (cc)
 

@@ -122,7 +122,7 @@ host-placed offsets cs = flatMap-map hostOf (placed offsets) hostOf (host-of-pla
 
 module _ (fifo : ℕ) (others : List ℕ) where
   put-placed : (x : Written) → putOf (putAt (registerOf (fifo ∷ others) (x .offset)) (x .value)) ≡ fifoByte fifo x
-  unfolding fifoByte choose putOf putAt isFifo decide
+  unfolding fifoByte choose putOf putAt decide
   put-placed x = go (eqb (x .offset) fifo) refl
     where
       go : (b : Bool) → eqb (x .offset) fifo ≡ b → putOf (putAt (registerOf (fifo ∷ others) (x .offset)) (x .value))
@@ -190,7 +190,7 @@ forget-alike (a ∷ s) (b ∷ t) e = ap (λ r. tt ∷ r) (forget-alike s t (suc-
 module _ (fifo : ℕ) (others : List ℕ) where
   -- at FIFO's offset every word becomes a byte
   put-fifo : (v : ℕ) → putAt (registerOf (fifo ∷ others) fifo) v ≡ Put.byte (v % 256)
-  unfolding putAt isFifo decide choose
+  unfolding putAt decide choose
   put-fifo v = ap (λ p. putAt p v) (fifo-place fifo others fifo (eq-eqb fifo fifo refl))
 
   module _ (h w : ℕ) where

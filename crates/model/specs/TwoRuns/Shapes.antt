@@ -10,7 +10,7 @@ use lib.ListN.{length, length-map}
 use lib.Seq.{take-at}
 use Rattle.model.specs.State.{Uart, lineOf}
 use Rattle.model.specs.Replies.{refused, notices, report}
-use Rattle.model.specs.Map.{Register, sameRegister, isFifo, registerOf}
+use Rattle.model.specs.Map.{Register, sameRegister, registerOf}
 use Rattle.model.specs.Registers.{looks, pop, readRegister, readLooking, readAt}
 use Rattle.model.specs.Tests.{refuseDate}
 use Rattle.model.specs.Calls.{refusing, unless, afterSettling, settleAt, readWork, readPlaced}
@@ -85,7 +85,6 @@ placed-noByte p n now u = go (refuseDate now (u .control) none)
 
 module _ (fifo : ℕ) (others : List ℕ) where
   other-noByte : (o : ℕ) → eqb o fifo ≡ false → NoByte ((registerOf (fifo ∷ others) o))
-  unfolding isFifo
   other-noByte o e = register-noByte _ (other-place fifo others o e)
 
   read-shape : (now o : ℕ) (u : Uart ℕ ℕ) (b : Bool) → eqb o fifo ≡ b

@@ -44,7 +44,8 @@ unfolding registerAt
 returns c = λ a e k.
     let at = c .before .before .before in
     reads-fifo _ _ a k (at .before .before .before .before .before .looks .ensures) (at .before .before .mistimed-at .ensures)
-    (at .before .receive-clock-notices .ensures) (at .forget-mistimed .ensures) (ap registerAt (c .before .enum-told .given .1)) e (c .pop .ensures)
+    (at .before .receive-clock-notices .ensures) (at .forget-mistimed .ensures) (ap registerAt (c .before .enum-told .given .1)) e
+    (c .pop .ensures)
 
 returns-2 : tie.Need-returns-2
 unfolding registerAt decide

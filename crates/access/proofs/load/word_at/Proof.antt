@@ -2,9 +2,8 @@
 use mathlib.Core.Path.{_≡_, refl, _∙_}
 use mathlib.Core.List.{[], _∷_}
 use Rattle.model.specs.Replies.{asRead}
-use Rattle.model.specs.Map.{valueOf}
 use Rattle.registers.specs.Places.{registerAt}
-use Rattle.registers.specs.Storage.{held, loaded}
+use Rattle.registers.specs.Storage.{held, heldAt, loaded}
 use Rattle.registers.proofs.Tags.{place-keys}
 use Rattle.access.specs.Reads.{shownOf, wordAt}
 use borrow.Author.Needs.{needs}
@@ -45,7 +44,7 @@ unfolding wordAt loaded held registerAt
 returns-6 c =
     let o = c .before .before .before .before .before .before .args in
     c .read .ensures
-    ∙ place-keys (λ p. asRead (loaded (o .core .control .words) (held (registerAt p))) ≡ asRead (wordAt (o .core) (registerAt p))) 0
+    ∙ place-keys (λ p. asRead (loaded (o .core .control .words) (heldAt p)) ≡ asRead (wordAt (o .core) (registerAt p))) 0
     (3 ∷ 4 ∷ 5 ∷ 8 ∷ 9 ∷ 10 ∷ 11 ∷ 12 ∷ 13 ∷ 14 ∷ 16 ∷ []) (o .place)
     (refl, (refl, (refl, (refl, (refl, (refl, (refl, (refl, (refl, (refl, (refl, (refl, tt)))))))))))) (c .before .match .keys6)
 

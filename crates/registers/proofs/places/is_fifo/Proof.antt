@@ -18,7 +18,8 @@ returns c = sym (ap (λ p. isFifo (registerAt p)) (c .enum-told .given .1))
 returns-2 : tie.Need-returns-2
 unfolding registerAt decide
 returns-2 c =
-    place-keys (λ p. false ≡ isFifo (registerAt p)) 1 (2 ∷ 3 ∷ 4 ∷ 5 ∷ 6 ∷ 7 ∷ 8 ∷ 9 ∷ 10 ∷ 11 ∷ 12 ∷ 13 ∷ 14 ∷ 15 ∷ 16 ∷ []) (c .before .args .place)
+    place-keys (λ p. false ≡ isFifo (registerAt p)) 1 (2 ∷ 3 ∷ 4 ∷ 5 ∷ 6 ∷ 7 ∷ 8 ∷ 9 ∷ 10 ∷ 11 ∷ 12 ∷ 13 ∷ 14 ∷ 15 ∷ 16 ∷ [])
+    (c .before .args .place)
     (refl, (refl, (refl, (refl, (refl, (refl, (refl, (refl, (refl, (refl, (refl, (refl, (refl, (refl, (refl, (refl, tt))))))))))))))))
     (c .match .keys2)
 

@@ -11,7 +11,8 @@ use Rattle.registers.proofs.places.looks.Tie as tie
 returns : tie.Need-returns
 unfolding looks registerAt decide
 returns c =
-    place-keys (λ p. true ≡ looks (registerAt p)) 0 (1 ∷ 2 ∷ 6 ∷ []) (c .before .args .place) (refl, (refl, (refl, (refl, tt)))) (c .match .keys1)
+    place-keys (λ p. true ≡ looks (registerAt p)) 0 (1 ∷ 2 ∷ 6 ∷ []) (c .before .args .place) (refl, (refl, (refl, (refl, tt))))
+    (c .match .keys1)
 
 returns-2 : tie.Need-returns-2
 unfolding looks registerAt decide

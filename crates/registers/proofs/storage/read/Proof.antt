@@ -5,7 +5,7 @@ use Rattle.model.specs.Replies.{asRead}
 use Rattle.model.specs.Map.{valueOf}
 use Rattle.model.specs.declared.Read.{Read}
 use Rattle.registers.specs.Places.{registerAt}
-use Rattle.registers.specs.Storage.{held, loaded}
+use Rattle.registers.specs.Storage.{held, heldAt, loaded}
 use Rattle.registers.proofs.Tags.{place-keys}
 use Rattle.registers.proofs.storage.read.Statement.{statement}
 use Rattle.registers.proofs.storage.read.Tie as tie
@@ -49,7 +49,7 @@ returns-9 c = rw (c .enum-told9 .given .1)
 returns-10 : tie.Need-returns-10
 unfolding asRead loaded held registerAt valueOf
 returns-10 c =
-    place-keys (λ p. Read.NoValue ≡ asRead (loaded (c .before .args .words) (held (registerAt p)))) 0 (1 ∷ 2 ∷ 4 ∷ 6 ∷ 7 ∷ 15 ∷ 16 ∷ [])
+    place-keys (λ p. Read.NoValue ≡ asRead (loaded (c .before .args .words) (heldAt p))) 0 (1 ∷ 2 ∷ 4 ∷ 6 ∷ 7 ∷ 15 ∷ 16 ∷ [])
     (c .before .args .place) (refl, (refl, (refl, (refl, (refl, (refl, (refl, (refl, tt)))))))) (c .match .keys10)
 
 pub read-spec : {M : Type 1} → statement M

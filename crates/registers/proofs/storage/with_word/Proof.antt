@@ -5,7 +5,7 @@ use mathlib.Core.Bool.{decide}
 use Rattle.model.specs.Numbers.{choose}
 use Rattle.model.specs.Map.{valueOf, wordsBy, replaced}
 use Rattle.registers.specs.Places.{registerAt}
-use Rattle.registers.specs.Storage.{held, written}
+use Rattle.registers.specs.Storage.{held, heldAt, written}
 use Rattle.registers.proofs.Tags.{place-keys}
 use Rattle.registers.proofs.storage.with_word.Statement.{statement}
 use Rattle.registers.proofs.storage.with_word.Tie as tie
@@ -49,7 +49,7 @@ returns-9 c = rw (c .enum-told9 .given .1)
 returns-10 : tie.Need-returns-10
 unfolding written held registerAt replaced wordsBy valueOf choose decide
 returns-10 c =
-    place-keys (λ p. c .before .args .words ≡ written (held (registerAt p)) (c .before .args .value) (c .before .args .words)) 0
+    place-keys (λ p. c .before .args .words ≡ written (heldAt p) (c .before .args .value) (c .before .args .words)) 0
     (1 ∷ 2 ∷ 4 ∷ 6 ∷ 7 ∷ 15 ∷ 16 ∷ []) (c .before .args .place) (refl, (refl, (refl, (refl, (refl, (refl, (refl, (refl, tt))))))))
     (c .match .keys10)
 
