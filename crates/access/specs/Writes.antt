@@ -1,6 +1,6 @@
 -- What a write at a register other than FIFO leaves once the UART is settled, from the core alone. Assumes nothing.
 use mathlib.Core.Path.{_≡_, refl, sym, ap, ap₂, subst, _∙_}
-use mathlib.Core.Bool.{Bool, decide}
+use mathlib.Core.Bool.{Bool, true, false, decide}
 use mathlib.Core.Option.{Option, none, some}
 use mathlib.Core.List.{List, []}
 use Prim.Native.Nat.{ℕ}
@@ -9,9 +9,10 @@ use lib.ListN.{take}
 use Rattle.model.specs.Numbers.{choose, bit, without}
 use Rattle.model.specs.State
 use Rattle.model.specs.State.{Sent, withIntRaw, withWords, withLine, withInFlight, withRx}
-use Rattle.model.specs.Map.{Word, Register, stored}
+use Rattle.model.specs.Map.{Word, Register, fifo, intClr, unknown, shown, stored, sameWord}
 use Rattle.model.specs.Registers.{Access, gives, resetFifos, storing, clearing, writeRegister}
-use Rattle.model.specs.Laws.Choose.{choose-ind, choose-nat}
+use Rattle.model.specs.Ends.Passes.{apart}
+use Rattle.model.specs.Laws.Choose.{choose-false, choose-ind, choose-nat}
 use Rattle.model.specs.Laws.AccessCases.{writeRegister-ind}
 use Rattle.model.specs.declared.Write.{Write}
 use Rattle.queue.specs.Cursors.{Held, slotOf, empty, cutToOne}
@@ -108,13 +109,26 @@ conf0-puts c a k v ec {r} er =
 
 -- ---- at the other registers
 
--- a write there does no more than store
-abbrev pub Stores : ℕ → Register → Type 0
-Stores v p = (u : State.Uart ℕ ℕ) → writeRegister p v u ≡ putting (held p) v u
+-- whether a write does more than store: INT_CLR clears, and CONF0 resets the FIFOs first
+unfoldable pub doesMore : Register → Bool
+doesMore fifo = false
+doesMore intClr = true
+doesMore unknown = false
+doesMore (shown s) = false
+doesMore (stored x) = sameWord x Word.conf0
 
-pub other-puts : (c : Core) (a : Arrays) → Shape c a → (v : ℕ) (p : Register) → Stores v p → {r : PlaceWrite} → r ≡ storedIn (held p) v c
+stores : (v : ℕ) (u : State.Uart ℕ ℕ) (p : Register) → doesMore p ≡ false → writeRegister p v u ≡ putting (held p) v u
+unfolding doesMore writeRegister putting held
+stores v u fifo e = refl
+stores v u intClr e = apart (cc)
+stores v u unknown e = refl
+stores v u (shown s) e = refl
+stores v u (stored x) e = ap (storing x v) (choose-false _ _ e)
+
+pub other-puts : (c : Core) (a : Arrays) → Shape c a → (v : ℕ) (p : Register) → doesMore p ≡ false → {r : PlaceWrite}
+    → r ≡ storedIn (held p) v c
     → Puts (writeRegister p v (abs c a)) a r
-other-puts c a k v p same {r} e = subst (λ (x : Access Write ℕ ℕ). Puts x a r) (sym (same (abs c a))) (stored-puts c a k v (held p) e)
+other-puts c a k v p n {r} e = subst (λ (x : Access Write ℕ ℕ). Puts x a r) (sym (stores v (abs c a) p n)) (stored-puts c a k v (held p) e)
 
 -- ---- the period stays, so that the wake can be armed
 
