@@ -14,7 +14,7 @@ use Rattle.model.specs.Line.{fifoBytes}
 use Rattle.model.specs.Arm.{nthGone, lastGone}
 use Rattle.model.specs.Replies.{refused}
 use Rattle.model.specs.Map.{Register}
-use Rattle.model.specs.Registers.{Access, pop, readLooking, readAt, looks, startsAt, goneAt, sent, dropped, sendByte}
+use Rattle.model.specs.Registers.{Access, pop, readLooking, readAt, startsAt, goneAt, sent, dropped, sendByte}
 use Rattle.model.specs.Registers.{resetFifos, storing, clearing, writeRegister, concluded}
 use Rattle.model.specs.Tests.{sentLimit, transmitFull}
 use Rattle.model.specs.Calls

@@ -25,7 +25,6 @@ use Rattle.model.specs.Refuses.Conditions.{writtenAt, carriedOut}
 use Rattle.model.specs.declared.Source.{Source}
 use Rattle.model.specs.declared.Unsupported.{Unsupported}
 use Rattle.model.specs.declared.Report.{Report}
-use Rattle.model.specs.declared.Write.{Write}
 
 -- ---- notices
 

@@ -1,6 +1,6 @@
 -- Every call ends in one of two ways: refused with the first number whose condition holds, or carried out. Assumes nothing.
 use mathlib.Core.Path.{_≡_, refl, sym, ap, subst, _∙_}
-use Prim.Native.Nat.{ℕ, _+_, _%_, _^_, _≤_, _<_}
+use Prim.Native.Nat.{ℕ, _+_, _^_, _≤_, _<_}
 use native.Mathlib.Omega.{arith}
 use mathlib.Core.Bool.{Bool, true, false, decide, _&&_}
 use mathlib.Core.Option.{Option, none, some}
@@ -8,7 +8,6 @@ use mathlib.Core.List.{List, [], _∷_, _++_}
 use lib.Dec.{leb, ltb}
 use lib.ListN.{length}
 use borrow.Author.Tests.{ltb-true, ltb-false, leb-true, leb-false, lt-ltb, le-leb}
-use Rattle.model.specs.Numbers.{choose}
 use Rattle.model.specs.State.{Run, Uart}
 use Rattle.model.specs.Replies.{refused}
 use Rattle.model.specs.Map.{Register, isFifo, registerOf}
@@ -16,7 +15,6 @@ use Rattle.model.specs.Tests.{pastEnd, wentBack, transmitFull, hostFull,
 use Rattle.model.specs.Tests.{refuseDate}
 use Rattle.model.specs.Calls
 use Rattle.model.specs.Calls.{Outcome, refusing, unless, lastDate, hostDate, notTaken, readPlaced, writePlaced, send, writeAt}
-use Rattle.model.specs.Calls.{writeWork}
 use Rattle.model.specs.Call.{Call, Written, Request, Reply, reads, writes, does, takes}
 use Rattle.model.specs.Run.{answering, stepBy, writing, step}
 use Rattle.model.specs.Limits.{All, nil, cons}

@@ -1,6 +1,6 @@
 -- A list of calls with the numbers of its bytes in their place: the bytes looked up give the list back, and alike lists
 -- have one numbering. Assumes nothing.
-use mathlib.Core.Path.{_≡_, refl, sym, ap, ap₂, subst, _∙_}
+use mathlib.Core.Path.{_≡_, refl, sym, ap, ap₂, _∙_}
 use Prim.Native.Nat.{ℕ, zero, suc, _+_, _%_}
 use native.Mathlib.Nat.{add-zero, suc-ne-zero, suc-inj}
 use mathlib.Core.Bool.{Bool, true, false, decide}
