@@ -1,11 +1,12 @@
--- A write by its place: FIFO sends a byte, and any other place takes the word; the tests and the work of both. Assumes nothing.
-use mathlib.Core.Path.{_≡_, refl, sym, ap, ap₂, subst, _∙_}
+-- A write by its register: FIFO sends a byte, and any other takes the word; the tests and the work of both. Assumes nothing.
+use mathlib.Core.Path.{_≡_, sym, ap, ap₂, subst, _∙_}
 use mathlib.Core.Bool.{Bool, true, false}
 use mathlib.Core.Option.{Option, none, some}
 use Prim.Native.Nat.{ℕ, _%_, _<_}
 use Rattle.model.specs.Numbers.{choose}
 use Rattle.model.specs.State
-use Rattle.model.specs.Registers.{Access, placeOf, sendByte, writePlace, concluded}
+use Rattle.model.specs.Map.{Register, registerOf, isFifo}
+use Rattle.model.specs.Registers.{Access, sendByte, writeRegister, concluded}
 use Rattle.model.specs.Calls
 use Rattle.model.specs.Calls.{Outcome, unless, afterSettling, settleAt, send, sendWork, writePlaced, writeWork, writeAt}
 use Rattle.model.specs.Tests.{dateEnd}
@@ -15,10 +16,6 @@ use Rattle.model.specs.Refuses.Carried.{send-proper, write-proper}
 use Rattle.model.specs.declared.Refusal.{Refusal}
 use Rattle.model.specs.declared.Report.{Report}
 use Rattle.model.specs.declared.Write.{Write}
-use Rattle.model.specs.declared.Place.{Place}
-use Rattle.model.specs.declared.Place.the-variants.{Fifo, IntRaw, IntSt, IntEna, IntClr, Clkdiv, Status, FsmStatus, Conf0, Conf1, ClkConf}
-use Rattle.model.specs.declared.Place.the-variants.{IdleConf, Rs485Conf, AtCmdChar, MemConf, MemRxStatus, Unknown}
-use Rattle.model.specs.Refuses.Conditions.{isFifo}
 use Rattle.replies.specs.declared.notices.Notices.{Notices}
 use Rattle.replies.specs.Calls.{write-tests}
 use Rattle.replies.specs.Refusals.{sending, datesOnly}
@@ -36,16 +33,16 @@ testsAt true cycle last left flying = sending cycle last left flying
 testsAt false cycle last left flying = datesOnly cycle last
 
 -- what is done once the UART is settled
-unfoldable pub accessAt : Bool → ℕ → ℕ → Place → ℕ → State.Uart ℕ ℕ → Access Write ℕ ℕ
+unfoldable pub accessAt : Bool → ℕ → ℕ → Register → ℕ → State.Uart ℕ ℕ → Access Write ℕ ℕ
 accessAt true cycle b p v u = sendByte cycle b u
-accessAt false cycle b p v u = writePlace p v u
+accessAt false cycle b p v u = writeRegister p v u
 
-abbrev pub workAt : Bool → ℕ → ℕ → Place → ℕ → State.Uart ℕ ℕ → Outcome Write ℕ ℕ
+abbrev pub workAt : Bool → ℕ → ℕ → Register → ℕ → State.Uart ℕ ℕ → Outcome Write ℕ ℕ
 workAt fifo cycle b p v u = afterSettling (settleAt cycle u) (λ s. concluded (accessAt fifo cycle b p v s))
 
 -- ---- the laws of an access
 
-module _ (cycle b : ℕ) (p : Place) (v : ℕ) where
+module _ (cycle b : ℕ) (p : Register) (v : ℕ) where
   pub access-period : (f : Bool) (u : State.Uart ℕ ℕ) → accessAt f cycle b p v u .state .control .period ≡ u .control .period
   unfolding accessAt
   access-period true u = send-period cycle b u
@@ -62,33 +59,12 @@ module _ (cycle b : ℕ) (p : Place) (v : ℕ) where
     unfolding accessAt
     sent-access e k = subst (λ (x : Bool). Accesses (λ w. w) (accessAt x cycle b p v u) c′ a′ reply m) (sym e) k
 
-    pub placed-access : f ≡ false → Accesses (λ x. x) (writePlace p v u) c′ a′ reply m
+    pub placed-access : f ≡ false → Accesses (λ x. x) (writeRegister p v u) c′ a′ reply m
         → Accesses (λ x. x) (accessAt f cycle b p v u) c′ a′ reply m
     unfolding accessAt
     placed-access e k = subst (λ (x : Bool). Accesses (λ w. w) (accessAt x cycle b p v u) c′ a′ reply m) (sym e) k
 
 -- ---- the laws of the call
-
-by-kind : (cycle v : ℕ) (u : State.Uart ℕ ℕ) (p : Place)
-    → writeAt cycle p v u ≡ choose (isFifo p) (send cycle (v % 256) u) (writePlaced cycle p v u)
-unfolding writeAt isFifo choose
-by-kind cycle v u Fifo = refl
-by-kind cycle v u IntRaw = refl
-by-kind cycle v u IntSt = refl
-by-kind cycle v u IntEna = refl
-by-kind cycle v u IntClr = refl
-by-kind cycle v u Clkdiv = refl
-by-kind cycle v u Status = refl
-by-kind cycle v u FsmStatus = refl
-by-kind cycle v u Conf0 = refl
-by-kind cycle v u Conf1 = refl
-by-kind cycle v u ClkConf = refl
-by-kind cycle v u IdleConf = refl
-by-kind cycle v u Rs485Conf = refl
-by-kind cycle v u AtCmdChar = refl
-by-kind cycle v u MemConf = refl
-by-kind cycle v u MemRxStatus = refl
-by-kind cycle v u Unknown = refl
 
 -- every test leaves a date below 2^59
 pub tests-in-time : (f : Bool) (cycle last left flying : ℕ) → testsAt f cycle last left flying ≡ none → cycle < dateEnd
@@ -96,8 +72,8 @@ unfolding testsAt sending datesOnly
 tests-in-time true cycle last left flying e = in-time cycle last _ e .0
 tests-in-time false cycle last left flying e = in-time cycle last none e .0
 
-module _ (cycle offset v : ℕ) {c : Core} {a : Arrays} (ok : Ok c a) {p : Place} {f : Bool} {b : ℕ}
-    (at : p ≡ placeOf (c .map .offsets) offset) (kind : f ≡ isFifo p)
+module _ (cycle offset v : ℕ) {c : Core} {a : Arrays} (ok : Ok c a) {p : Register} {f : Bool} {b : ℕ}
+    (at : p ≡ registerOf (c .map .offsets) offset) (sends : f ≡ isFifo p)
     (low : b ≡ v % 256) where
   checks : (x : Bool)
       → choose x (send cycle b (abs c a)) (writePlaced cycle p v (abs c a))
@@ -108,10 +84,10 @@ module _ (cycle offset v : ℕ) {c : Core} {a : Arrays} (ok : Ok c a) {p : Place
 
   write-checks : Calls.write cycle offset v (abs c a)
       ≡ unless (testsAt f cycle (c .control .last) (c .tx .count) (c .flight .count)) Write.Refused (workAt f cycle b p v) (abs c a)
-  unfolding Calls.write
+  unfolding Calls.write writeAt
   write-checks =
-      ap (λ (q : Place). writeAt cycle q v (abs c a)) (sym at) ∙ by-kind cycle v (abs c a) p
-      ∙ ap₂ (λ (x : Bool) (n : ℕ). choose x (send cycle n (abs c a)) (writePlaced cycle p v (abs c a))) (sym kind) (sym low) ∙ checks f
+      ap (λ (q : Register). writeAt cycle q v (abs c a)) (sym at)
+      ∙ ap₂ (λ (x : Bool) (n : ℕ). choose x (send cycle n (abs c a)) (writePlaced cycle p v (abs c a))) (sym sends) (sym low) ∙ checks f
 
   pub write-carried : {c′ : Core} {a′ : Arrays} {reply : Write} {report : Report}
       → testsAt f cycle (c .control .last) (c .tx .count) (c .flight .count) ≡ none

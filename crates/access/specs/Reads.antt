@@ -1,6 +1,6 @@
 -- What a read gives once the UART is settled, from the core's numbers and the slots of the receive FIFO. Assumes nothing.
 use mathlib.Core.Path.{_≡_, refl, sym, ap, ap₂, subst, _∙_}
-use mathlib.Core.Bool.{Bool, true, false}
+use mathlib.Core.Bool.{Bool, true, false, decide}
 use mathlib.Core.List.{List}
 use Prim.Native.Nat.{ℕ, _<_, _≤_}
 use native.Mathlib.Omega.{arith}
@@ -9,14 +9,14 @@ use lib.ListN.{length, getD}
 use borrow.Author.Tests.{ltb-true, ltb-false, lt-ltb, le-ltb}
 use Rattle.model.specs.Numbers.{choose}
 use Rattle.model.specs.State.{withMistimed, withLine}
-use Rattle.model.specs.Replies.{ReadOf, word, asRead}
-use Rattle.model.specs.Registers.{Access, loaded, sourceNotes, statusWord, fsmStatus, pop, gives, readPlace, looks, readLooking, readAt}
+use Rattle.model.specs.Settle.{intStatus}
+use Rattle.model.specs.Replies.{ReadOf, word, noValue, asRead}
+use Rattle.model.specs.Map.{Shown, Register, fifo, intClr, unknown, shown, stored, isFifo, valueOf}
+use Rattle.model.specs.Registers.{Access, sourceNotes, statusWord, fsmStatus, pop, gives, shownIn, readRegister, looks, readLooking, readAt}
+use Rattle.model.specs.Ends.Passes.{apart}
 use Rattle.model.specs.Laws.Choose.{choose-true, choose-false, choose-ind}
 use Rattle.model.specs.declared.Read.{Read}
 use Rattle.model.specs.declared.Source.{Source}
-use Rattle.model.specs.declared.Place.{Place}
-use Rattle.model.specs.declared.Place.the-variants.{Fifo, IntRaw, IntSt, IntEna, IntClr, Clkdiv, Status, FsmStatus, Conf0, Conf1, ClkConf}
-use Rattle.model.specs.declared.Place.the-variants.{IdleConf, Rs485Conf, AtCmdChar, MemConf, MemRxStatus, Unknown}
 use Rattle.model.specs.declared.Unsupported.{Unsupported}
 use Rattle.model.specs.declared.Unsupported.the-variants.{UartEmptyRead, UartReceiveClock}
 use Rattle.queue.specs.Cursors
@@ -34,52 +34,52 @@ use Rattle.calls.specs.Answers.{Accesses}
 use Rattle.calls.specs.Queues.{withQueuesOf, queues-shape}
 use Rattle.access.specs.declared.load.PlaceRead.{PlaceRead}
 
--- ---- places other than FIFO
+-- ---- registers other than FIFO
 
--- the word that a read gives there; Storage decides of the others, and of FIFO nothing is said
-unfoldable pub wordAt : Core → Place → ReadOf ℕ
-wordAt c Fifo = loaded (c .control .words) Fifo
-wordAt c IntRaw = word (c .control .line .«int_raw»)
-wordAt c IntSt = word (Levels.intStatus (c .control .words .«int_ena») (c .control .line))
-wordAt c IntEna = loaded (c .control .words) IntEna
-wordAt c IntClr = loaded (c .control .words) IntClr
-wordAt c Clkdiv = loaded (c .control .words) Clkdiv
-wordAt c Status = word (statusWord (c .map .«idle_status») (c .flight .count) (c .rx .count))
-wordAt c FsmStatus = word (fsmStatus (c .flight .count))
-wordAt c Conf0 = loaded (c .control .words) Conf0
-wordAt c Conf1 = loaded (c .control .words) Conf1
-wordAt c ClkConf = loaded (c .control .words) ClkConf
-wordAt c IdleConf = loaded (c .control .words) IdleConf
-wordAt c Rs485Conf = loaded (c .control .words) Rs485Conf
-wordAt c AtCmdChar = loaded (c .control .words) AtCmdChar
-wordAt c MemConf = loaded (c .control .words) MemConf
-wordAt c MemRxStatus = word (c .map .«mem_rx_status»)
-wordAt c Unknown = loaded (c .control .words) Unknown
+unfoldable pub shownOf : Core → Shown → ℕ
+shownOf c Shown.intRaw = c .control .line .«int_raw»
+shownOf c Shown.intSt = Levels.intStatus (c .control .words .«int_ena») (c .control .line)
+shownOf c Shown.status = statusWord (c .map .«idle_status») (c .flight .count) (c .rx .count)
+shownOf c Shown.fsmStatus = fsmStatus (c .flight .count)
+shownOf c Shown.memRxStatus = c .map .«mem_rx_status»
 
--- a read there gives the core's word, and nothing else changes
-abbrev pub Words : Place → Type 0
-Words p = (ns : List Unsupported) (c : Core) (a : Arrays) → readPlace ns p (abs c a) ≡ gives ns (abs c a) (wordAt c p)
+-- what a read gives there; of FIFO nothing is said
+unfoldable pub wordAt : Core → Register → ReadOf ℕ
+wordAt c fifo = noValue
+wordAt c intClr = noValue
+wordAt c unknown = noValue
+wordAt c (shown s) = word (shownOf c s)
+wordAt c (stored x) = word (valueOf (c .control .words) x)
 
 flying : (c : Core) (a : Arrays) → length (abs c a .inFlight) ≡ c .flight .count
 flying c a = elems-length (sentAt (a .goneAt) (a .flight)) 129 (c .flight)
 
-pub status-words : Words Status
-unfolding readPlace wordAt
-status-words ns c a =
-    ap₂ (λ (n m : ℕ). gives ns (abs c a) (word (statusWord (c .map .«idle_status») n m))) (flying c a)
-    (elems-length (slotOf (a .rx) 0) 128 (c .rx))
+shown-words : (s : Shown) (c : Core) (a : Arrays) → shownIn (abs c a) s ≡ shownOf c s
+unfolding shownIn shownOf intStatus
+shown-words Shown.intRaw c a = refl
+shown-words Shown.intSt c a = refl
+shown-words Shown.status c a = ap₂ (statusWord (c .map .«idle_status»)) (flying c a) (elems-length (slotOf (a .rx) 0) 128 (c .rx))
+shown-words Shown.fsmStatus c a = ap fsmStatus (flying c a)
+shown-words Shown.memRxStatus c a = refl
 
-pub fsm-words : Words FsmStatus
-unfolding readPlace wordAt
-fsm-words ns c a = ap (λ (n : ℕ). gives ns (abs c a) (word (fsmStatus n))) (flying c a)
+-- a read there gives the core's word, and nothing else changes
+abbrev Words : Register → Type 0
+Words r = (ns : List Unsupported) (c : Core) (a : Arrays) → readRegister ns r (abs c a) ≡ gives ns (abs c a) (wordAt c r)
 
-word-accesses : (p : Place) → Words p → (ns : List Unsupported) (c : Core) (a : Arrays) → Shape c a → {reply : Read}
-    → reply ≡ asRead (wordAt c p)
-    → Accesses asRead (readPlace ns p (abs c a)) c a reply (noted ns)
-unfolding gives
-word-accesses p same ns c a k {reply} r =
+words : (r : Register) → isFifo r ≡ false → Words r
+unfolding readRegister wordAt decide
+words fifo e ns c a = apart (cc)
+words intClr e ns c a = refl
+words unknown e ns c a = refl
+words (shown s) e ns c a = ap (λ (n : ℕ). gives ns (abs c a) (word n)) (shown-words s c a)
+words (stored x) e ns c a = refl
+
+word-accesses : (r : Register) → Words r → (ns : List Unsupported) (c : Core) (a : Arrays) → Shape c a → {reply : Read}
+    → reply ≡ asRead (wordAt c r)
+    → Accesses asRead (readRegister ns r (abs c a)) c a reply (noted ns)
+word-accesses r same ns c a k {reply} e =
     subst (λ (x : Access (ReadOf ℕ) ℕ ℕ). Accesses asRead x c a reply (noted ns)) (sym (same ns c a))
-    (record { shape = k; replies = r; notes = refl; state = refl })
+    (record { shape = k; replies = e; notes = refl; state = refl })
 
 -- ---- a mistimed reception is told of once
 
@@ -93,8 +93,8 @@ toldOf looks c = choose looks (c .control .line .«rx_mistimed») Source.None
 abbrev pub seenOf : Bool → Core → Core
 seenOf looks c = choose looks (forgottenCore c) c
 
-looking : (looks : Bool) (p : Place) (c : Core) (a : Arrays)
-    → readLooking looks p (abs c a) ≡ readPlace (sourceNotes UartReceiveClock (toldOf looks c)) p (abs (seenOf looks c) a)
+looking : (looks : Bool) (p : Register) (c : Core) (a : Arrays)
+    → readLooking looks p (abs c a) ≡ readRegister (sourceNotes UartReceiveClock (toldOf looks c)) p (abs (seenOf looks c) a)
 unfolding readLooking sourceNotes choose
 looking true p c a = refl
 looking false p c a = refl
@@ -153,35 +153,35 @@ module _ (s : Source) (c : Core) (a : Arrays) (k : Shape c a) where
       (record { shape = k; replies = refl; notes = empty-read-noted s; state = refl })
 
   pop-accesses : {g : PlaceRead} → g ≡ popped c (a .rx) (noted (sourceNotes UartReceiveClock s))
-      → Accesses asRead (readPlace (sourceNotes UartReceiveClock s) Fifo (abs c a)) (g .core) a (g .reply) (g .notices)
-  unfolding popped Pops ns readPlace
+      → Accesses asRead (readRegister (sourceNotes UartReceiveClock s) fifo (abs c a)) (g .core) a (g .reply) (g .notices)
+  unfolding popped Pops ns readRegister
   pop-accesses e =
       subst (Pops (abs c a .rx)) (sym e)
       (choose-ind (Pops (abs c a .rx)) (ltb 0 (c .rx .count)) (λ t. taken-pops (ltb-true _ _ t)) (λ t. nothing-pops (ltb-false _ _ t)))
 
 -- ---- a read, from what the code finds on the way: whether the firmware looks, what it is told of, and the core seen
 
-module _ (p : Place) (c : Core) (a : Arrays) (k : Shape c a) {yes : Bool} {s : Source} {m : Notices} {seen : Core} (el : yes ≡ looks p)
+module _ (p : Register) (c : Core) (a : Arrays) (k : Shape c a) {yes : Bool} {s : Source} {m : Notices} {seen : Core} (el : yes ≡ looks p)
     (es : s ≡ toldOf yes c)
     (em : m ≡ noted (sourceNotes UartReceiveClock s)) (ec : seen ≡ seenOf yes c) where
-  seen-read : readAt p (abs c a) ≡ readPlace (sourceNotes UartReceiveClock s) p (abs seen a)
+  seen-read : readAt p (abs c a) ≡ readRegister (sourceNotes UartReceiveClock s) p (abs seen a)
   unfolding readAt
   seen-read =
       ap (λ (b : Bool). readLooking b p (abs c a)) (sym el) ∙ looking yes p c a
-      ∙ ap₂ (λ (x : Source) (v : Core). readPlace (sourceNotes UartReceiveClock x) p (abs v a)) (sym es) (sym ec)
+      ∙ ap₂ (λ (x : Source) (v : Core). readRegister (sourceNotes UartReceiveClock x) p (abs v a)) (sym es) (sym ec)
 
   held-in : Shape seen a
   held-in = subst (λ (v : Core). Shape v a) (sym ec) (seen-shape yes c a k)
 
-  pub reads-fifo : p ≡ Fifo → {slots : List ℕ} → a .rx ≡ slots → {g : PlaceRead} → g ≡ popped seen slots m
+  pub reads-fifo : p ≡ fifo → {slots : List ℕ} → a .rx ≡ slots → {g : PlaceRead} → g ≡ popped seen slots m
       → Accesses asRead (readAt p (abs c a)) (g .core) a (g .reply) (g .notices)
   reads-fifo ep ea {g} eg =
       subst (λ (x : Access (ReadOf ℕ) ℕ ℕ). Accesses asRead x (g .core) a (g .reply) (g .notices))
-      (sym (seen-read ∙ ap (λ (q : Place). readPlace (sourceNotes UartReceiveClock s) q (abs seen a)) ep))
+      (sym (seen-read ∙ ap (λ (q : Register). readRegister (sourceNotes UartReceiveClock s) q (abs seen a)) ep))
       (pop-accesses s seen a held-in (eg ∙ ap₂ (popped seen) (sym ea) em))
 
-  pub reads-word : Words p → {reply : Read} → reply ≡ asRead (wordAt seen p) → Accesses asRead (readAt p (abs c a)) seen a reply m
+  pub reads-word : isFifo p ≡ false → {reply : Read} → reply ≡ asRead (wordAt seen p) → Accesses asRead (readAt p (abs c a)) seen a reply m
   reads-word ew {reply} er =
       subst (λ (x : Access (ReadOf ℕ) ℕ ℕ). Accesses asRead x seen a reply m) (sym seen-read)
-      (subst (λ (n : Notices). Accesses asRead (readPlace (sourceNotes UartReceiveClock s) p (abs seen a)) seen a reply n) (sym em)
-      (word-accesses p ew (sourceNotes UartReceiveClock s) seen a held-in er))
+      (subst (λ (n : Notices). Accesses asRead (readRegister (sourceNotes UartReceiveClock s) p (abs seen a)) seen a reply n) (sym em)
+      (word-accesses p (words p ew) (sourceNotes UartReceiveClock s) seen a held-in er))

@@ -16,6 +16,7 @@ ghost use Rattle.model.specs.Numbers.{choose};
 ghost use Rattle.model.specs.Replies.{asRead};
 ghost use Rattle.model.specs.Registers.{readAt};
 ghost use Rattle.model.specs.declared.Source.{Source};
+ghost use Rattle.registers.specs.Places.{registerAt};
 ghost use Rattle.queue.specs.Cursors.{Held};
 ghost use Rattle.device.specs.Holds.{Arrays, abs, Shape};
 ghost use Rattle.calls.specs.Answers.{Accesses};
@@ -65,7 +66,7 @@ fn mistimed_at(source: Source, looks: bool) -> Source
 // The word at a place other than FIFO.
 fn word_at(core: Core, place: Place) -> Read
     requires { ⌜ (core .flight .count ≤ 129) × (core .rx .count ≤ 128) ⌝ }
-    ensures { λ r. ⌜ r ≡ asRead (wordAt core place) ⌝ }
+    ensures { λ r. ⌜ r ≡ asRead (wordAt core (registerAt place)) ⌝ }
 {
     let control = core.control;
     let words = control.words;
@@ -121,7 +122,7 @@ fn pop(mut core: Core, rx: &[u8; 128], notices: Notices) -> PlaceRead
 pub fn read_place(core: Core, rx: &[u8; 128], place: Place) -> PlaceRead
     requires { ⌜ Held 129 (core .flight) × Held 128 (core .rx) × (length (now rx) ≡ 128) ⌝ }
     ensures { λ r. ⌜ ((a : Arrays) → a .rx ≡ now (rx .entry) → Shape core a
-        → Accesses asRead (readAt place (abs core a)) (r .core) a (r .reply) (r .notices)) ⌝ }
+        → Accesses asRead (readAt (registerAt place) (abs core a)) (r .core) a (r .reply) (r .notices)) ⌝ }
 {
     let looks = places::looks(place);
     let control = core.control;

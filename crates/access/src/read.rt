@@ -15,6 +15,7 @@ ghost use Prim.Native.Nat.{_<_};
 ghost use Rattle.model.specs.Tests.{dateEnd};
 ghost use Rattle.model.specs.Replies.{asRead, readNumber};
 ghost use Rattle.model.specs.Calls.{read as Calls·read, readWork};
+ghost use Rattle.registers.specs.Places.{registerAt};
 ghost use Rattle.device.specs.Holds.{abs, Ok};
 ghost use Rattle.device.specs.Wholes.{lent};
 ghost use Rattle.calls.specs.Answers.{Works, Answers};
@@ -65,7 +66,7 @@ fn carry_out<'a>(
 ) -> ReadCore
     requires { ⌜ Ok core (lent «gone_at» flight tx host «run_at» «run_len» rx) × (cycle < dateEnd) ⌝ }
     ensures { λ r. ⌜ Works asRead
-        (readWork cycle place (abs core (lent («gone_at» .entry) (flight .entry) (tx .entry) (host .entry) («run_at» .entry)
+        (readWork cycle (registerAt place) (abs core (lent («gone_at» .entry) (flight .entry) (tx .entry) (host .entry) («run_at» .entry)
         («run_len» .entry) (rx .entry))))
         (r .core)
         (lent («gone_at» .entry) (flight .entry) (tx .exit) (host .entry) («run_at» .entry) («run_len» .exit) (rx .exit))

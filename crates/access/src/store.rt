@@ -7,8 +7,10 @@ use registers::words;
 use replies::notices::Notices;
 ghost use mathlib.Core.Path.{_≡_};
 ghost use Rattle.model.specs.Numbers.{choose};
-ghost use Rattle.model.specs.Registers.{writePlace};
+ghost use Rattle.model.specs.Registers.{writeRegister};
 ghost use Rattle.model.specs.declared.Write.{Write};
+ghost use Rattle.registers.specs.Places.{registerAt};
+ghost use Rattle.registers.specs.Storage.{heldAt};
 ghost use Rattle.queue.specs.Cursors.{empty, cutToOne};
 ghost use Rattle.device.specs.Holds.{Arrays, abs, Shape};
 ghost use Rattle.calls.specs.Answers.{Accesses};
@@ -33,7 +35,7 @@ fn accepted(held: bool) -> Write
 }
 
 fn store(mut core: Core, place: Place, value: u32) -> PlaceWrite
-    ensures { λ r. ⌜ r ≡ storedIn place value core ⌝ }
+    ensures { λ r. ⌜ r ≡ storedIn (heldAt place) value core ⌝ }
 {
     let mut control = core.control;
     let put = registers::storage::write(control.words, place, value);
@@ -94,7 +96,7 @@ fn reset_fifos(mut core: Core, conf0: u32) -> Core
 }
 
 pub fn write_place(core: Core, place: Place, value: u32) -> PlaceWrite
-    ensures { λ r. ⌜ ((a : Arrays) → Shape core a → Accesses (λ x. x) (writePlace place value
+    ensures { λ r. ⌜ ((a : Arrays) → Shape core a → Accesses (λ x. x) (writeRegister (registerAt place) value
         (abs core a)) (r .core) a (r .reply) (r .notices)) ⌝ }
 {
     match place {

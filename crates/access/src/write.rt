@@ -17,6 +17,7 @@ ghost use lib.ListN.{length};
 ghost use Rattle.model.specs.Tests.{dateEnd};
 ghost use Rattle.model.specs.Replies.{writeNumber};
 ghost use Rattle.model.specs.Calls.{write as Calls·write};
+ghost use Rattle.registers.specs.Places.{registerAt};
 ghost use Rattle.queue.specs.Cursors.{Held};
 ghost use Rattle.replies.specs.Refusals.{verdict};
 ghost use Rattle.device.specs.Holds.{abs, Ok};
@@ -110,7 +111,7 @@ fn carry_out<'a>(
 ) -> WriteCore
     requires { ⌜ Ok core (lent «gone_at» flight tx host «run_at» «run_len» rx) × (cycle < dateEnd) ⌝ }
     ensures { λ r. ⌜ Works (λ x. x)
-        (workAt fifo cycle byte place value (abs core (lent («gone_at» .entry) (flight .entry) (tx .entry) (host .entry)
+        (workAt fifo cycle byte (registerAt place) value (abs core (lent («gone_at» .entry) (flight .entry) (tx .entry) (host .entry)
         («run_at» .entry) («run_len» .entry) (rx .entry))))
         (r .core)
         (lent («gone_at» .exit) (flight .exit) (tx .exit) (host .entry) («run_at» .entry) («run_len» .exit) (rx .exit))

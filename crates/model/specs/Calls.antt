@@ -13,13 +13,11 @@ use Rattle.model.specs.Events.{Event, passesIn, overflowsIn}
 use Rattle.model.specs.Settle.{Settled, found, settle, pending, levels}
 use Rattle.model.specs.Arm.{called, arm}
 use Rattle.model.specs.Replies.{noReport, report, ReadOf, refused, Take}
-use Rattle.model.specs.Registers.{Access, placeOf, readAt, sendByte, writePlace, concluded}
+use Rattle.model.specs.Map.{Register, isFifo, registerOf}
+use Rattle.model.specs.Registers.{Access, readAt, sendByte, writeRegister, concluded}
 use Rattle.model.specs.Tests.{transmitFull, hostFull, runsFull, periodTooLong, bufferTooShort, refuseIf, refuseDate}
 use Rattle.model.specs.declared.Date.{Date}
 use Rattle.model.specs.declared.Source.{Source}
-use Rattle.model.specs.declared.Place.{Place}
-use Rattle.model.specs.declared.Place.the-variants.{Fifo, IntRaw, IntSt, IntEna, IntClr, Clkdiv, Status, FsmStatus, Conf0, Conf1}
-use Rattle.model.specs.declared.Place.the-variants.{ClkConf, IdleConf, Rs485Conf, AtCmdChar, MemConf, MemRxStatus, Unknown}
 use Rattle.model.specs.declared.Line.{Line}
 use Rattle.model.specs.declared.Refusal.{Refusal}
 use Rattle.model.specs.declared.Refusal.the-variants.{TransmitFull, HostFull, RunsFull, PeriodTooLong, BufferTooShort}
@@ -109,16 +107,16 @@ module _ {H W : Type 0} where
 
   -- ---- register access
 
-  unfoldable pub readWork : ℕ → Place → Uart H W → Outcome (ReadOf H) H W
+  unfoldable pub readWork : ℕ → Register → Uart H W → Outcome (ReadOf H) H W
   readWork now p u = afterSettling (settleAt now u) (readAt p)
 
-  unfoldable pub readPlaced : ℕ → Place → Uart H W → Outcome (ReadOf H) H W
+  unfoldable pub readPlaced : ℕ → Register → Uart H W → Outcome (ReadOf H) H W
   readPlaced now p u = unless (refuseDate now (u .control) none) refused (readWork now p) u
 
-  unfoldable pub writeWork : ℕ → Place → ℕ → Uart H W → Outcome Write H W
-  writeWork now p v u = afterSettling (settleAt now u) (λ s. concluded (writePlace p v s))
+  unfoldable pub writeWork : ℕ → Register → ℕ → Uart H W → Outcome Write H W
+  writeWork now p v u = afterSettling (settleAt now u) (λ s. concluded (writeRegister p v s))
 
-  unfoldable pub writePlaced : ℕ → Place → ℕ → Uart H W → Outcome Write H W
+  unfoldable pub writePlaced : ℕ → Register → ℕ → Uart H W → Outcome Write H W
   writePlaced now p v u = unless (refuseDate now (u .control) none) Write.Refused (writeWork now p v) u
 
   unfoldable pub sendWork : ℕ → W → Uart H W → Outcome Write H W
@@ -226,30 +224,14 @@ module _ {H W : Type 0} where
     unfoldable pub takeWritten : List L → Uart H W → Outcome (Take W L) H W
     takeWritten lent u = unless (refuseIf (bufferTooShort (length lent)) BufferTooShort none) (notTaken lent) (takeWrittenWork lent) u
 
--- ---- register access as a caller makes it: the offset becomes a place first
+-- ---- register access as a caller makes it: the offset becomes a register first
 
 unfoldable pub read : {H W : Type 0} → ℕ → ℕ → Uart H W → Outcome (ReadOf H) H W
-read now offset u = readPlaced now (placeOf (u .map .offsets) offset) u
+read now offset u = readPlaced now (registerOf (u .map .offsets) offset) u
 
 -- a FIFO write's byte is its word's low 8 bits
-unfoldable pub writeAt : {H : Type 0} → ℕ → Place → ℕ → Uart H ℕ → Outcome Write H ℕ
-writeAt now Fifo v u = send now (v % 256) u
-writeAt now IntRaw v u = writePlaced now IntRaw v u
-writeAt now IntSt v u = writePlaced now IntSt v u
-writeAt now IntEna v u = writePlaced now IntEna v u
-writeAt now IntClr v u = writePlaced now IntClr v u
-writeAt now Clkdiv v u = writePlaced now Clkdiv v u
-writeAt now Status v u = writePlaced now Status v u
-writeAt now FsmStatus v u = writePlaced now FsmStatus v u
-writeAt now Conf0 v u = writePlaced now Conf0 v u
-writeAt now Conf1 v u = writePlaced now Conf1 v u
-writeAt now ClkConf v u = writePlaced now ClkConf v u
-writeAt now IdleConf v u = writePlaced now IdleConf v u
-writeAt now Rs485Conf v u = writePlaced now Rs485Conf v u
-writeAt now AtCmdChar v u = writePlaced now AtCmdChar v u
-writeAt now MemConf v u = writePlaced now MemConf v u
-writeAt now MemRxStatus v u = writePlaced now MemRxStatus v u
-writeAt now Unknown v u = writePlaced now Unknown v u
+unfoldable pub writeAt : {H : Type 0} → ℕ → Register → ℕ → Uart H ℕ → Outcome Write H ℕ
+writeAt now p v u = choose (isFifo p) (send now (v % 256) u) (writePlaced now p v u)
 
 unfoldable pub write : {H : Type 0} → ℕ → ℕ → ℕ → Uart H ℕ → Outcome Write H ℕ
-write now offset v u = writeAt now (placeOf (u .map .offsets) offset) v u
+write now offset v u = writeAt now (registerOf (u .map .offsets) offset) v u

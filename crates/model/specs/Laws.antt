@@ -4,4 +4,4 @@ pub mod Lists
 pub mod Bits
 pub mod Cases
 pub mod Events
-pub mod PlaceCases
+pub mod AccessCases

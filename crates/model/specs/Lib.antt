@@ -7,6 +7,7 @@ pub mod Line
 pub mod Settle
 pub mod Arm
 pub mod Replies
+pub mod Map
 pub mod Registers
 pub mod Tests
 pub mod Calls

@@ -2,7 +2,7 @@
 -- Assumes nothing.
 use mathlib.Core.Path.{_≡_, refl}
 use Prim.Native.Nat.{ℕ, zero, suc, _+_, _*_, _^_}
-use mathlib.Core.Bool.{Bool, true, false, _&&_}
+use mathlib.Core.Bool.{Bool, true, false, decide, _&&_}
 use mathlib.Core.List.{List, [], _∷_, _++_}
 use lib.Dec.{eqb}
 use lib.ListN.{length, replicate}
@@ -20,9 +20,10 @@ use Rattle.model.specs.Arm.{called, nthGone, firstGone, lastGone, belowT
 use Rattle.model.specs.Arm.{armAll, arm}
 use Rattle.model.specs.Replies.{number, notices, noReport, report, ReadOf, word, byte, noValue, refused, readNumber, writeNumber}
 use Rattle.model.specs.Replies.{doneNumber, takenNumber}
-use Rattle.model.specs.Registers.{placeAmong, placeOf, loaded, holds, stored, noteIf, sourceNotes, statusWord, fsmStatus, looks, pop}
-use Rattle.model.specs.Registers.{gives, readPlace, readLooking, readAt, conf0Notes, storedNotes, startsAt, goneAt, sent, dropped}
-use Rattle.model.specs.Registers.{sendByte, resetFifos, storing, clearing, writePlace, concluded}
+use Rattle.model.specs.Map.{registerAmong, registerOf, valueOf, wordsBy, replaced}
+use Rattle.model.specs.Registers.{noteIf, sourceNotes, statusWord, fsmStatus, looks, pop, shownIn, readRegister, readLooking, readAt}
+use Rattle.model.specs.Registers.{conf0Notes, storedNotes, startsAt, goneAt, sent, dropped, sendByte, resetFifos, storing, clearing}
+use Rattle.model.specs.Registers.{writeRegister, concluded}
 use Rattle.model.specs.Tests.{among, repeated, pastEnd, wentBack, transmitFull, hostFull, runsFull, periodTooLong, bufferTooShort}
 use Rattle.model.specs.Tests.{refuseIf, refuseDate}
 use Rattle.model.specs.Calls.{refusing, unless, unsettled, afterSettling, undated, joined, lastDate, hostDate, clearedLine, filled}
@@ -228,10 +229,10 @@ unfolding upBy4 benchWords bench valueIs dateIs isOverflow isEmptyRead onlyNotic
     idle lineFree passOn pass total goesOn onePass lost passesIn overflowsIn onTheLine passesFrom pending departures passes aboveFull inFifo emptyThreshold belowEmpty
     assertLevels intStatus drive noLaterThan settlingDate levels leveled settingsOf settleTo settle called nthGone firstGone lastGone
     belowThresholdAt nextStart landingOf nextLanding instants armAll arm number notices noReport report readNumber writeNumber doneNumber
-    takenNumber placeAmong placeOf loaded holds stored noteIf sourceNotes statusWord fsmStatus looks pop gives readPlace readLooking readAt
-    conf0Notes storedNotes startsAt goneAt sent dropped sendByte resetFifos storing clearing writePlace concluded among repeated pastEnd
-    wentBack transmitFull hostFull runsFull periodTooLong bufferTooShort refuseIf refuseDate refusing unless unsettled afterSettling undated
-    joined lastDate hostDate clearedLine filled notTaken dated settleAt quiet readWork readPlaced writeWork writePlaced sendWork send
-    handOver receiveWork receive wakeWork wake writeAt Calls.read Calls.write wordsAmong mapOf newControl new numberOf answering stepBy
-    writing step
+    takenNumber registerAmong registerOf decide valueOf wordsBy replaced noteIf sourceNotes statusWord fsmStatus looks pop shownIn
+    readRegister readLooking readAt conf0Notes storedNotes startsAt goneAt sent dropped sendByte resetFifos storing clearing writeRegister
+    concluded among repeated pastEnd wentBack transmitFull hostFull runsFull periodTooLong bufferTooShort refuseIf refuseDate refusing
+    unless unsettled afterSettling undated joined lastDate hostDate clearedLine filled notTaken dated settleAt quiet readWork readPlaced
+    writeWork writePlaced sendWork send handOver receiveWork receive wakeWork wake writeAt Calls.read Calls.write wordsAmong mapOf
+    newControl new numberOf answering stepBy writing step
 marks-hold = refl

@@ -5,12 +5,10 @@ use mathlib.Core.List.{List, [], _∷_, _++_}
 use Rattle.model.specs.State.{Uart}
 use Rattle.model.specs.Events.{Event}
 use Rattle.model.specs.Replies.{ReadOf, readNumber, writeNumber, doneNumber, takenNumber}
-use Rattle.model.specs.Registers.{placeOf}
 use Rattle.model.specs.Calls
 use Rattle.model.specs.Calls.{Outcome}
 use Rattle.model.specs.Call.{Call, Written, Request, Reply, reads, writes, does, takes, left, pends, Answer}
 use Rattle.model.specs.declared.Write.{Write}
-use Rattle.model.specs.declared.Place.{Place}
 
 -- document 01's number of an answer, 0 for done
 unfoldable pub numberOf : {H W L : Type 0} → Reply H W L → ℕ

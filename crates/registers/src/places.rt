@@ -2,8 +2,9 @@
 // changed: its match over offsets.
 use model::Place;
 ghost use mathlib.Core.Path.{_≡_};
-ghost use Rattle.model.specs.Registers.{placeOf, looks as Registers·looks};
-ghost use Rattle.model.specs.Refuses.Conditions.{isFifo};
+ghost use Rattle.model.specs.Map.{registerOf, isFifo};
+ghost use Rattle.model.specs.Registers.{looks as Registers·looks};
+ghost use Rattle.registers.specs.Places.{registerAt};
 
 // The places in the order of set-up.
 const PLACES: [Place; 16] = [
@@ -27,7 +28,7 @@ const PLACES: [Place; 16] = [
 
 // The place of an offset in a register map: the first that has it.
 pub fn place_of(offsets: [u32; 16], offset: u32) -> Place
-    ensures { λ r. ⌜ r ≡ placeOf offsets offset ⌝ }
+    ensures { λ r. ⌜ registerAt r ≡ registerOf offsets offset ⌝ }
 {
     let mut at: usize = 0;
     while at < 16 {
@@ -41,14 +42,14 @@ pub fn place_of(offsets: [u32; 16], offset: u32) -> Place
 
 // Whether a byte is read or sent there, and not a word.
 pub fn is_fifo(place: Place) -> bool
-    ensures { λ r. ⌜ r ≡ isFifo place ⌝ }
+    ensures { λ r. ⌜ r ≡ isFifo (registerAt place) ⌝ }
 {
     if let Place::Fifo = place { true } else { false }
 }
 
 // Whether the firmware looks at the receiver by reading there.
 pub fn looks(place: Place) -> bool
-    ensures { λ r. ⌜ r ≡ Registers·looks place ⌝ }
+    ensures { λ r. ⌜ r ≡ Registers·looks (registerAt place) ⌝ }
 {
     match place {
         Place::Fifo | Place::IntRaw | Place::IntSt | Place::Status => true,

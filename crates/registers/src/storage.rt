@@ -5,10 +5,10 @@ use model::Read;
 use model::Words;
 ghost use mathlib.Core.Path.{_≡_};
 ghost use Rattle.model.specs.Replies.{asRead};
-ghost use Rattle.model.specs.Registers.{loaded, holds as Registers·holds, stored};
+ghost use Rattle.registers.specs.Storage.{heldAt, holds as Storage·holds, loaded, written};
 
 pub fn read(words: Words, place: Place) -> Read
-    ensures { λ r. ⌜ r ≡ asRead (loaded words place) ⌝ }
+    ensures { λ r. ⌜ r ≡ asRead (loaded words (heldAt place)) ⌝ }
 {
     match place {
         Place::IntEna => Read::Value(words.int_ena),
@@ -26,7 +26,7 @@ pub fn read(words: Words, place: Place) -> Read
 
 // Whether a place is held.
 fn holds(place: Place) -> bool
-    ensures { λ r. ⌜ r ≡ Registers·holds place ⌝ }
+    ensures { λ r. ⌜ r ≡ Storage·holds (heldAt place) ⌝ }
 {
     match place {
         Place::IntEna | Place::Clkdiv | Place::Conf0 | Place::Conf1 | Place::ClkConf => true,
@@ -37,7 +37,7 @@ fn holds(place: Place) -> bool
 
 // The words, with the one at a place replaced where it is held.
 fn with_word(mut words: Words, place: Place, value: u32) -> Words
-    ensures { λ r. ⌜ r ≡ stored place value words ⌝ }
+    ensures { λ r. ⌜ r ≡ written (heldAt place) value words ⌝ }
 {
     match place {
         Place::IntEna => words.int_ena = value,
@@ -61,7 +61,7 @@ pub struct StorageWrite {
 }
 
 pub fn write(words: Words, place: Place, value: u32) -> StorageWrite
-    ensures { λ r. ⌜ (r .words ≡ stored place value words) × (r .accepted ≡ Registers·holds place) ⌝ }
+    ensures { λ r. ⌜ (r .words ≡ written (heldAt place) value words) × (r .accepted ≡ Storage·holds (heldAt place)) ⌝ }
 {
     StorageWrite {
         words: with_word(words, place, value),

@@ -6,26 +6,26 @@ use mathlib.Core.Bool.{Bool}
 use mathlib.Core.List.{List}
 use lib.ListN.{length}
 use Rattle.model.specs.State.{Uart}
+use Rattle.model.specs.Map.{Register}
 use Rattle.model.specs.Replies.{refused}
 use Rattle.model.specs.Tests.{refuseDate}
 use Rattle.model.specs.Calls.{unless, lastDate, hostDate, notTaken, readWork, readPlaced, writeWork, writePlaced, sendWork, send}
 use Rattle.model.specs.Calls.{receiveWork, receive}
 use Rattle.model.specs.Calls.{wakeWork, wake, watchWork, watch, powerDownWork, powerDown, clockWork, clockChange, resetWork, reset}
 use Rattle.model.specs.Calls.{takeTxWork, takeTx, takeWrittenWork, takeWritten}
-use Rattle.model.specs.declared.Place.{Place}
 use Rattle.model.specs.declared.Write.{Write}
 use Rattle.model.specs.declared.Done.{Done}
 use Rattle.replies.specs.Refusals.{dates, datesOnly, sending, receiving, clocking, takingTx, takingWritten}
 
 module _ {H W : Type 0} (now : ℕ) (u : Uart H W) where
-  pub read-tests : (p : Place) → readPlaced now p u ≡ unless (datesOnly now (u .control .last)) refused (readWork now p) u
+  pub read-tests : (r : Register) → readPlaced now r u ≡ unless (datesOnly now (u .control .last)) refused (readWork now r) u
   unfolding readPlaced refuseDate datesOnly dates
-  read-tests p = refl
+  read-tests r = refl
 
-  pub write-tests : (p : Place) (v : ℕ) → writePlaced now p v u
-      ≡ unless (datesOnly now (u .control .last)) Write.Refused (writeWork now p v) u
+  pub write-tests : (r : Register) (v : ℕ) → writePlaced now r v u
+      ≡ unless (datesOnly now (u .control .last)) Write.Refused (writeWork now r v) u
   unfolding writePlaced refuseDate datesOnly dates
-  write-tests p v = refl
+  write-tests r v = refl
 
   pub send-tests : (b : W) → send now b u ≡ unless (sending now (u .control .last) (length (u .tx)) (length (u .inFlight))) Write.Refused
       (sendWork now b) u

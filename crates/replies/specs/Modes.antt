@@ -1,18 +1,26 @@
--- The modes of CONF0 that are refused by name, noted one by one, are the definition's. Assumes nothing.
+-- What a stored word notes; the modes of CONF0 that are refused by name, noted one by one, are the definition's. Assumes nothing.
 use mathlib.Core.Path.{_≡_}
 use Prim.Native.Nat.{ℕ}
 use native.Mathlib.Omega.{arith}
 use mathlib.Core.Bool.{Bool}
-use mathlib.Core.List.{[], _∷_}
+use mathlib.Core.Option.{Option, none, some}
+use mathlib.Core.List.{List, [], _∷_}
 use lib.Dec.{eqb}
 use Rattle.model.specs.Numbers.{bit, field}
-use Rattle.model.specs.Registers.{conf0Notes}
+use Rattle.model.specs.Map.{Word}
+use Rattle.model.specs.Registers.{conf0Notes, storedNotes}
 use Rattle.model.specs.declared.Feature.{Feature}
 use Rattle.model.specs.declared.Feature.the-variants.{Loopback, InvertedRx, Autobaud, NoStopBit, TxFlowControl, InvertedTx, Irda, TxBreak}
+use Rattle.model.specs.declared.Unsupported.{Unsupported}
 use Rattle.model.specs.declared.Unsupported.the-variants.{UartFeature}
 use Rattle.replies.specs.Notices.{noted, addedIf}
 use Rattle.replies.specs.NoticeLaws.{Mark, marked, filled, filled-noted}
 use Rattle.replies.specs.declared.notices.Notices.{Notices}
+
+-- what is noted where a word is stored; elsewhere nothing is
+unfoldable pub notesAt : Option Word → ℕ → List Unsupported
+notesAt none v = []
+notesAt (some x) v = storedNotes x v
 
 -- the modes of CONF0 that are refused by name, in the order of their bits, and then a stop code of 0
 abbrev pub modeIf : Bool → Feature → Notices → Notices

@@ -9,9 +9,10 @@ ghost use mathlib.Core.Path.{_≡_};
 ghost use mathlib.Core.List.{[]};
 ghost use Prim.Native.Nat.{_<_};
 ghost use Rattle.model.specs.Numbers.{bit};
-ghost use Rattle.model.specs.Registers.{noteIf, conf0Notes, storedNotes};
+ghost use Rattle.model.specs.Registers.{noteIf, conf0Notes};
+ghost use Rattle.registers.specs.Storage.{heldAt};
 ghost use Rattle.replies.specs.Notices.{addedIf, noted};
-ghost use Rattle.replies.specs.Modes.{lowModes};
+ghost use Rattle.replies.specs.Modes.{notesAt, lowModes};
 
 // MEM_CONF's RX_SIZE and TX_SIZE at one block each.
 const ONE_BLOCK_EACH: u32 = 9;
@@ -57,7 +58,7 @@ fn conf0_notices(value: u32) -> Notices
 
 // What a stored word gives: CONF1's RX_FLOW_EN, an RS485_CONF other than 0, FIFO sizes other than one block each.
 pub fn stored_notices(place: Place, value: u32) -> Notices
-    ensures { λ r. ⌜ r ≡ noted (storedNotes place value) ⌝ }
+    ensures { λ r. ⌜ r ≡ noted (notesAt (heldAt place) value) ⌝ }
 {
     match place {
         Place::Conf0 => conf0_notices(value),

@@ -14,7 +14,8 @@ use Rattle.model.specs.State.{Uart, withLast, withWake, withWatched, wit
 use Rattle.model.specs.Settle.{Settled, pending, settlingDate, settle, levels}
 use Rattle.model.specs.Arm.{called, arm}
 use Rattle.model.specs.Replies.{noReport, report}
-use Rattle.model.specs.Registers.{Access, placeOf, readAt, sendByte, writePlace, concluded}
+use Rattle.model.specs.Map.{Register, isFifo, registerOf}
+use Rattle.model.specs.Registers.{Access, readAt, sendByte, writeRegister, concluded}
 use Rattle.model.specs.Calls.{Outcome, unsettled, afterSettling, undated, quiet, dated, settleAt, clocked, reclocked, cleared, written}
 use Rattle.model.specs.Calls.{filled, handOver, hostDate, readWork, writeWork, sendWork, receiveWork, wakeWork, watchWork}
 use Rattle.model.specs.Calls.{powerDownWork, clockWork, resetWork, takeTxWork, takeWrittenWork, hasLeft, hostPending}
@@ -25,13 +26,12 @@ use Rattle.model.specs.Laws.Choose.{choose-true, choose-false, choose-in
 use Rattle.model.specs.Laws.Events.{passes-append, overflows-append}
 use Rattle.model.specs.Ends.Passes.{apart}
 use Rattle.model.specs.Ends.NothingDue.{NothingLeft, settle-passes, settle-order, settle-nothing-left}
-use Rattle.model.specs.Refuses.Conditions.{dateOf, isFifo, writtenAt, carriedOut}
+use Rattle.model.specs.Refuses.Conditions.{dateOf, writtenAt, carriedOut}
 use Rattle.model.specs.Refuses.Exactly.{done-carried}
 use Rattle.model.specs.declared.Date.{Date}
 use Rattle.model.specs.declared.Report.{Report}
 use Rattle.model.specs.declared.Write.{Write}
 use Rattle.model.specs.declared.Done.{Done}
-use Rattle.model.specs.declared.Place.{Place}
 
 -- a settling: its now, and the state that it begins with
 pub record Settling : Type 0 where
@@ -74,13 +74,13 @@ leftBy u (s ∷ ss) = leftBy (settles s .state) ss
 unfoldable pub replying : {R : Type 0} → (R → Reply ℕ ℕ ℕ) → Access R ℕ ℕ → Access (Reply ℕ ℕ ℕ) ℕ ℕ
 replying as-reply a = record { reply = as-reply (a .reply); notes = a .notes; state = a .state }
 
-unfoldable pub writeOf : ℕ → Place → ℕ → Uart ℕ ℕ → Access Write ℕ ℕ
-writeOf now p value v = concluded (choose (isFifo p) (sendByte now (value % 256) v) (writePlace p value v))
+unfoldable pub writeOf : ℕ → Register → ℕ → Uart ℕ ℕ → Access Write ℕ ℕ
+writeOf now r value v = concluded (choose (isFifo r) (sendByte now (value % 256) v) (writeRegister r value v))
 
 -- its reply, its notices and the state after it, from the register map before the call and the state that its settlings left
 unfoldable pub worked : Request → Uart ℕ ℕ → Uart ℕ ℕ → Access (Reply ℕ ℕ ℕ) ℕ ℕ
-worked (Call.read now offset) u v = replying reads (readAt (placeOf (u .map .offsets) offset) v)
-worked (Call.write now x) u v = replying writes (writeOf now (placeOf (u .map .offsets) (x .offset)) (x .value) v)
+worked (Call.read now offset) u v = replying reads (readAt (registerOf (u .map .offsets) offset) v)
+worked (Call.write now x) u v = replying writes (writeOf now (registerOf (u .map .offsets) (x .offset)) (x .value) v)
 worked (Call.receive now at bs) u v = quiet (does Done.Done) (handOver (hostDate now at) bs v)
 worked (Call.wake now) u v = quiet (does Done.Done) (arm v)
 worked (Call.reset now) u v = quiet (does Done.Done) (arm (levels (cleared v)))
@@ -125,8 +125,8 @@ unfolding settlings carriedOut answering afterSettling unsettled undated eventsO
 carried-works (Call.read now offset) u = one _ u _ now reads _ refl refl (λ v. refl)
 carried-works (Call.write now x) u =
     let c : Request = Call.write now x in
-    let p : Place = placeOf (u .map .offsets) (x .offset) in
-    choose-ind (λ (o : Outcome Write ℕ ℕ). Works c u (answering writes o)) (isFifo p)
+    let r : Register = registerOf (u .map .offsets) (x .offset) in
+    choose-ind (λ (o : Outcome Write ℕ ℕ). Works c u (answering writes o)) (isFifo r)
     (λ t. one c u _ now writes _ refl refl (λ v. ap (λ a. replying writes (concluded a)) (choose-true _ _ t)))
     (λ t. one c u _ now writes _ refl refl (λ v. ap (λ a. replying writes (concluded a)) (choose-false _ _ t)))
 carried-works (Call.receive now at bs) u = one _ u _ now does _ refl refl (λ v. refl)

@@ -1,4 +1,4 @@
--- Register access keeps a state within the limits: a read, a write to any place, a byte sent. Assumes nothing.
+-- Register access keeps a state within the limits: a read, a write to any register, a byte sent. Assumes nothing.
 use mathlib.Core.Path.{_≡_, refl, ap, _∙_}
 use Prim.Native.Nat.{ℕ, _+_, _≤_, _<_, zero-le}
 use native.Mathlib.Omega.{arith}
@@ -13,22 +13,22 @@ use Rattle.model.specs.State.{Sent, Uart}
 use Rattle.model.specs.Line.{fifoBytes}
 use Rattle.model.specs.Arm.{nthGone, lastGone}
 use Rattle.model.specs.Replies.{refused}
-use Rattle.model.specs.Registers.{Access, pop, gives, readLooking, readAt, looks, startsAt, goneAt, sent, dropped, sendByte}
-use Rattle.model.specs.Registers.{resetFifos, storing, clearing, writePlace, concluded}
+use Rattle.model.specs.Map.{Register}
+use Rattle.model.specs.Registers.{Access, pop, readLooking, readAt, startsAt, goneAt, sent, dropped, sendByte}
+use Rattle.model.specs.Registers.{resetFifos, storing, clearing, writeRegister, concluded}
 use Rattle.model.specs.Tests.{sentLimit, transmitFull}
 use Rattle.model.specs.Calls
 use Rattle.model.specs.Calls.{afterSettling, dated, settleAt, readWork, writeWork, sendWork}
 use Rattle.model.specs.Limits.{All, flightDates, Fits}
 use Rattle.model.specs.Laws.Lists.{lastOf, chain-take, chain-snoc, all-take, all-snoc, all-last, map-take}
 use Rattle.model.specs.Laws.Choose.{choose-ind}
-use Rattle.model.specs.Laws.PlaceCases.{readPlace-ind, writePlace-ind}
+use Rattle.model.specs.Laws.AccessCases.{readRegister-ind, writeRegister-ind}
 use Rattle.model.specs.Keeps.Parts.{FlightWithin, Parts, putFlight, putRx}
 use Rattle.model.specs.Keeps.Kept.{Kept, settle-keeps}
 use Rattle.model.specs.Keeps.Settling.{levels-parts}
 use Rattle.model.specs.Keeps.Wake.{arm-parts}
 use Rattle.model.specs.Keeps.Dated.{not-refused, dated-parts, settleAt-parts}
 use Rattle.model.specs.declared.Date.the-variants.{At}
-use Rattle.model.specs.declared.Place.{Place}
 use Rattle.model.specs.declared.Unsupported.{Unsupported}
 use Rattle.model.specs.declared.Write.{Write}
 
@@ -77,14 +77,14 @@ module _ {H W : Type 0} where
   pop-parts ns [] u h p = p
   pop-parts ns (b ∷ bs) u h p = putRx p (le-of-suc-le h)
 
-  readLooking-parts : (looking : Bool) (at : Place) (u : Uart H W) → Parts u → Parts (readLooking looking at u .state)
-  unfolding readLooking gives
-  readLooking-parts true at u p = readPlace-ind (λ a. Parts (a .state)) _ _ (pop-parts _ (u .rx) _ (p .rx) p) (λ _. p) at
-  readLooking-parts false at u p = readPlace-ind (λ a. Parts (a .state)) _ u (pop-parts _ (u .rx) u (p .rx) p) (λ _. p) at
+  readLooking-parts : (looking : Bool) (at : Register) (u : Uart H W) → Parts u → Parts (readLooking looking at u .state)
+  unfolding readLooking
+  readLooking-parts true at u p = readRegister-ind (λ a. Parts (a .state)) _ _ (pop-parts _ (u .rx) _ (p .rx) p) (λ _. p) at
+  readLooking-parts false at u p = readRegister-ind (λ a. Parts (a .state)) _ u (pop-parts _ (u .rx) u (p .rx) p) (λ _. p) at
 
-  pub readPlaced-parts : (now : ℕ) (at : Place) (u : Uart H W) → Parts u → Parts (Calls.readPlaced now at u .state)
+  pub readPlaced-parts : (now : ℕ) (at : Register) (u : Uart H W) → Parts u → Parts (Calls.readPlaced now at u .state)
   unfolding Calls.readPlaced readWork afterSettling readAt
-  readPlaced-parts now at u p = dated-parts refused _ u p now none (λ h _. readLooking-parts (looks at) at _ (settleAt-parts now u h p))
+  readPlaced-parts now at u p = dated-parts refused _ u p now none (λ h _. readLooking-parts _ at _ (settleAt-parts now u h p))
 
   -- ---- write
 
@@ -100,14 +100,14 @@ module _ {H W : Type 0} where
       (choose-ind (λ (held : List H). length held ≤ fifoBytes) _ (λ _. zero-le) (λ _. p .rx))
 
   -- stored words and INT_RAW are free
-  writePlace-parts : (at : Place) (v : ℕ) (u : Uart H W) → Parts u → Parts (writePlace at v u .state)
+  writeRegister-parts : (at : Register) (v : ℕ) (u : Uart H W) → Parts u → Parts (writeRegister at v u .state)
   unfolding storing clearing
-  writePlace-parts at v u p = writePlace-ind (λ _ a. Parts (a .state)) v u (λ _. p) p (resetFifos-parts v u p) at
+  writeRegister-parts at v u p = writeRegister-ind (λ _ a. Parts (a .state)) v u (λ _. p) p (λ _. resetFifos-parts v u p) (λ _. p) at
 
-  pub writePlaced-parts : (now : ℕ) (at : Place) (v : ℕ) (u : Uart H W) → Parts u → Parts (Calls.writePlaced now at v u .state)
+  pub writePlaced-parts : (now : ℕ) (at : Register) (v : ℕ) (u : Uart H W) → Parts u → Parts (Calls.writePlaced now at v u .state)
   unfolding Calls.writePlaced writeWork afterSettling
   writePlaced-parts now at v u p =
-      dated-parts Write.Refused _ u p now none (λ h _. concluded-parts _ (writePlace-parts at v _ (settleAt-parts now u h p)))
+      dated-parts Write.Refused _ u p now none (λ h _. concluded-parts _ (writeRegister-parts at v _ (settleAt-parts now u h p)))
 
   -- ---- send
 

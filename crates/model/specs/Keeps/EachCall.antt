@@ -10,14 +10,14 @@ use lib.Dec.{ltb, lit≤}
 use lib.ListN.{length}
 use borrow.Author.Tests.{leb-false, ltb-false, lt-ltb}
 use Rattle.model.specs.State.{Uart, withTx}
-use Rattle.model.specs.Registers.{placeOf}
+use Rattle.model.specs.Map.{Register, registerOf}
 use Rattle.model.specs.Tests.{sentLimit, runsLimit, periodLimit, hostFull, runsFull, periodTooLong}
 use Rattle.model.specs.Calls
 use Rattle.model.specs.Calls.{unsettled, afterSettling, undated, lastDate, hostDate, clearedLine, dated, settleAt, quiet, handOver}
 use Rattle.model.specs.Calls.{clocked, reclocked, cleared, receiveWork, wakeWork, watchWork, powerDownWork, clockWork}
 use Rattle.model.specs.Calls.{resetWork, takeTxWork, takeWrittenWork}
 use Rattle.model.specs.Limits.{Chain, All, Fits, Within}
-use Rattle.model.specs.Laws.PlaceCases.{write-ind}
+use Rattle.model.specs.Laws.AccessCases.{write-ind}
 use Rattle.model.specs.Keeps.Parts.{FlightWithin, Parts, putClock, putFlight, putRx, putHost, putLine, through}
 use Rattle.model.specs.Keeps.Kept.{Kept, settle-keeps, fewer-waiting, fewer-runs, last-run}
 use Rattle.model.specs.Keeps.Settling.{levels-parts, settle-parts}
@@ -25,7 +25,6 @@ use Rattle.model.specs.Keeps.Wake.{called-within, arm-parts}
 use Rattle.model.specs.Keeps.Host.{joined-within}
 use Rattle.model.specs.Keeps.Dated.{not-refused, unless-parts, dated-parts, moved-parts, settleAt-parts}
 use Rattle.model.specs.Keeps.Access.{readPlaced-parts, writePlaced-parts, send-parts}
-use Rattle.model.specs.declared.Place.{Place}
 use Rattle.model.specs.declared.Done.{Done}
 
 -- ---- the host
@@ -136,10 +135,10 @@ module _ {H W : Type 0} where
 -- ---- each call, refused or carried out
 
 module _ {H W : Type 0} where
-  pub readPlaced-within : (now : ℕ) (at : Place) (u : Uart H W) → Within u → Within (Calls.readPlaced now at u .state)
+  pub readPlaced-within : (now : ℕ) (at : Register) (u : Uart H W) → Within u → Within (Calls.readPlaced now at u .state)
   readPlaced-within now at u = through u _ (readPlaced-parts now at u)
 
-  pub writePlaced-within : (now : ℕ) (at : Place) (v : ℕ) (u : Uart H W) → Within u → Within (Calls.writePlaced now at v u .state)
+  pub writePlaced-within : (now : ℕ) (at : Register) (v : ℕ) (u : Uart H W) → Within u → Within (Calls.writePlaced now at v u .state)
   writePlaced-within now at v u = through u _ (writePlaced-parts now at v u)
 
   pub send-within : (now : ℕ) (b : W) (u : Uart H W) → Within u → Within (Calls.send now b u .state)
@@ -185,5 +184,5 @@ module _ {H W : Type 0} where
 pub write-within : {H : Type 0} (now offset v : ℕ) (u : Uart H ℕ) → Within u → Within (Calls.write now offset v u .state)
 unfolding Calls.write
 write-within now offset v u w =
-    write-ind (λ _ o. Within (o .state)) now v u (send-within now (v % 256) u w) (λ p. writePlaced-within now p v u w)
-    (placeOf (u .map .offsets) offset)
+    let p : Register = registerOf (u .map .offsets) offset in
+    write-ind (λ o. Within (o .state)) now p v u (λ _. send-within now (v % 256) u w) (λ _. writePlaced-within now p v u w)

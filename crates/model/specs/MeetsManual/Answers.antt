@@ -1,30 +1,23 @@
 -- What `step` does with a register access that is not refused. Assumes nothing.
 use mathlib.Core.Path.{_≡_, ap, ap₂, _∙_}
 use Prim.Native.Nat.{ℕ, _+_, _%_, _<_, _≤_}
-use mathlib.Core.Bool.{Bool}
-use mathlib.Core.Option.{Option, none, some}
-use mathlib.Core.List.{List}
+use mathlib.Core.Bool.{Bool, decide}
+use mathlib.Core.Option.{Option, none}
 use lib.ListN.{length}
 use borrow.Author.Tests.{lt-leb, lt-ltb, le-ltb}
 use Rattle.model.specs.Numbers.{choose}
 use Rattle.model.specs.State.{Uart}
 use Rattle.model.specs.Line.{fifoBytes}
-use Rattle.model.specs.Replies.{ReadOf}
-use Rattle.model.specs.Registers.{Access, placeOf, pop, gives, readPlace, sendByte, sent, dropped, storing, clearing, resetFifos}
-use Rattle.model.specs.Registers.{writePlace}
+use Rattle.model.specs.Map.{Register, registerOf}
+use Rattle.model.specs.Registers.{sendByte, sent, dropped}
 use Rattle.model.specs.Tests.{dateEnd, pastEnd, wentBack, sentLimit, transmitFull, refuseIf, refuseDate}
 use Rattle.model.specs.Calls
-use Rattle.model.specs.Calls.{Outcome, refusing, unless, settleAt, readPlaced, readWork, writePlaced, writeWork, send, sendWork}
+use Rattle.model.specs.Calls.{Outcome, unless, settleAt, readPlaced, readWork, writePlaced, writeWork, send, sendWork}
 use Rattle.model.specs.Calls.{writeAt}
 use Rattle.model.specs.Call.{Call, Written, reads, writes}
 use Rattle.model.specs.Run.{answering, stepBy, writing, step}
-use Rattle.model.specs.declared.Place.{Place}
-use Rattle.model.specs.declared.Place.the-variants.{Fifo, IntRaw, IntSt, IntEna, IntClr, Clkdiv, Status, FsmStatus, Conf0, Conf1}
-use Rattle.model.specs.declared.Place.the-variants.{ClkConf, IdleConf, Rs485Conf, AtCmdChar, MemConf, MemRxStatus, Unknown}
 use Rattle.model.specs.declared.Refusal.{Refusal}
 use Rattle.model.specs.declared.Refusal.the-variants.{DatePastEnd, DateWentBack, TransmitFull}
-use Rattle.model.specs.declared.Unsupported.{Unsupported}
-use Rattle.model.specs.declared.Write.{Write}
 
 -- the state as the settling of a call at `now` leaves it
 abbrev pub settled : ℕ → Uart ℕ ℕ → Uart ℕ ℕ
@@ -48,27 +41,28 @@ unfolding unless
 carried-out reply work u e = ap (λ (o : Option Refusal). unless o reply work u) e
 
 module _ {now : ℕ} {u : Uart ℕ ℕ} (t : InTime now u) where
-  pub read-answer : (offset : ℕ) (p : Place) → placeOf (u .map .offsets) offset ≡ p
+  pub read-answer : (offset : ℕ) (p : Register) → registerOf (u .map .offsets) offset ≡ p
       → step (Call.read now offset) u ≡ answering reads (readWork now p u)
   unfolding step stepBy Calls.read readPlaced
   read-answer offset p e =
-      ap (λ (q : Place). answering reads (readPlaced now q u)) e ∙ ap (answering reads) (carried-out _ (readWork now p) u (in-time t none))
+      ap (λ (q : Register). answering reads (readPlaced now q u)) e
+      ∙ ap (answering reads) (carried-out _ (readWork now p) u (in-time t none))
 
   -- a write to FIFO that 4 does not refuse
-  pub fifo-answer : (x : Written) → placeOf (u .map .offsets) (x .offset) ≡ Fifo → length (u .tx) + length (u .inFlight) < sentLimit
-      → step (Call.write now x) u ≡ answering writes (sendWork now (x .value % 256) u)
-  unfolding step stepBy writing Calls.write writeAt send refuseIf transmitFull
+  pub fifo-answer : (x : Written) → registerOf (u .map .offsets) (x .offset) ≡ Register.fifo
+      → length (u .tx) + length (u .inFlight) < sentLimit → step (Call.write now x) u ≡ answering writes (sendWork now (x .value % 256) u)
+  unfolding step stepBy writing Calls.write writeAt decide choose send refuseIf transmitFull
   fifo-answer x e room =
-      ap (λ (q : Place). answering writes (writeAt now q (x .value) u)) e
+      ap (λ (q : Register). answering writes (writeAt now q (x .value) u)) e
       ∙ ap (answering writes) (carried-out _ (sendWork now (x .value % 256)) u
       (in-time t _ ∙ ap (λ (b : Bool). refuseIf b TransmitFull none) (lt-leb sentLimit (length (u .tx) + length (u .inFlight)) room)))
 
-  pub clear-answer : (x : Written) → placeOf (u .map .offsets) (x .offset) ≡ IntClr
-      → step (Call.write now x) u ≡ answering writes (writeWork now IntClr (x .value) u)
-  unfolding step stepBy writing Calls.write writeAt writePlaced
+  pub clear-answer : (x : Written) → registerOf (u .map .offsets) (x .offset) ≡ Register.intClr
+      → step (Call.write now x) u ≡ answering writes (writeWork now Register.intClr (x .value) u)
+  unfolding step stepBy writing Calls.write writeAt decide choose writePlaced
   clear-answer x e =
-      ap (λ (q : Place). answering writes (writeAt now q (x .value) u)) e
-      ∙ ap (answering writes) (carried-out _ (writeWork now IntClr (x .value)) u (in-time t none))
+      ap (λ (q : Register). answering writes (writeAt now q (x .value) u)) e
+      ∙ ap (answering writes) (carried-out _ (writeWork now Register.intClr (x .value)) u (in-time t none))
 
 -- 128 bytes in flight or fewer: the byte is sent. More: it is dropped
 module _ {H W : Type 0} (now : ℕ) (b : W) (u : Uart H W) where

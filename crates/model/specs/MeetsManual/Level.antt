@@ -9,15 +9,15 @@ use Rattle.model.specs.State.{Uart, lineOf, withHost}
 use Rattle.model.specs.Settle.{intStatus, assertLevels, drive, levels, leveled, settleTo, settle}
 use Rattle.model.specs.Arm.{arm}
 use Rattle.model.specs.Replies.{report}
-use Rattle.model.specs.Registers.{Access, pop, gives, readPlace, readLooking, readAt, looks, placeOf, concluded}
+use Rattle.model.specs.Map.{Register}
+use Rattle.model.specs.Registers.{pop, readRegister, readLooking, readAt, concluded}
 use Rattle.model.specs.Calls.{quiet, handOver, joined, hostDate, cleared}
 use Rattle.model.specs.Call.{Call, Request}
 use Rattle.model.specs.Run.{numberOf, step}
 use Rattle.model.specs.SetUp.{newControl, new}
-use Rattle.model.specs.Laws.PlaceCases.{readPlace-ind}
+use Rattle.model.specs.Laws.AccessCases.{readRegister-ind}
 use Rattle.model.specs.Ends.Passes.{apart}
 use Rattle.model.specs.Ends.Settlings.{Settling, settles, settlings, leftBy, replying, writeOf, worked, Works, call-works}
-use Rattle.model.specs.declared.Place.{Place}
 use Rattle.model.specs.declared.Unsupported.{Unsupported}
 use Rattle.model.specs.declared.Control.{Control}
 
@@ -53,14 +53,13 @@ module _ {H W : Type 0} where
   pop-driven ns [] u h = h
   pop-driven ns (b ∷ bs) u h = h
 
-  place-driven : (ns : List Unsupported) (p : Place) (u : Uart H W) → Driven u → Driven (readPlace ns p u .state)
-  unfolding gives
-  place-driven ns p u h = readPlace-ind (λ a. Driven (a .state)) ns u (pop-driven ns (u .rx) u h) (λ r. h) p
+  register-driven : (ns : List Unsupported) (r : Register) (u : Uart H W) → Driven u → Driven (readRegister ns r u .state)
+  register-driven ns r u h = readRegister-ind (λ a. Driven (a .state)) ns u (pop-driven ns (u .rx) u h) (λ _. h) r
 
-  looking-driven : (b : Bool) (p : Place) (u : Uart H W) → Driven u → Driven (readLooking b p u .state)
+  looking-driven : (b : Bool) (r : Register) (u : Uart H W) → Driven u → Driven (readLooking b r u .state)
   unfolding asserted readLooking intStatus
-  looking-driven true p u h = place-driven _ p _ h
-  looking-driven false p u h = place-driven [] p u h
+  looking-driven true r u h = register-driven _ r _ h
+  looking-driven false r u h = register-driven [] r u h
 
 left-driven : (u : Uart ℕ ℕ) (ss : List Settling) → Driven u → Driven (leftBy u ss)
 unfolding leftBy

@@ -4,7 +4,7 @@ use mathlib.Core.Path.{_≡_, refl, sym, ap, ap₂, _∙_}
 use Prim.Native.Nat.{ℕ, _-_, _*_, _/_, _%_, _^_, _<_, _≤_}
 use native.Mathlib.Nat.{div-one}
 use native.Mathlib.Omega.{arith}
-use mathlib.Core.Bool.{Bool, true, false, _&&_, _||_, not}
+use mathlib.Core.Bool.{Bool, true, false, _&&_, decide, _||_, not}
 use mathlib.Core.List.{List, [], _∷_}
 use lib.Dec.{eqb}
 use lib.ListN.{length}
@@ -18,23 +18,22 @@ use Rattle.model.specs.Settle.{inFifo, aboveFull, belowEmpty, emptyThres
 use Rattle.model.specs.Settle.{settlingDate}
 use Rattle.model.specs.Arm.{arm}
 use Rattle.model.specs.Replies.{word, report}
-use Rattle.model.specs.Registers.{placeOf, loaded, looks, statusWord, pop, gives, readPlace, readLooking, readAt, clearing}
-use Rattle.model.specs.Registers.{writePlace, concluded}
+use Rattle.model.specs.Map.{Word, Shown, Register, registerOf, valueOf}
+use Rattle.model.specs.Registers.{looks, statusWord, pop, shownIn, readRegister, readLooking, readAt, clearing}
+use Rattle.model.specs.Registers.{writeRegister, concluded}
 use Rattle.model.specs.SetUp.{fifoCounts}
 use Rattle.model.specs.Calls.{afterSettling, dated, settleAt, readWork, writeWork}
 use Rattle.model.specs.Call.{Call, Written, reads}
 use Rattle.model.specs.Run.{Step, answering, step}
 use Rattle.model.specs.Limits.{Within}
-use Rattle.model.specs.Laws.PlaceCases.{readPlace-ind}
+use Rattle.model.specs.Laws.AccessCases.{readRegister-ind}
 use Rattle.model.specs.Laws.Bits.{bit-and, bit-without}
 use Rattle.model.specs.Keeps.Parts.{apart, together}
 use Rattle.model.specs.Keeps.Dated.{settleAt-parts}
 use Rattle.model.specs.MeetsManual.Rises.{rawBit, fullIn, emptyIn, levels-raise}
 use Rattle.model.specs.MeetsManual.FiveBits.{FiveBits, settling-rises}
 use Rattle.model.specs.MeetsManual.Answers.{settled, InTime, read-answer, clear-answer}
-use Rattle.model.specs.declared.Place.{Place}
 use Rattle.model.specs.declared.Unsupported.{Unsupported}
-use Rattle.model.specs.declared.Place.the-variants.{IntRaw, IntSt, IntEna, IntClr, Status}
 
 -- ---- STATUS
 
@@ -82,58 +81,58 @@ unfolding pop
 pop-level ns [] u = refl
 pop-level ns (b ∷ bs) u = refl
 
-level-kept : {H W : Type 0} (look : Bool) (p : Place) (u : Uart H W) → readLooking look p u .state .control .level ≡ u .control .level
-unfolding readLooking gives
-level-kept true p u = readPlace-ind (λ a. a .state .control .level ≡ u .control .level) _ _ (pop-level _ (u .rx) _) (λ r. refl) p
-level-kept false p u = readPlace-ind (λ a. a .state .control .level ≡ u .control .level) [] u (pop-level [] (u .rx) u) (λ r. refl) p
+level-kept : {H W : Type 0} (look : Bool) (p : Register) (u : Uart H W) → readLooking look p u .state .control .level ≡ u .control .level
+unfolding readLooking
+level-kept true p u = readRegister-ind (λ a. a .state .control .level ≡ u .control .level) _ _ (pop-level _ (u .rx) _) (λ r. refl) p
+level-kept false p u = readRegister-ind (λ a. a .state .control .level ≡ u .control .level) [] u (pop-level [] (u .rx) u) (λ r. refl) p
 
 module _ (now : ℕ) (u : Uart ℕ ℕ) (t : InTime now u) where
   -- STATUS bits 0-9 are the bytes held, and bits 16-25 those in the transmit FIFO: all in flight but the one that is being sent
-  pub status-read : (offset : ℕ) → placeOf (u .map .offsets) offset ≡ Status → Within u
+  pub status-read : (offset : ℕ) → registerOf (u .map .offsets) offset ≡ Register.shown Shown.status → Within u
       → (w : ℕ) × (step (Call.read now offset) u .answer .reply ≡ reads (word w))
       × (RXFIFO-CNT w ≡ length (settled now u .rx)) × (TXFIFO-CNT w ≡ length (settled now u .inFlight) - 1)
-  unfolding answering readWork afterSettling readAt looks readLooking readPlace gives
+  unfolding answering readWork afterSettling readAt looks decide readLooking readRegister shownIn
   status-read offset e within =
       let v : Uart ℕ ℕ = settled now u in
       let limits : Within v = together v (settleAt-parts now u (t .beforeEnd) (apart u within)) in (
         statusWord (v .map .«idle_status») (length (v .inFlight)) (length (v .rx)),
-        ap (λ (s : Step ℕ ℕ ℕ). s .answer .reply) (read-answer t offset Status e),
+        ap (λ (s : Step ℕ ℕ ℕ). s .answer .reply) (read-answer t offset (Register.shown Shown.status) e),
         low-count _ _ (length (v .rx)) (limits .status) (limits .received),
         high-count _ (length (v .inFlight)) (length (v .rx)) (limits .status) (limits .received) (limits .flying),
       )
 
   -- the level that a read reports is whether INT_ST is other than 0: it is driven as the settling ends, and no read changes it
-  pub level-read : (offset : ℕ) (p : Place) → placeOf (u .map .offsets) offset ≡ p
+  pub level-read : (offset : ℕ) (p : Register) → registerOf (u .map .offsets) offset ≡ p
       → step (Call.read now offset) u .answer .report .level ≡ not (eqb (intStatus (settled now u .control)) 0)
   unfolding answering readWork afterSettling readAt report settleAt settle settleTo leveled levels drive intStatus
   level-read offset p e =
-      ap (λ (s : Step ℕ ℕ ℕ). s .answer .report .level) (read-answer t offset p e) ∙ level-kept (looks p) p (settled now u)
+      ap (λ (s : Step ℕ ℕ ℕ). s .answer .report .level) (read-answer t offset p e) ∙ level-kept _ p (settled now u)
 
   -- ---- INT_RAW, INT_ENA, INT_ST
 
-  pub raw-read : (offset : ℕ) → placeOf (u .map .offsets) offset ≡ IntRaw
+  pub raw-read : (offset : ℕ) → registerOf (u .map .offsets) offset ≡ Register.shown Shown.intRaw
       → step (Call.read now offset) u .answer .reply ≡ reads (word (lineOf (settled now u) .«int_raw»))
-  unfolding answering readWork afterSettling readAt looks readLooking readPlace gives
-  raw-read offset e = ap (λ (s : Step ℕ ℕ ℕ). s .answer .reply) (read-answer t offset IntRaw e)
+  unfolding answering readWork afterSettling readAt looks decide readLooking readRegister shownIn
+  raw-read offset e = ap (λ (s : Step ℕ ℕ ℕ). s .answer .reply) (read-answer t offset (Register.shown Shown.intRaw) e)
 
-  pub ena-read : (offset : ℕ) → placeOf (u .map .offsets) offset ≡ IntEna
+  pub ena-read : (offset : ℕ) → registerOf (u .map .offsets) offset ≡ Register.stored Word.intEna
       → step (Call.read now offset) u .answer .reply ≡ reads (word (settled now u .control .words .«int_ena»))
-  unfolding answering readWork afterSettling readAt looks readLooking readPlace gives loaded
-  ena-read offset e = ap (λ (s : Step ℕ ℕ ℕ). s .answer .reply) (read-answer t offset IntEna e)
+  unfolding answering readWork afterSettling readAt looks decide readLooking readRegister valueOf
+  ena-read offset e = ap (λ (s : Step ℕ ℕ ℕ). s .answer .reply) (read-answer t offset (Register.stored Word.intEna) e)
 
   -- INT_ST reads, bit by bit, as what INT_RAW and INT_ENA would have read
-  pub status-of-interrupts : (st raw ena : ℕ) → placeOf (u .map .offsets) st ≡ IntSt → placeOf (u .map .offsets) raw ≡ IntRaw
-      → placeOf (u .map .offsets) ena ≡ IntEna
+  pub status-of-interrupts : (st raw ena : ℕ) → registerOf (u .map .offsets) st ≡ Register.shown Shown.intSt
+      → registerOf (u .map .offsets) raw ≡ Register.shown Shown.intRaw → registerOf (u .map .offsets) ena ≡ Register.stored Word.intEna
       → (w r e : ℕ) × (step (Call.read now st) u .answer .reply ≡ reads (word w))
       × (step (Call.read now raw) u .answer .reply ≡ reads (word r))
       × (step (Call.read now ena) u .answer .reply ≡ reads (word e)) × ((n : ℕ) → bit n w ≡ Manual.masked (bit n r) (bit n e))
-  unfolding answering readWork afterSettling readAt looks readLooking readPlace gives intStatus
+  unfolding answering readWork afterSettling readAt looks decide readLooking readRegister shownIn intStatus
   status-of-interrupts st raw ena a b c =
       let v : Uart ℕ ℕ = settled now u in (
         intStatus (v .control),
         lineOf v .«int_raw»,
         v .control .words .«int_ena»,
-        ap (λ (s : Step ℕ ℕ ℕ). s .answer .reply) (read-answer t st IntSt a),
+        ap (λ (s : Step ℕ ℕ ℕ). s .answer .reply) (read-answer t st (Register.shown Shown.intSt) a),
         raw-read raw b,
         ena-read ena c,
         λ n. bit-and n (lineOf v .«int_raw») (v .control .words .«int_ena»),
@@ -142,14 +141,14 @@ module _ (now : ℕ) (u : Uart ℕ ℕ) (t : InTime now u) where
   -- ---- INT_CLR
 
   -- a write clears exactly its bits, apart from the two levels where they hold
-  pub clear-write : (x : Written) → placeOf (u .map .offsets) (x .offset) ≡ IntClr → x .value < 2 ^ 32 → (n : ℕ) → n < 32
+  pub clear-write : (x : Written) → registerOf (u .map .offsets) (x .offset) ≡ Register.intClr → x .value < 2 ^ 32 → (n : ℕ) → n < 32
       → let v : Uart ℕ ℕ = settled now u in
       rawBit n (step (Call.write now x) u .state)
       ≡ (Manual.cleared (rawBit n v) (bit n (x .value))
       || (eqb n 0 && Manual.RXFIFO-FULL (v .control .words .conf1) (length (v .rx)))
       || (eqb n 1 && Manual.TXFIFO-EMPTY (v .control .words .conf1) (length (v .inFlight) - 1)))
-  unfolding answering writeWork afterSettling writePlace clearing concluded arm Manual.RXFIFO-FULL Manual.TXFIFO-EMPTY aboveFull belowEmpty
-      inFifo emptyThreshold
+  unfolding answering writeWork afterSettling writeRegister clearing concluded arm Manual.RXFIFO-FULL Manual.TXFIFO-EMPTY aboveFull
+      belowEmpty inFifo emptyThreshold
   clear-write x e small n h =
       let v : Uart ℕ ℕ = settled now u in
       let c : Uart ℕ ℕ = clearing (x .value) v .state in
@@ -161,7 +160,7 @@ module _ (now : ℕ) (u : Uart ℕ ℕ) (t : InTime now u) where
 
   -- INT_RAW reads as the settling leaves it, which raises each bit exactly when the manual says. `dated now u` is u with its
   -- last date moved
-  pub raw-read-rises : (offset : ℕ) → placeOf (u .map .offsets) offset ≡ IntRaw
+  pub raw-read-rises : (offset : ℕ) → registerOf (u .map .offsets) offset ≡ Register.shown Shown.intRaw
       → (step (Call.read now offset) u .answer .reply ≡ reads (word (lineOf (settled now u) .«int_raw»)))
       × FiveBits (settlingDate now (u .control)) (dated now u) (settled now u) (overflowsIn (settleAt now u .events))
   unfolding settleAt settle settlingDate dated

@@ -14,7 +14,8 @@ use Rattle.model.specs.State.{Sent, Uart}
 use Rattle.model.specs.Timing.{xtalPeriod, stopHalfBits, frameHalfBits, halfBitTime, bitTime, byteTime, timeoutTime, sourcePeriod}
 use Rattle.model.specs.Settle.{levels, settle}
 use Rattle.model.specs.Arm.{arm, nthGone, lastGone}
-use Rattle.model.specs.Registers.{Access, placeOf, startsAt, goneAt, sent, concluded}
+use Rattle.model.specs.Map.{Register, registerOf}
+use Rattle.model.specs.Registers.{Access, startsAt, goneAt, sent, concluded}
 use Rattle.model.specs.Tests.{sentLimit}
 use Rattle.model.specs.Calls.{afterSettling, dated, settleAt, sendWork}
 use Rattle.model.specs.Call.{Call, Written}
@@ -22,7 +23,6 @@ use Rattle.model.specs.Run.{Step, answering, step}
 use Rattle.model.specs.Laws.Choose.{choose-true}
 use Rattle.model.specs.Keeps.Rest.{settleTo-words, settleTo-period}
 use Rattle.model.specs.MeetsManual.Answers.{settled, InTime, fifo-answer, byte-taken}
-use Rattle.model.specs.declared.Place.the-variants.{Fifo}
 use Rattle.model.specs.declared.Write.{Write}
 use Rattle.model.specs.declared.Words.{Words}
 
@@ -101,7 +101,7 @@ held-twice : (a d : ℕ) → held (held a + d) ≡ held (a + d)
 held-twice a d = omega arith
 
 module _ (now : ℕ) (u : Uart ℕ ℕ) (x : Written) (m : Meant (u .control .words)) (t : InTime now u)
-    (e : placeOf (u .map .offsets) (x .offset) ≡ Fifo) (room : length (u .tx) + length (u .inFlight) < sentLimit) where
+    (e : registerOf (u .map .offsets) (x .offset) ≡ Register.fifo) (room : length (u .tx) + length (u .inFlight) < sentLimit) where
   abbrev frame : ℕ
   frame = byteTime (u .control .words) (u .control .period)
 

@@ -10,23 +10,21 @@ use lib.ListN.{length, length-append, length-map, length-replicate}
 use Rattle.model.specs.State.{Uart}
 use Rattle.model.specs.Settle.{Settled}
 use Rattle.model.specs.Replies.{notices, noReport, report, ReadOf, readNumber, writeNumber, doneNumber, takenNumber}
-use Rattle.model.specs.Registers.{loaded, noteIf, sourceNotes, Access, pop, gives, readPlace, readLooking, readAt, conf0Notes}
+use Rattle.model.specs.Map.{Word, Register}
+use Rattle.model.specs.Registers.{noteIf, sourceNotes, Access, pop, gives, readRegister, readLooking, readAt, conf0Notes}
 use Rattle.model.specs.Registers.{storedNotes, sent, dropped, sendByte}
-use Rattle.model.specs.Registers.{storing, clearing, writePlace, concluded}
+use Rattle.model.specs.Registers.{storing, clearing, writeRegister, concluded}
 use Rattle.model.specs.Calls.{Outcome, unsettled, afterSettling, undated, filled, quiet, readWork, writeWork, sendWork, receiveWork}
 use Rattle.model.specs.Calls.{wakeWork, watchWork, powerDownWork}
 use Rattle.model.specs.Calls.{clockWork, resetWork, takeTxWork, takeWrittenWork, hasLeft, hostPending}
 use Rattle.model.specs.Call.{Call, Request, Reply, reads, writes, does, takes, left, pends, Answer}
 use Rattle.model.specs.Run.{numberOf, answering}
 use Rattle.model.specs.Laws.Choose.{choose-ind}
+use Rattle.model.specs.Laws.AccessCases.{writeRegister-ind}
 use Rattle.model.specs.Refuses.Conditions.{writtenAt, carriedOut}
 use Rattle.model.specs.declared.Source.{Source}
-use Rattle.model.specs.declared.Place.{Place}
-use Rattle.model.specs.declared.Place.the-variants.{Fifo, IntRaw, IntSt, IntEna, IntClr, Clkdiv, Status, FsmStatus, Conf0, Conf1}
-use Rattle.model.specs.declared.Place.the-variants.{ClkConf, IdleConf, Rs485Conf, AtCmdChar, MemConf, MemRxStatus, Unknown}
 use Rattle.model.specs.declared.Unsupported.{Unsupported}
 use Rattle.model.specs.declared.Report.{Report}
-use Rattle.model.specs.declared.Write.{Write}
 
 -- ---- notices
 
@@ -61,28 +59,11 @@ conf0-le v =
     note-le _ _ _ (note-le _ _ _ (note-le _ _ _ (note-le _ _ _
     (note-le _ _ _ (note-le _ _ _ (note-le _ _ _ (note-le _ _ _ (omega arith))))))))
 
-one-note : (b : Bool) (n : Unsupported) → length (noteIf b n []) ≤ 8
-one-note b n = omega (arith, note-le {k = 0} b n [] (omega arith))
-
-stored-le : (p : Place) (v : ℕ) → length (storedNotes p v) ≤ 8
+stored-le : (x : Word) (v : ℕ) → length (storedNotes x v) ≤ 8
 unfolding storedNotes
-stored-le Fifo v = omega arith
-stored-le IntRaw v = omega arith
-stored-le IntSt v = omega arith
-stored-le IntEna v = omega arith
-stored-le IntClr v = omega arith
-stored-le Clkdiv v = omega arith
-stored-le Status v = omega arith
-stored-le FsmStatus v = omega arith
-stored-le Conf0 v = conf0-le v
-stored-le Conf1 v = one-note _ _
-stored-le ClkConf v = omega arith
-stored-le IdleConf v = omega arith
-stored-le Rs485Conf v = one-note _ _
-stored-le AtCmdChar v = omega arith
-stored-le MemConf v = one-note _ _
-stored-le MemRxStatus v = omega arith
-stored-le Unknown v = omega arith
+stored-le x v =
+    choose-ind (λ (ns : List Unsupported). length ns ≤ 8) _ (λ _. conf0-le v)
+    (λ _. le-trans (note-le {k = 2} _ _ _ (note-le {k = 1} _ _ _ (note-le {k = 0} _ _ [] (omega arith)))) (lit≤ tt))
 
 -- ---- accesses
 
@@ -98,57 +79,27 @@ module _ {H W : Type 0} where
   pop-proper ns (b ∷ bs) u le = record { zero = refl; few = omega arith }
 
   gives-proper : (ns : List Unsupported) (u : Uart H W) (r : ReadOf H) → length ns ≤ 1 → readNumber r ≡ 0 → Proper readNumber (gives ns u r)
-  unfolding gives
   gives-proper ns u r le e = record { zero = e; few = omega arith }
 
-  read-proper : (ns : List Unsupported) (p : Place) (u : Uart H W) → length ns ≤ 1 → Proper readNumber (readPlace ns p u)
-  unfolding readPlace readNumber loaded
-  read-proper ns Fifo u le = pop-proper ns (u .rx) u le
-  read-proper ns IntRaw u le = gives-proper ns u _ le refl
-  read-proper ns IntSt u le = gives-proper ns u _ le refl
-  read-proper ns IntEna u le = gives-proper ns u _ le refl
-  read-proper ns IntClr u le = gives-proper ns u _ le refl
-  read-proper ns Clkdiv u le = gives-proper ns u _ le refl
-  read-proper ns Status u le = gives-proper ns u _ le refl
-  read-proper ns FsmStatus u le = gives-proper ns u _ le refl
-  read-proper ns Conf0 u le = gives-proper ns u _ le refl
-  read-proper ns Conf1 u le = gives-proper ns u _ le refl
-  read-proper ns ClkConf u le = gives-proper ns u _ le refl
-  read-proper ns IdleConf u le = gives-proper ns u _ le refl
-  read-proper ns Rs485Conf u le = gives-proper ns u _ le refl
-  read-proper ns AtCmdChar u le = gives-proper ns u _ le refl
-  read-proper ns MemConf u le = gives-proper ns u _ le refl
-  read-proper ns MemRxStatus u le = gives-proper ns u _ le refl
-  read-proper ns Unknown u le = gives-proper ns u _ le refl
+  read-proper : (ns : List Unsupported) (k : Register) (u : Uart H W) → length ns ≤ 1 → Proper readNumber (readRegister ns k u)
+  unfolding readRegister readNumber
+  read-proper ns Register.fifo u le = pop-proper ns (u .rx) u le
+  read-proper ns Register.intClr u le = gives-proper ns u _ le refl
+  read-proper ns Register.unknown u le = gives-proper ns u _ le refl
+  read-proper ns (Register.shown s) u le = gives-proper ns u _ le refl
+  read-proper ns (Register.stored x) u le = gives-proper ns u _ le refl
 
-  pub looking-proper : (b : Bool) (p : Place) (u : Uart H W) → Proper readNumber (readLooking b p u)
+  pub looking-proper : (b : Bool) (p : Register) (u : Uart H W) → Proper readNumber (readLooking b p u)
   unfolding readLooking
   looking-proper true p u = read-proper _ p _ (source-le _ _)
   looking-proper false p u = read-proper [] p u (omega arith)
 
-  storing-proper : (p : Place) (v : ℕ) (u : Uart H W) → Proper writeNumber (storing p v u)
-  unfolding storing writeNumber
-  storing-proper p v u = record { zero = choose-ind (λ (r : Write). writeNumber r ≡ 0) _ (λ _. refl) (λ _. refl); few = stored-le p v }
-
-  pub write-proper : (p : Place) (v : ℕ) (u : Uart H W) → Proper writeNumber (writePlace p v u)
-  unfolding writePlace clearing writeNumber
-  write-proper Fifo v u = storing-proper Fifo v _
-  write-proper IntRaw v u = storing-proper IntRaw v _
-  write-proper IntSt v u = storing-proper IntSt v _
-  write-proper IntEna v u = storing-proper IntEna v _
-  write-proper IntClr v u = record { zero = refl; few = omega arith }
-  write-proper Clkdiv v u = storing-proper Clkdiv v _
-  write-proper Status v u = storing-proper Status v _
-  write-proper FsmStatus v u = storing-proper FsmStatus v _
-  write-proper Conf0 v u = storing-proper Conf0 v _
-  write-proper Conf1 v u = storing-proper Conf1 v _
-  write-proper ClkConf v u = storing-proper ClkConf v _
-  write-proper IdleConf v u = storing-proper IdleConf v _
-  write-proper Rs485Conf v u = storing-proper Rs485Conf v _
-  write-proper AtCmdChar v u = storing-proper AtCmdChar v _
-  write-proper MemConf v u = storing-proper MemConf v _
-  write-proper MemRxStatus v u = storing-proper MemRxStatus v _
-  write-proper Unknown v u = storing-proper Unknown v _
+  pub write-proper : (k : Register) (v : ℕ) (u : Uart H W) → Proper writeNumber (writeRegister k v u)
+  unfolding clearing storing writeNumber
+  write-proper k v u =
+      writeRegister-ind (λ _. Proper writeNumber) v u (λ _. record { zero = refl; few = omega arith })
+      (record { zero = refl; few = omega arith }) (λ x. record { zero = refl; few = stored-le x v })
+      (λ x. record { zero = refl; few = stored-le x v }) k
 
   pub send-proper : (now : ℕ) (b : W) (u : Uart H W) → Proper writeNumber (sendByte now b u)
   unfolding sendByte dropped sent writeNumber
@@ -190,7 +141,7 @@ module _ {R : Type 0} (number : R → ℕ) (as-reply : R → Reply ℕ ℕ ℕ) 
   unfolding answering
   fine e o g = record { zero = e (o .reply) ∙ g .zero; few = g .few }
 
-write-good : (now : ℕ) (p : Place) (v : ℕ) (u : Uart ℕ ℕ) → Good writeNumber (writtenAt now p v u)
+write-good : (now : ℕ) (p : Register) (v : ℕ) (u : Uart ℕ ℕ) → Good writeNumber (writtenAt now p v u)
 unfolding writtenAt sendWork writeWork concluded
 write-good now p v u = choose-ind (Good writeNumber) _
     (λ _. after-good writeNumber _ _ (let p = send-proper now (v % 256) _ in record { zero = p .zero; few = p .few }))

@@ -2,23 +2,20 @@
 -- here. Assumes nothing.
 use mathlib.Core.Path.{_≡_}
 use Prim.Native.Nat.{ℕ, _+_, _-_, _*_, _%_, _^_, _≤_, _<_, min, max}
-use mathlib.Core.Bool.{Bool, true, false}
+use mathlib.Core.Bool.{Bool}
 use mathlib.Core.Option.{Option, none, some}
 use mathlib.Core.List.{List, [], _∷_, _++_}
 use lib.ListN.{length}
 use Rattle.model.specs.State.{Run, Uart}
 use Rattle.model.specs.Numbers.{choose}
 use Rattle.model.specs.Replies.{refused, noReport}
-use Rattle.model.specs.Registers.{placeOf}
+use Rattle.model.specs.Map.{Register, isFifo, registerOf}
 use Rattle.model.specs.Calls.{Outcome, readWork, writeWork, sendWork, receiveWork, wakeWork, watchWork, powerDownWork, clockWork}
 use Rattle.model.specs.Calls.{resetWork, takeTxWork, takeWrittenWork}
 use Rattle.model.specs.Calls.{hasLeft, hostPending}
 use Rattle.model.specs.Call.{Call, Written, Request, Reply, reads, writes, does, takes, left, pends}
 use Rattle.model.specs.Run.{Step, answering}
 use Rattle.model.specs.Limits.{All}
-use Rattle.model.specs.declared.Place.{Place}
-use Rattle.model.specs.declared.Place.the-variants.{Fifo, IntRaw, IntSt, IntEna, IntClr, Clkdiv, Status, FsmStatus, Conf0, Conf1}
-use Rattle.model.specs.declared.Place.the-variants.{ClkConf, IdleConf, Rs485Conf, AtCmdChar, MemConf, MemRxStatus, Unknown}
 use Rattle.model.specs.declared.Refusal.{Refusal}
 use Rattle.model.specs.declared.Refusal.the-variants.{DatePastEnd, DateWentBack, TransmitFull, HostFull, RunsFull, PeriodTooLong}
 use Rattle.model.specs.declared.Refusal.the-variants.{BufferTooShort}
@@ -87,34 +84,14 @@ pub data Refuses (r : Refusal) : Request → Reply ℕ ℕ ℕ → Type 0 where
 
 -- ---- a call that no condition stops
 
--- whether a place is FIFO's
-unfoldable pub isFifo : Place → Bool
-isFifo Fifo = true
-isFifo IntRaw = false
-isFifo IntSt = false
-isFifo IntEna = false
-isFifo IntClr = false
-isFifo Clkdiv = false
-isFifo Status = false
-isFifo FsmStatus = false
-isFifo Conf0 = false
-isFifo Conf1 = false
-isFifo ClkConf = false
-isFifo IdleConf = false
-isFifo Rs485Conf = false
-isFifo AtCmdChar = false
-isFifo MemConf = false
-isFifo MemRxStatus = false
-isFifo Unknown = false
-
 -- a write that is carried out: to FIFO it sends the word's low 8 bits, elsewhere it stores or clears
-unfoldable pub writtenAt : ℕ → Place → ℕ → Uart ℕ ℕ → Outcome Write ℕ ℕ
+unfoldable pub writtenAt : ℕ → Register → ℕ → Uart ℕ ℕ → Outcome Write ℕ ℕ
 writtenAt now p v u = choose (isFifo p) (sendWork now (v % 256) u) (writeWork now p v u)
 
 -- what the call does and answers where no test refuses it
 unfoldable pub carriedOut : Request → Uart ℕ ℕ → Step ℕ ℕ ℕ
-carriedOut (Call.read now offset) u = answering reads (readWork now (placeOf (u .map .offsets) offset) u)
-carriedOut (Call.write now x) u = answering writes (writtenAt now (placeOf (u .map .offsets) (x .offset)) (x .value) u)
+carriedOut (Call.read now offset) u = answering reads (readWork now (registerOf (u .map .offsets) offset) u)
+carriedOut (Call.write now x) u = answering writes (writtenAt now (registerOf (u .map .offsets) (x .offset)) (x .value) u)
 carriedOut (Call.receive now at bs) u = answering does (receiveWork now at bs u)
 carriedOut (Call.wake now) u = answering does (wakeWork now u)
 carriedOut (Call.reset now) u = answering does (resetWork now u)

@@ -1,33 +1,30 @@
 -- Every call ends in one of two ways: refused with the first number whose condition holds, or carried out. Assumes nothing.
 use mathlib.Core.Path.{_≡_, refl, sym, ap, subst, _∙_}
-use Prim.Native.Nat.{ℕ, _+_, _%_, _^_, _≤_, _<_}
+use Prim.Native.Nat.{ℕ, _+_, _^_, _≤_, _<_}
 use native.Mathlib.Omega.{arith}
-use mathlib.Core.Bool.{Bool, true, false, _&&_}
+use mathlib.Core.Bool.{Bool, true, false, decide, _&&_}
 use mathlib.Core.Option.{Option, none, some}
 use mathlib.Core.List.{List, [], _∷_, _++_}
 use lib.Dec.{leb, ltb}
 use lib.ListN.{length}
 use borrow.Author.Tests.{ltb-true, ltb-false, leb-true, leb-false, lt-ltb, le-leb}
-use Rattle.model.specs.Numbers.{choose}
 use Rattle.model.specs.State.{Run, Uart}
 use Rattle.model.specs.Replies.{refused}
-use Rattle.model.specs.Registers.{placeOf}
+use Rattle.model.specs.Map.{Register, isFifo, registerOf}
 use Rattle.model.specs.Tests.{pastEnd, wentBack, transmitFull, hostFull, runsFull, periodTooLong, bufferTooShort, refuseIf}
 use Rattle.model.specs.Tests.{refuseDate}
 use Rattle.model.specs.Calls
 use Rattle.model.specs.Calls.{Outcome, refusing, unless, lastDate, hostDate, notTaken, readPlaced, writePlaced, send, writeAt}
-use Rattle.model.specs.Calls.{writeWork}
 use Rattle.model.specs.Call.{Call, Written, Request, Reply, reads, writes, does, takes}
 use Rattle.model.specs.Run.{answering, stepBy, writing, step}
 use Rattle.model.specs.Limits.{All, nil, cons}
 use Rattle.model.specs.Ends.Passes.{apart}
+use Rattle.model.specs.Laws.Choose.{choose-true, choose-false}
+use Rattle.model.specs.Laws.AccessCases.{write-ind}
 use Rattle.model.specs.Refuses.Conditions.{dateOf, Condition, number2, number3, number4, number5, number6, number7, number8, number8′}
-use Rattle.model.specs.Refuses.Conditions.{order, First, here, next, Refuses, isFifo}
+use Rattle.model.specs.Refuses.Conditions.{order, First, here, next, Refuses}
 use Rattle.model.specs.Refuses.Conditions.{writtenAt, carriedOut, Result, refusal, done}
 use Rattle.model.specs.Refuses.FifoPlace.{first-is-fifo, fifo-is-first}
-use Rattle.model.specs.declared.Place.{Place}
-use Rattle.model.specs.declared.Place.the-variants.{Fifo, IntRaw, IntSt, IntEna, IntClr, Clkdiv, Status, FsmStatus, Conf0, Conf1}
-use Rattle.model.specs.declared.Place.the-variants.{ClkConf, IdleConf, Rs485Conf, AtCmdChar, MemConf, MemRxStatus, Unknown}
 use Rattle.model.specs.declared.Refusal.{Refusal}
 use Rattle.model.specs.declared.Refusal.the-variants.{DatePastEnd, DateWentBack, TransmitFull, HostFull, RunsFull, PeriodTooLong}
 use Rattle.model.specs.declared.Refusal.the-variants.{BufferTooShort}
@@ -172,56 +169,28 @@ module _ (u : Uart ℕ ℕ) where
 
 -- ---- each call
 
--- a write is a FIFO write or an access to another place
-write-case : (P : Place → Outcome Write ℕ ℕ → Type 0) (now : ℕ) (p : Place) (v : ℕ) (u : Uart ℕ ℕ)
-    → P Fifo (send now (v % 256) u) → ((q : Place) → isFifo q ≡ false → P q (writePlaced now q v u)) → P p (writeAt now p v u)
-unfolding writeAt isFifo
-write-case P now Fifo v u f o = f
-write-case P now IntRaw v u f o = o IntRaw refl
-write-case P now IntSt v u f o = o IntSt refl
-write-case P now IntEna v u f o = o IntEna refl
-write-case P now IntClr v u f o = o IntClr refl
-write-case P now Clkdiv v u f o = o Clkdiv refl
-write-case P now Status v u f o = o Status refl
-write-case P now FsmStatus v u f o = o FsmStatus refl
-write-case P now Conf0 v u f o = o Conf0 refl
-write-case P now Conf1 v u f o = o Conf1 refl
-write-case P now ClkConf v u f o = o ClkConf refl
-write-case P now IdleConf v u f o = o IdleConf refl
-write-case P now Rs485Conf v u f o = o Rs485Conf refl
-write-case P now AtCmdChar v u f o = o AtCmdChar refl
-write-case P now MemConf v u f o = o MemConf refl
-write-case P now MemRxStatus v u f o = o MemRxStatus refl
-write-case P now Unknown v u f o = o Unknown refl
-
 no-other : {P : Refusal → Type 0} → ¬ P PeriodTooLong → ¬ P BufferTooShort → ¬ P TransmitFull → ¬ P HostFull → ¬ P RunsFull
     → Verdict P (PeriodTooLong ∷ BufferTooShort ∷ TransmitFull ∷ HostFull ∷ RunsFull ∷ []) none
 no-other p b t h r = clear (cons p (cons b (cons t (cons h (cons r nil)))))
 
 module _ (now : ℕ) (x : Written) (u : Uart ℕ ℕ) where
-  abbrev place : Place
-  place = placeOf (u .map .offsets) (x .offset)
+  abbrev register : Register
+  register = registerOf (u .map .offsets) (x .offset)
 
-  not-fifo : isFifo place ≡ false → ¬ Condition u TransmitFull (Call.write now x)
-  unfolding isFifo
+  not-fifo : isFifo register ≡ false → ¬ Condition u TransmitFull (Call.write now x)
+  unfolding decide
   not-fifo h (number4 {others = os} is le) =
-      let f : isFifo place ≡ true = ap isFifo (ap (λ l. placeOf l (x .offset)) is ∙ first-is-fifo (x .offset) os) in apart (cc)
+      let f : isFifo register ≡ true = ap isFifo (ap (λ l. registerOf l (x .offset)) is ∙ first-is-fifo (x .offset) os) in apart (cc)
 
-  written-other : (q : Place) → isFifo q ≡ false → writtenAt now q (x .value) u ≡ writeWork now q (x .value) u
-  unfolding writtenAt choose
-  written-other q h = rw h
-
-  write-result : Result (Call.write now x) u (answering writes (writeAt now place (x .value) u))
-  unfolding carriedOut send writePlaced writtenAt isFifo choose transmitFull dateOf
-  write-result = write-case (λ q o. place ≡ q → Result (Call.write now x) u (answering writes o)) now place (x .value) u
-      (λ e. ends-as _ u writes Write.Refused _ _ (λ r. Refuses.write) (ap (λ q. answering writes (writtenAt now q (x .value) u)) e)
+  write-result : Result (Call.write now x) u (answering writes (writeAt now register (x .value) u))
+  unfolding carriedOut send writePlaced writtenAt transmitFull dateOf
+  write-result = write-ind (λ o. Result (Call.write now x) u (answering writes o)) now register (x .value) u
+      (λ e. ends-as _ u writes Write.Refused _ _ (λ r. Refuses.write) (ap (answering writes) (choose-true _ _ e))
       (dates _ u now _ refl (skip (elim [ ]) (skip (elim [ ])
-      (tested-le 1152 _ TransmitFull (number4 (fifo-is-first (u .map .offsets) (x .offset) (ap isFifo e) .1)) (from4 u)
+      (tested-le 1152 _ TransmitFull (number4 (fifo-is-first (u .map .offsets) (x .offset) e .1)) (from4 u)
       (clear (cons (elim [ ]) (cons (elim [ ]) nil))))))))
-      (λ q h e. ends-as _ u writes Write.Refused _ _ (λ r. Refuses.write)
-      (ap (λ q. answering writes (writtenAt now q (x .value) u)) e ∙ ap (answering writes) (written-other q h))
-      (dates _ u now none refl (no-other (elim [ ]) (elim [ ]) (not-fifo (ap isFifo e ∙ h)) (elim [ ]) (elim [ ]))))
-      refl
+      (λ e. ends-as _ u writes Write.Refused _ _ (λ r. Refuses.write) (ap (answering writes) (choose-false _ _ e))
+      (dates _ u now none refl (no-other (elim [ ]) (elim [ ]) (not-fifo e) (elim [ ]) (elim [ ]))))
 
 -- every call is refused or carried out, as document 01's table and order say
 pub step-result : (c : Request) (u : Uart ℕ ℕ) → Result c u (step c u)

@@ -11,8 +11,9 @@ use Rattle.model.specs.State.{OnTheLine, Uart, withWake, withMistimed, w
 use Rattle.model.specs.Settle.{levels, noLaterThan, settlingDate, settleTo, settle}
 use Rattle.model.specs.Arm.{arm, called}
 use Rattle.model.specs.Replies.{ReadOf}
-use Rattle.model.specs.Registers.{Access, placeOf, pop, gives, readPlace, looks, readLooking, readAt, sendByte, sent, dropped}
-use Rattle.model.specs.Registers.{storing, clearing, resetFifos, writePlace, concluded}
+use Rattle.model.specs.Map.{Register, registerOf}
+use Rattle.model.specs.Registers.{Access, pop, readRegister, looks, readLooking, readAt, sendByte, sent, dropped}
+use Rattle.model.specs.Registers.{storing, clearing, resetFifos, writeRegister, concluded}
 use Rattle.model.specs.Calls
 use Rattle.model.specs.Calls.{Outcome, refusing, unless, unsettled, undated, quiet, settleAt, dated, clocked, reclocked}
 use Rattle.model.specs.Calls.{cleared, handOver, afterSettling, readWork, sendWork, writePlaced, writeWork, send, wakeWork, clockWork}
@@ -20,12 +21,10 @@ use Rattle.model.specs.Calls.{resetWork}
 use Rattle.model.specs.Call.{Call, Written, Request}
 use Rattle.model.specs.Run.{answering, stepBy, writing, step}
 use Rattle.model.specs.Laws.Choose.{choose-ind}
-use Rattle.model.specs.Laws.PlaceCases.{write-ind, unless-ind, writePlace-ind, readPlace-ind}
+use Rattle.model.specs.Laws.AccessCases.{write-ind, unless-ind, writeRegister-ind, readRegister-ind}
 use Rattle.model.specs.declared.Date.{Date}
 use Rattle.model.specs.declared.RegisterMap.{RegisterMap}
 use Rattle.model.specs.declared.Source.{Source}
-use Rattle.model.specs.declared.Place.{Place}
-use Rattle.model.specs.declared.Place.the-variants.{IntClr}
 use Rattle.model.specs.declared.Refusal.{Refusal}
 use Rattle.model.specs.declared.Unsupported.{Unsupported}
 use Rattle.model.specs.declared.Write.{Write}
@@ -49,7 +48,7 @@ nowOf Call.hostPending = 0
 -- a write to INT_CLR
 abbrev pub Clears : Request → Uart ℕ ℕ → Type 0
 Clears (Call.read now r) u = ⊥
-Clears (Call.write now x) u = placeOf (u .map .offsets) (x .offset) ≡ IntClr
+Clears (Call.write now x) u = registerOf (u .map .offsets) (x .offset) ≡ Register.intClr
 Clears (Call.receive now at bs) u = ⊥
 Clears (Call.wake now) u = ⊥
 Clears (Call.reset now) u = ⊥
@@ -117,16 +116,16 @@ module _ (now : ℕ) (R : Uart ℕ ℕ → Uart ℕ ℕ → Type 0) (k : Walk no
   walk-pop ns [] u = k .alike u u refl
   walk-pop ns (b ∷ bs) u = k .alike u _ refl
 
-  walk-place : (ns : List Unsupported) (p : Place) (u : Uart ℕ ℕ) → R u (readPlace ns p u .state)
-  unfolding gives
-  walk-place ns p u = readPlace-ind (λ (a : Access (ReadOf ℕ) ℕ ℕ). R u (a .state)) ns u (walk-pop ns (u .rx) u) (λ r. k .alike u u refl) p
+  walk-register : (ns : List Unsupported) (r : Register) (u : Uart ℕ ℕ) → R u (readRegister ns r u .state)
+  walk-register ns r u =
+      readRegister-ind (λ (a : Access (ReadOf ℕ) ℕ ℕ). R u (a .state)) ns u (walk-pop ns (u .rx) u) (λ _. k .alike u u refl) r
 
-  walk-looking : (b : Bool) (p : Place) (u : Uart ℕ ℕ) → R u (readLooking b p u .state)
+  walk-looking : (b : Bool) (p : Register) (u : Uart ℕ ℕ) → R u (readLooking b p u .state)
   unfolding readLooking
-  walk-looking true p u = k .on u _ _ (k .alike u (withLineOf (withMistimed Source.None (lineOf u)) u) refl) (walk-place _ p _)
-  walk-looking false p u = walk-place [] p u
+  walk-looking true p u = k .on u _ _ (k .alike u (withLineOf (withMistimed Source.None (lineOf u)) u) refl) (walk-register _ p _)
+  walk-looking false p u = walk-register [] p u
 
-  walk-read : (p : Place) (u : Uart ℕ ℕ) → R u (readAt p u .state)
+  walk-read : (p : Register) (u : Uart ℕ ℕ) → R u (readAt p u .state)
   unfolding readAt
   walk-read p u = walk-looking (looks p) p u
 
@@ -141,25 +140,25 @@ module _ (now : ℕ) (R : Uart ℕ ℕ → Uart ℕ ℕ → Type 0) (k : Walk no
   unfolding sendByte sent dropped
   walk-send b u = choose-ind (λ (a : Access Write ℕ ℕ). R u (a .state)) _ (λ _. k .alike u u refl) (λ _. k .alike u _ refl)
 
-  walk-write-place : (v : ℕ) (u : Uart ℕ ℕ) (p : Place) → (p ≡ IntClr → R u (clearing v u .state)) → R u (writePlace p v u .state)
+  walk-write-register : (v : ℕ) (u : Uart ℕ ℕ) (p : Register) → (p ≡ Register.intClr → R u (clearing v u .state))
+      → R u (writeRegister p v u .state)
   unfolding storing resetFifos
-  walk-write-place v u =
-      writePlace-ind (λ (p : Place) (a : Access Write ℕ ℕ). (p ≡ IntClr → R u (clearing v u .state)) → R u (a .state)) v u
-      (λ p _. k .alike u _ refl) (λ h. h refl) (λ _. k .alike u _ refl)
+  walk-write-register v u =
+      writeRegister-ind (λ (p : Register) (a : Access Write ℕ ℕ). (p ≡ Register.intClr → R u (clearing v u .state)) → R u (a .state)) v u
+      (λ p _. k .alike u u refl) (λ h. h refl) (λ x _. k .alike u _ refl) (λ x _. k .alike u _ refl)
 
-  walk-write : (x : Written) (u : Uart ℕ ℕ) → (placeOf (u .map .offsets) (x .offset) ≡ IntClr → (v : ℕ) (s : Uart ℕ ℕ)
+  walk-write : (x : Written) (u : Uart ℕ ℕ) → (registerOf (u .map .offsets) (x .offset) ≡ Register.intClr → (v : ℕ) (s : Uart ℕ ℕ)
       → R s (clearing v s .state))
       → R u (Calls.write now (x .offset) (x .value) u .state)
   unfolding Calls.write send sendWork writePlaced writeWork
-  walk-write x u =
-      write-ind (λ (p : Place) (o : Outcome Write ℕ ℕ). (p ≡ IntClr → (v : ℕ) (s : Uart ℕ ℕ) → R s (clearing v s .state)) → R u (o .state))
-      now (x .value) u
+  walk-write x u clr =
+      let p : Register = registerOf (u .map .offsets) (x .offset) in
+      write-ind (λ (o : Outcome Write ℕ ℕ). R u (o .state)) now p (x .value) u
       (λ _. walk-unless _ Write.Refused (sendWork now (x .value % 256)) u
       (walk-after u (λ s. concluded (sendByte now (x .value % 256) s)) (λ v. walk-concluded v _ (walk-send (x .value % 256) v))))
-      (λ p clr. walk-unless _ Write.Refused (writeWork now p (x .value)) u
-      (walk-after u (λ s. concluded (writePlace p (x .value) s))
-      (λ v. walk-concluded v _ (walk-write-place (x .value) v p (λ e. clr e (x .value) v)))))
-      (placeOf (u .map .offsets) (x .offset))
+      (λ _. walk-unless _ Write.Refused (writeWork now p (x .value)) u
+      (walk-after u (λ s. concluded (writeRegister p (x .value) s))
+      (λ v. walk-concluded v _ (walk-write-register (x .value) v p (λ e. clr e (x .value) v)))))
 
   -- ---- the other calls
 
@@ -206,7 +205,7 @@ unfolding nowOf step stepBy answering writing undated unsettled quiet arm Calls.
     Calls.takeWritten
     Calls.takeWrittenWork Calls.hasLeft Calls.hostPending
 every-call (Call.read now r) u R k clr rst =
-    let p : Place = placeOf (u .map .offsets) r in
+    let p : Register = registerOf (u .map .offsets) r in
     walk-unless now R k _ _ (readWork now p) u (walk-after now R k u (readAt p) (walk-read now R k p))
 every-call (Call.write now x) u R k clr rst = walk-write now R k x u clr
 every-call (Call.receive now at bs) u R k clr rst =

@@ -4,7 +4,7 @@ use mathlib.Core.Path.{_≡_, refl, sym, ap, ap₂, _∙_}
 use Prim.Native.Nat.{ℕ, suc, _*_, _<_, _≤_}
 use native.Mathlib.Numerals.{add-two}
 use native.Mathlib.Omega.{arith}
-use mathlib.Core.Bool.{Bool, true, false, _&&_, not}
+use mathlib.Core.Bool.{Bool, true, false, _&&_, decide, not}
 use mathlib.Core.Option.{Option, none, some}
 use mathlib.Core.List.{List, [], _∷_, _++_, append-nil, append-assoc}
 use lib.Dec.{ltb}
@@ -19,7 +19,8 @@ use Rattle.model.specs.Settle.{Pass, txDone, leave, depart, received, no
 use Rattle.model.specs.Settle.{passesFrom, pending, passes, levels, leveled, settingsOf, settleTo}
 use Rattle.model.specs.Settle.{settle, settlingDate}
 use Rattle.model.specs.Replies.{byte}
-use Rattle.model.specs.Registers.{placeOf, pop, looks, readPlace, readLooking, readAt}
+use Rattle.model.specs.Map.{Register, registerOf}
+use Rattle.model.specs.Registers.{pop, looks, readRegister, readLooking, readAt}
 use Rattle.model.specs.Calls.{dated, settleAt, afterSettling, readWork}
 use Rattle.model.specs.Call.{Call, reads}
 use Rattle.model.specs.Run.{Step, answering, step}
@@ -27,7 +28,6 @@ use Rattle.model.specs.Limits.{Within, isHeard}
 use Rattle.model.specs.Laws.Cases.{pass-cases, passes-on}
 use Rattle.model.specs.MeetsManual.Answers.{InTime, read-answer}
 use Rattle.model.specs.declared.Date.{Date}
-use Rattle.model.specs.declared.Place.the-variants.{Fifo}
 use Rattle.model.specs.declared.Settings.{Settings}
 use Rattle.model.specs.declared.Fate.{Fate}
 use Rattle.model.specs.declared.Fate.the-variants.{Stored, Overflowed, Cleared, ClockOff, Unheard}
@@ -117,16 +117,16 @@ pop-first ns bs u b more e = ap (λ (x : List _). pop ns x u .reply) e
 
 -- a byte on the line is what the firmware reads once its landing date has come: heard, with the clock on, RXFIFO_RST clear and
 -- no byte held before it
-pub byte-read : (now offset : ℕ) (u : Uart ℕ ℕ) (l : OnTheLine ℕ) → InTime now u → Within u → placeOf (u .map .offsets) offset ≡ Fifo
-    → u .receiving ≡ some l
+pub byte-read : (now offset : ℕ) (u : Uart ℕ ℕ) (l : OnTheLine ℕ) → InTime now u → Within u
+    → registerOf (u .map .offsets) offset ≡ Register.fifo → u .receiving ≡ some l
     → l .frame .heard ≡ true → bit 25 (u .control .words .«clk_conf») ≡ true → bit 17 (u .control .words .conf0) ≡ false → u .rx ≡ []
     → lineOf u .«line_free_at» ≤ settlingDate now (u .control)
     → step (Call.read now offset) u .answer .reply ≡ reads (byte (l .byte))
-unfolding answering readWork afterSettling readAt looks readLooking readPlace settleAt settle settlingDate dated
+unfolding answering readWork afterSettling readAt looks decide readLooking readRegister settleAt settle settlingDate dated
 byte-read now offset u l t limits e on heard clock rst empty come =
     let closed : lineOf u .«idle_since» ≡ Date.None = limits .idleLine (ap isHeard on ∙ heard) in
     let stored = landing-settled (settlingDate now (u .control)) (dated now u) l closed on heard clock rst (rw empty (omega arith)) come in
-    ap (λ (x : Step ℕ ℕ ℕ). x .answer .reply) (read-answer t offset Fifo e)
+    ap (λ (x : Step ℕ ℕ ℕ). x .answer .reply) (read-answer t offset Register.fifo e)
     ∙ ap reads (pop-first _ _ _ (l .byte) (stored .0) (stored .1 ∙ ap (λ (r : List ℕ). r ++ (l .byte ∷ []) ++ stored .0) empty))
 
 -- ---- which landings overflow

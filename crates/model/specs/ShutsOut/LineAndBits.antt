@@ -13,7 +13,8 @@ use Rattle.model.specs.Line.{raiseIf, noteSource, timeOut}
 use Rattle.model.specs.Settle.{Pass, txDone, leave, depart, nothingDue, timedOut, inFrame, passOn, pass, passes, assertLevels}
 use Rattle.model.specs.Settle.{drive, levels, leveled, settingsOf, settleTo}
 use Rattle.model.specs.Arm.{arm}
-use Rattle.model.specs.Registers.{Access, placeOf, sendByte, sent, dropped, storing, clearing, resetFifos, writePlace, concluded}
+use Rattle.model.specs.Map.{Register, registerOf}
+use Rattle.model.specs.Registers.{Access, sendByte, sent, dropped, storing, clearing, resetFifos, writeRegister, concluded}
 use Rattle.model.specs.Calls
 use Rattle.model.specs.Calls.{Outcome, refusing, clearedLine, cleared, settleAt, afterSettling, sendWork, writeWork, writePlaced}
 use Rattle.model.specs.Calls.{send}
@@ -22,9 +23,8 @@ use Rattle.model.specs.Run.{Step, answering, stepBy, writing, step}
 use Rattle.model.specs.Laws.Choose.{choose-ind}
 use Rattle.model.specs.Laws.Cases.{passes-on}
 use Rattle.model.specs.MeetsManual.Rises.{rawBit, settleTo-raises, levels-raise}
-use Rattle.model.specs.Laws.PlaceCases.{write-ind, unless-ind, writePlace-ind}
+use Rattle.model.specs.Laws.AccessCases.{write-ind, unless-ind, writeRegister-ind}
 use Rattle.model.specs.ShutsOut.EveryCall.{nowOf, Clears, Resets, Walk, every-call}
-use Rattle.model.specs.declared.Place.{Place}
 use Rattle.model.specs.declared.Line.{Line}
 use Rattle.model.specs.declared.Settings.{Settings}
 use Rattle.model.specs.declared.Refusal.{Refusal}
@@ -41,9 +41,10 @@ module _ {H W : Type 0} where
   unfolding concluded arm levels drive assertLevels raiseIf
   concluded-line a = refl
 
-  place-line : (v : ℕ) (u : Uart H W) (p : Place) → onLine (writePlace p v u .state) ≡ onLine u
+  register-line : (v : ℕ) (u : Uart H W) (k : Register) → onLine (writeRegister k v u .state) ≡ onLine u
   unfolding storing clearing resetFifos
-  place-line v u = writePlace-ind (λ (p : Place) (a : Access Write H W). onLine (a .state) ≡ onLine u) v u (λ p. refl) refl refl
+  register-line v u =
+      writeRegister-ind (λ _ (a : Access Write H W). onLine (a .state) ≡ onLine u) v u (λ k. refl) refl (λ x. refl) (λ x. refl)
 
   send-line : (now : ℕ) (b : W) (u : Uart H W) → onLine (sendByte now b u .state) ≡ onLine u
   unfolding sendByte sent dropped
@@ -58,13 +59,15 @@ pub data LineLeft (now : ℕ) (u : Uart ℕ ℕ) (s : Step ℕ ℕ ℕ) : Type 0
 pub write-leaves-line : (now : ℕ) (x : Written) (u : Uart ℕ ℕ) → LineLeft now u (step (Call.write now x) u)
 unfolding step stepBy answering writing Calls.write send sendWork writePlaced writeWork afterSettling refusing
 write-leaves-line now x u =
-    write-ind (λ (p : Place) (o : Outcome Write ℕ ℕ). LineLeft now u (answering writes o)) now (x .value) u
-    (unless-ind Left _ Write.Refused (sendWork now b) u (λ r. refused r refl refl)
+    write-ind Left now p (x .value) u
+    (λ _. unless-ind Left _ Write.Refused (sendWork now b) u (λ r. refused r refl refl)
     (settled (concluded-line (sendByte now b v) ∙ send-line now b v)))
-    (λ p. unless-ind Left _ Write.Refused (writeWork now p (x .value)) u (λ r. refused r refl refl)
-    (settled (concluded-line (writePlace p (x .value) v) ∙ place-line (x .value) v p)))
-    (placeOf (u .map .offsets) (x .offset))
+    (λ _. unless-ind Left _ Write.Refused (writeWork now p (x .value)) u (λ r. refused r refl refl)
+    (settled (concluded-line (writeRegister p (x .value) v) ∙ register-line (x .value) v p)))
   where
+    p : Register
+    p = registerOf (u .map .offsets) (x .offset)
+
     b : ℕ
     b = x .value % 256
 

@@ -15,7 +15,8 @@ use Rattle.model.specs.Events.{passesIn, overflowsIn}
 use Rattle.model.specs.Settle.{gone, leave, depart, levels, settleTo, settle, settlingDate}
 use Rattle.model.specs.Arm.{arm}
 use Rattle.model.specs.Replies.{Take, report}
-use Rattle.model.specs.Registers.{Access, placeOf, sourceNotes, goneAt, sent, dropped, sendByte, concluded}
+use Rattle.model.specs.Map.{Register, registerOf}
+use Rattle.model.specs.Registers.{Access, sourceNotes, goneAt, sent, dropped, sendByte, concluded}
 use Rattle.model.specs.Tests.{dateEnd, sentLimit, hostLimit, hostFull, runsFull, bufferTooShort, refuseIf}
 use Rattle.model.specs.Calls
 use Rattle.model.specs.Calls.{Outcome, afterSettling, quiet, settleAt, dated, filled, hostDate, lastDate, sendWork, takeTxWork}
@@ -25,7 +26,6 @@ use Rattle.model.specs.Run.{Step, answering, stepBy, step}
 use Rattle.model.specs.SetUp.{mapOf, newControl, new}
 use Rattle.model.specs.Keeps.Rest.{settleTo-inFlight, settleTo-tx}
 use Rattle.model.specs.MeetsManual.Answers.{settled, InTime, in-time, carried-out, fifo-answer, byte-taken, byte-dropped}
-use Rattle.model.specs.declared.Place.the-variants.{Fifo}
 use Rattle.model.specs.declared.Refusal.the-variants.{HostFull, RunsFull, BufferTooShort}
 use Rattle.model.specs.declared.Report.{Report}
 use Rattle.model.specs.declared.Unsupported.{Unsupported}
@@ -35,7 +35,7 @@ use Rattle.model.specs.declared.Done.{Done}
 
 -- ---- a FIFO write
 
-module _ (now : ℕ) (u : Uart ℕ ℕ) (x : Written) (t : InTime now u) (e : placeOf (u .map .offsets) (x .offset) ≡ Fifo)
+module _ (now : ℕ) (u : Uart ℕ ℕ) (x : Written) (t : InTime now u) (e : registerOf (u .map .offsets) (x .offset) ≡ Register.fifo)
     (room : length (u .tx) + length (u .inFlight) < sentLimit) where
   -- what the write gives
   abbrev given : Step ℕ ℕ ℕ
@@ -124,7 +124,7 @@ module _ (offsets ws : List ℕ) (now : ℕ) (early : now < dateEnd) where
   none-flying = settleTo-inFlight _ (dated now fresh)
 
   -- neither 4 nor any other number at a first write to FIFO: the byte is in flight
-  pub first-write : (x : Written) → placeOf offsets (x .offset) ≡ Fifo
+  pub first-write : (x : Written) → registerOf offsets (x .offset) ≡ Register.fifo
       → (step (Call.write now x) (new offsets ws) .answer .reply ≡ writes Write.Accepted)
       × (step (Call.write now x) (new offsets ws) .state .inFlight
       ≡ record { goneAt = goneAt now (settled now (new offsets ws)); byte = x .value % 256 } ∷ [])

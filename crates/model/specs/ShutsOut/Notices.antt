@@ -3,7 +3,7 @@
 use mathlib.Core.Path.{_≡_, refl, ap, _∙_}
 use Prim.Native.Nat.{ℕ, _<_, _+_, _*_, _/_, _%_, _^_}
 use native.Mathlib.Omega.{arith}
-use mathlib.Core.Bool.{Bool, true, false}
+use mathlib.Core.Bool.{decide}
 use mathlib.Core.Option.{none}
 use mathlib.Core.List.{List, [], _∷_, _++_, map}
 use lib.Dec.{eqb}
@@ -13,15 +13,14 @@ use Rattle.model.specs.State.{Uart}
 use Rattle.model.specs.Settle.{levels, drive, assertLevels}
 use Rattle.model.specs.Arm.{arm}
 use Rattle.model.specs.Replies.{notices, report}
-use Rattle.model.specs.Registers.{Access, placeOf, noteIf, conf0Notes, storedNotes, stored, storing, writePlace, concluded}
+use Rattle.model.specs.Map.{Word, Register, registerOf, valueOf, wordsBy, replaced}
+use Rattle.model.specs.Registers.{noteIf, conf0Notes, storedNotes, storing, resetFifos, writeRegister, concluded}
 use Rattle.model.specs.Calls
 use Rattle.model.specs.Calls.{afterSettling, writeAt, writePlaced, writeWork}
 use Rattle.model.specs.Call.{Call, Written, writes}
 use Rattle.model.specs.Run.{Step, answering, stepBy, writing, step}
 use Rattle.model.specs.Limits.{Chain, single, link}
 use Rattle.model.specs.MeetsManual.Answers.{InTime, in-time, carried-out}
-use Rattle.model.specs.declared.Place.{Place}
-use Rattle.model.specs.declared.Place.the-variants.{Conf0}
 use Rattle.model.specs.declared.Feature.{Feature}
 use Rattle.model.specs.declared.Feature.the-variants.{Loopback, InvertedRx, Autobaud, NoStopBit, TxFlowControl, InvertedTx, Irda, TxBreak}
 use Rattle.model.specs.declared.Unsupported.{Unsupported}
@@ -50,17 +49,17 @@ conf0-noted : (v : ℕ) → conf0Notes v ≡ conf0Noted v
 unfolding conf0Notes conf0Noted modesIn
 conf0-noted v = refl
 
-module _ (now : ℕ) (u : Uart ℕ ℕ) (x : Written) (t : InTime now u) (e : placeOf (u .map .offsets) (x .offset) ≡ Conf0) where
-  answer : step (Call.write now x) u ≡ answering writes (writeWork now Conf0 (x .value) u)
-  unfolding step stepBy writing Calls.write writeAt writePlaced
+module _ (now : ℕ) (u : Uart ℕ ℕ) (x : Written) (t : InTime now u) (e : registerOf (u .map .offsets) (x .offset) ≡ Register.stored Word.conf0) where
+  answer : step (Call.write now x) u ≡ answering writes (writeWork now (Register.stored Word.conf0) (x .value) u)
+  unfolding step stepBy writing Calls.write writeAt writePlaced choose decide
   answer =
-      ap (λ (q : Place). answering writes (writeAt now q (x .value) u)) e
-      ∙ ap (answering writes) (carried-out _ (writeWork now Conf0 (x .value)) u (in-time t none))
+      ap (λ (q : Register). answering writes (writeAt now q (x .value) u)) e
+      ∙ ap (answering writes) (carried-out _ (writeWork now (Register.stored Word.conf0) (x .value)) u (in-time t none))
 
   -- a write to CONF0 gives these notices, in this order, and no other
   pub conf0-notices : (step (Call.write now x) u .answer .report .notices ≡ notices (conf0Noted (x .value)))
       × (step (Call.write now x) u .answer .report .noted ≡ length (conf0Noted (x .value)))
-  unfolding answering writeWork afterSettling concluded writePlace storing storedNotes report
+  unfolding answering writeWork afterSettling concluded writeRegister storing storedNotes choose decide report
   conf0-notices = (
     ap (λ (s : Step ℕ ℕ ℕ). s .answer .report .notices) answer ∙ ap notices (conf0-noted (x .value)),
     ap (λ (s : Step ℕ ℕ ℕ). s .answer .report .noted) answer ∙ ap length (conf0-noted (x .value)),
@@ -68,5 +67,5 @@ module _ (now : ℕ) (u : Uart ℕ ℕ) (x : Written) (t : InTime now u) (e : pl
 
   -- the word is stored whole
   pub conf0-stored : step (Call.write now x) u .state .control .words .conf0 ≡ x .value
-  unfolding answering writeWork afterSettling concluded writePlace storing stored arm levels drive assertLevels
+  unfolding answering writeWork afterSettling concluded writeRegister storing replaced wordsBy valueOf resetFifos arm levels drive assertLevels choose decide
   conf0-stored = ap (λ (s : Step ℕ ℕ ℕ). s .state .control .words .conf0) answer

@@ -15,7 +15,8 @@ use Rattle.model.specs.Line.{raiseIf, noteSource, afterDate, timeoutAt, 
 use Rattle.model.specs.Settle.{Pass, txDone, leave, depart, nothingDue, timedOut, landed, begun, idle, lineFree, passOn}
 use Rattle.model.specs.Settle.{pass, passesFrom, pending, passes, assertLevels, drive, levels, leveled, settingsOf}
 use Rattle.model.specs.Settle.{settleTo, settle, settlingDate}
-use Rattle.model.specs.Registers.{Access, pop, gives, readPlace, readLooking, readAt, looks, placeOf}
+use Rattle.model.specs.Map.{Register, registerOf}
+use Rattle.model.specs.Registers.{Access, pop, readRegister, readLooking, readAt}
 use Rattle.model.specs.Calls.{dated, settleAt, afterSettling, readWork}
 use Rattle.model.specs.Call.{Call}
 use Rattle.model.specs.Run.{Step, answering, step}
@@ -23,11 +24,10 @@ use Rattle.model.specs.Laws.Choose.{choose-ind}
 use Rattle.model.specs.Laws.Cases.{pass-cases, passes-on}
 use Rattle.model.specs.MeetsManual.Rises.{rawBit}
 use Rattle.model.specs.MeetsManual.FiveBits.{isTimeout, timeoutCame, no-pass, settling-rises}
-use Rattle.model.specs.Laws.PlaceCases.{readPlace-ind}
+use Rattle.model.specs.Laws.AccessCases.{readRegister-ind}
 use Rattle.model.specs.MeetsManual.Answers.{settled, InTime, read-answer}
 use Rattle.model.specs.declared.Date.{Date}
 use Rattle.model.specs.declared.Line.{Line}
-use Rattle.model.specs.declared.Place.{Place}
 use Rattle.model.specs.declared.Unsupported.{Unsupported}
 use Rattle.model.specs.declared.Settings.{Settings}
 use Rattle.model.specs.declared.Fate.{Fate}
@@ -143,11 +143,10 @@ module _ {H W : Type 0} where
   pop-idle ns [] u = refl
   pop-idle ns (b ∷ bs) u = refl
 
-  given-idle : (ns : List Unsupported) (p : Place) (u : Uart H W) → IdleKept u (readPlace ns p u)
-  unfolding gives
-  given-idle ns p u = readPlace-ind (IdleKept u) ns u (pop-idle ns (u .rx) u) (λ r. refl) p
+  given-idle : (ns : List Unsupported) (p : Register) (u : Uart H W) → IdleKept u (readRegister ns p u)
+  given-idle ns p u = readRegister-ind (IdleKept u) ns u (pop-idle ns (u .rx) u) (λ r. refl) p
 
-  looking-idle : (b : Bool) (p : Place) (u : Uart H W) → IdleKept u (readLooking b p u)
+  looking-idle : (b : Bool) (p : Register) (u : Uart H W) → IdleKept u (readLooking b p u)
   unfolding readLooking
   looking-idle true p u = given-idle _ p _
   looking-idle false p u = given-idle [] p u
@@ -158,9 +157,9 @@ pub timeout-closes-line : (now offset : ℕ) (u : Uart ℕ ℕ) → InTime now u
     → lineOf (step (Call.read now offset) u .state) .«idle_since» ≡ Date.None
 unfolding answering readWork afterSettling readAt settleAt settle settlingDate dated settingsOf
 timeout-closes-line now offset u t h due =
-    let p : Place = placeOf (u .map .offsets) offset in
+    let p : Register = registerOf (u .map .offsets) offset in
     ap (λ (x : Step ℕ ℕ ℕ). lineOf (x .state) .«idle_since») (read-answer t offset p refl)
-    ∙ looking-idle (looks p) p (settleAt now u .state)
+    ∙ looking-idle _ p (settleAt now u .state)
     ∙ settling-closes _ (dated now u) (record { line = h .line; waiting = h .waiting }) due
 
 off-tout : (conf1 clkConf held : ℕ) (b : Bool) → bit 21 conf1 ≡ false → Manual.RXFIFO-TOUT conf1 clkConf b held ≡ false

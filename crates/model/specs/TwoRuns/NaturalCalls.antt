@@ -11,8 +11,9 @@ use Rattle.model.specs.Events.{passesIn, overflowsIn}
 use Rattle.model.specs.Settle.{Settled, found, settle, levels}
 use Rattle.model.specs.Arm.{arm}
 use Rattle.model.specs.Replies.{ReadOf, word, byte, report}
-use Rattle.model.specs.Registers.{Access, loaded, pop, gives, readPlace, readLooking, readAt, goneAt, sent, dropped, sendByte}
-use Rattle.model.specs.Registers.{resetFifos, storing, clearing, writePlace, concluded}
+use Rattle.model.specs.Map.{Word, Shown, Register}
+use Rattle.model.specs.Registers.{Access, gives, pop, shownIn, readRegister, readLooking, readAt, goneAt, sent, dropped, sendByte}
+use Rattle.model.specs.Registers.{resetFifos, storing, clearing, writeRegister, concluded}
 use Rattle.model.specs.Calls
 use Rattle.model.specs.Calls.{Outcome, refusing, unless, unsettled, afterSettling, undated, filled, notTaken, dated, settleAt, quiet}
 use Rattle.model.specs.Calls.{readWork, readPlaced, writeWork, writePlaced, sendWork, send, joined, handOver, receiveWork, wakeWork}
@@ -23,9 +24,6 @@ use Rattle.model.specs.Run.{Step, answering, stepBy, runBy}
 use Rattle.model.specs.TwoRuns.Natural.{mapEvent, mapSettled, found-nat, passes-in-nat, overflows-in-nat, bytes-nat, lastGone-nat, pending-nat, levels-nat, settle-nat, arm-nat}
 use Rattle.model.specs.TwoRuns.Placed.{Put, Placed, changed, putting, stepPlaced}
 use Rattle.model.specs.TwoRuns.Alike.{mapReadOf, mapTake, mapReply, mapAnswer, itself}
-use Rattle.model.specs.declared.Place.{Place}
-use Rattle.model.specs.declared.Place.the-variants.{Fifo, IntRaw, IntSt, IntEna, IntClr, Clkdiv, Status, FsmStatus, Conf0, Conf1}
-use Rattle.model.specs.declared.Place.the-variants.{ClkConf, IdleConf, Rs485Conf, AtCmdChar, MemConf, MemRxStatus, Unknown}
 use Rattle.model.specs.declared.Refusal.{Refusal}
 use Rattle.model.specs.declared.Unsupported.{Unsupported}
 use Rattle.model.specs.declared.Write.{Write}
@@ -106,42 +104,38 @@ module _ {H H′ W W′ : Type 0} (f : H → H′) (g : W → W′) where
   pop-nat ns [] u = refl
   pop-nat ns (b ∷ bs) u = refl
 
-  readPlace-nat : (ns : List Unsupported) (p : Place) (u : Uart H W)
-      → readPlace ns p (mapUart f g u) ≡ mapAccess (mapReadOf f) f g (readPlace ns p u)
-  unfolding readPlace gives loaded mapAccess mapReadOf
-  readPlace-nat ns Fifo u = pop-nat ns (u .rx) u
-  readPlace-nat ns IntRaw u = refl
-  readPlace-nat ns IntSt u = refl
-  readPlace-nat ns IntEna u = refl
-  readPlace-nat ns IntClr u = refl
-  readPlace-nat ns Clkdiv u = refl
-  readPlace-nat ns Status u = rw (length-map (u .inFlight) (mapSent g), length-map (u .rx) f)
-  readPlace-nat ns FsmStatus u = rw (length-map (u .inFlight) (mapSent g))
-  readPlace-nat ns Conf0 u = refl
-  readPlace-nat ns Conf1 u = refl
-  readPlace-nat ns ClkConf u = refl
-  readPlace-nat ns IdleConf u = refl
-  readPlace-nat ns Rs485Conf u = refl
-  readPlace-nat ns AtCmdChar u = refl
-  readPlace-nat ns MemConf u = refl
-  readPlace-nat ns MemRxStatus u = refl
-  readPlace-nat ns Unknown u = refl
+  shownIn-nat : (s : Shown) (u : Uart H W) → shownIn (mapUart f g u) s ≡ shownIn u s
+  unfolding shownIn
+  shownIn-nat Shown.intRaw u = refl
+  shownIn-nat Shown.intSt u = refl
+  shownIn-nat Shown.status u = rw (length-map (u .inFlight) (mapSent g), length-map (u .rx) f)
+  shownIn-nat Shown.fsmStatus u = rw (length-map (u .inFlight) (mapSent g))
+  shownIn-nat Shown.memRxStatus u = refl
 
-  readLooking-nat : (b : Bool) (p : Place) (u : Uart H W)
-      → readLooking b p (mapUart f g u) ≡ mapAccess (mapReadOf f) f g (readLooking b p u)
+  readRegister-nat : (ns : List Unsupported) (k : Register) (u : Uart H W)
+      → readRegister ns k (mapUart f g u) ≡ mapAccess (mapReadOf f) f g (readRegister ns k u)
+  unfolding readRegister mapAccess mapReadOf
+  readRegister-nat ns Register.fifo u = pop-nat ns (u .rx) u
+  readRegister-nat ns Register.intClr u = refl
+  readRegister-nat ns Register.unknown u = refl
+  readRegister-nat ns (Register.shown s) u = ap (λ (n : ℕ). gives ns (mapUart f g u) (word n)) (shownIn-nat s u)
+  readRegister-nat ns (Register.stored x) u = refl
+
+  readLooking-nat : (b : Bool) (k : Register) (u : Uart H W)
+      → readLooking b k (mapUart f g u) ≡ mapAccess (mapReadOf f) f g (readLooking b k u)
   unfolding readLooking
-  readLooking-nat true p u = readPlace-nat _ p _
-  readLooking-nat false p u = readPlace-nat _ p u
+  readLooking-nat true k u = readRegister-nat _ k _
+  readLooking-nat false k u = readRegister-nat _ k u
 
-  readPlaced-nat : (now : ℕ) (p : Place) (u : Uart H W)
+  readPlaced-nat : (now : ℕ) (p : Register) (u : Uart H W)
       → readPlaced now p (mapUart f g u) ≡ mapOutcome (mapReadOf f) f g (readPlaced now p u)
   unfolding readPlaced readWork readAt settleAt dated mapReadOf
   readPlaced-nat now p u =
       unless-nat (mapReadOf f) f g _ _ _ _ _ u (λ r. refl) (settled-nat (mapReadOf f) f g now _ _ _ (λ v. readLooking-nat _ p v))
 
-  storing-nat : (p : Place) (v : ℕ) (u : Uart H W) → storing p v (mapUart f g u) ≡ mapAccess itself f g (storing p v u)
+  storing-nat : (x : Word) (v : ℕ) (u : Uart H W) → storing x v (mapUart f g u) ≡ mapAccess itself f g (storing x v u)
   unfolding storing mapAccess
-  storing-nat p v u = refl
+  storing-nat x v u = refl
 
   clearing-nat : (v : ℕ) (u : Uart H W) → clearing v (mapUart f g u) ≡ mapAccess itself f g (clearing v u)
   unfolding clearing mapAccess
@@ -153,25 +147,14 @@ module _ {H H′ W W′ : Type 0} (f : H → H′) (g : W → W′) where
       rw (choose-nat (map f) _ {x = []} {y = u .rx} refl refl)
       (rw (choose-nat (map (mapSent g)) _ {x = take 1 (u .inFlight)} {y = u .inFlight} (sym (map-take (mapSent g) 1 (u .inFlight))) refl))
 
-  writePlace-nat : (p : Place) (v : ℕ) (u : Uart H W) → writePlace p v (mapUart f g u) ≡ mapAccess itself f g (writePlace p v u)
-  unfolding writePlace
-  writePlace-nat Fifo v u = storing-nat Fifo v u
-  writePlace-nat IntRaw v u = storing-nat IntRaw v u
-  writePlace-nat IntSt v u = storing-nat IntSt v u
-  writePlace-nat IntEna v u = storing-nat IntEna v u
-  writePlace-nat IntClr v u = clearing-nat v u
-  writePlace-nat Clkdiv v u = storing-nat Clkdiv v u
-  writePlace-nat Status v u = storing-nat Status v u
-  writePlace-nat FsmStatus v u = storing-nat FsmStatus v u
-  writePlace-nat Conf0 v u = ap (storing Conf0 v) (resetFifos-nat v u) ∙ storing-nat Conf0 v (resetFifos v u)
-  writePlace-nat Conf1 v u = storing-nat Conf1 v u
-  writePlace-nat ClkConf v u = storing-nat ClkConf v u
-  writePlace-nat IdleConf v u = storing-nat IdleConf v u
-  writePlace-nat Rs485Conf v u = storing-nat Rs485Conf v u
-  writePlace-nat AtCmdChar v u = storing-nat AtCmdChar v u
-  writePlace-nat MemConf v u = storing-nat MemConf v u
-  writePlace-nat MemRxStatus v u = storing-nat MemRxStatus v u
-  writePlace-nat Unknown v u = storing-nat Unknown v u
+  writeRegister-nat : (k : Register) (v : ℕ) (u : Uart H W) → writeRegister k v (mapUart f g u) ≡ mapAccess itself f g (writeRegister k v u)
+  unfolding writeRegister mapAccess
+  writeRegister-nat Register.fifo v u = refl
+  writeRegister-nat Register.intClr v u = clearing-nat v u
+  writeRegister-nat Register.unknown v u = refl
+  writeRegister-nat (Register.shown s) v u = refl
+  writeRegister-nat (Register.stored x) v u =
+      ap (storing x v) (choose-nat (mapUart f g) _ (resetFifos-nat v u) refl) ∙ storing-nat x v _
 
   sent-nat : (now : ℕ) (b : W) (u : Uart H W) → sent now (g b) (mapUart f g u) ≡ mapAccess itself f g (sent now b u)
   unfolding sent goneAt mapAccess
@@ -194,7 +177,7 @@ module _ {H H′ W W′ : Type 0} (f : H → H′) (g : W → W′) where
       (settled-nat itself f g now _ _ _ (λ v. ap concluded (sendByte-nat now b v) ∙ concluded-nat itself f g _)))
   putting-nat now (Put.word p x) u =
       unless-nat itself f g _ _ _ _ _ u (λ r. refl)
-      (settled-nat itself f g now _ _ _ (λ v. ap concluded (writePlace-nat p x v) ∙ concluded-nat itself f g _))
+      (settled-nat itself f g now _ _ _ (λ v. ap concluded (writeRegister-nat p x v) ∙ concluded-nat itself f g _))
 
   -- ---- the host
 

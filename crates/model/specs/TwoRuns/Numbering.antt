@@ -1,25 +1,23 @@
 -- A list of calls with the numbers of its bytes in their place: the bytes looked up give the list back, and alike lists
 -- have one numbering. Assumes nothing.
-use mathlib.Core.Path.{_≡_, refl, sym, ap, ap₂, subst, _∙_}
+use mathlib.Core.Path.{_≡_, refl, sym, ap, ap₂, _∙_}
 use Prim.Native.Nat.{ℕ, zero, suc, _+_, _%_}
 use native.Mathlib.Nat.{add-zero, suc-ne-zero, suc-inj}
-use mathlib.Core.Bool.{Bool, true, false}
+use mathlib.Core.Bool.{Bool, true, false, decide}
 use mathlib.Core.List.{List, [], _∷_, _++_, map, flatMap, map-id}
 use lib.Dec.{eqb}
 use lib.ListN.{length, getD, drop}
 use lib.Seq.{getD-drop, drop-drop, drop-append-seam}
 use borrow.Author.Tests.{eq-eqb}
 use Rattle.model.specs.Numbers.{choose}
-use Rattle.model.specs.Registers.{placeAmong, placeOf}
-use Rattle.model.specs.Limits.{All, nil, cons}
+use Rattle.model.specs.Map.{Register, isFifo, registerAmong, registerOf}
+use Rattle.model.specs.Laws.Choose.{choose-true, choose-false}
+use Rattle.model.specs.Refuses.FifoPlace.{after-first}
 use Rattle.model.specs.Call.{Call, Written, Request}
 use Rattle.model.specs.TwoRuns.Placed.{Put, Placed, changed, putAt, placed}
 use Rattle.model.specs.TwoRuns.Alike.{Each, Alike, same, hostBytes, fifoWord, lentToTakeTx, lentToTakeWritten, hostOf, writesOf}
 use Rattle.model.specs.TwoRuns.Alike.{fifoByte, hostGiven, fifoWritten, itself, forget}
 use Rattle.model.specs.TwoRuns.NaturalCalls.{mapPut, mapPlaced}
-use Rattle.model.specs.declared.Place.{Place}
-use Rattle.model.specs.declared.Place.the-variants.{Fifo, IntRaw, IntSt, IntEna, IntClr, Clkdiv, Status, FsmStatus, Conf0, Conf1}
-use Rattle.model.specs.declared.Place.the-variants.{ClkConf, IdleConf, Rs485Conf, AtCmdChar, MemConf, MemRxStatus, Unknown}
 
 -- ---- laws of a call with other parts
 
@@ -74,32 +72,16 @@ module _ {R R′ X X′ H L : Type 0} (r : R → R′) (x : X → X′) where
   writes-changed Call.hasLeft = refl
   writes-changed Call.hostPending = refl
 
--- ---- the places other than FIFO
-
-abbrev pub otherPlaces : List Place
-otherPlaces =
-    IntRaw ∷ IntSt ∷ IntEna ∷ IntClr ∷ Clkdiv ∷ Status ∷ FsmStatus ∷ Conf0 ∷ Conf1 ∷ ClkConf ∷ IdleConf ∷ Rs485Conf ∷ AtCmdChar ∷ MemConf
-    ∷ MemRxStatus ∷ []
+-- ---- FIFO and the other registers
 
 module _ (fifo : ℕ) (others : List ℕ) where
-  -- what holds of every other place holds where the offset is not FIFO's
-  pub other-place : (P : Place → Type 0) → P Unknown → All P otherPlaces → (o : ℕ) → eqb o fifo ≡ false → P (placeOf (fifo ∷ others) o)
-  unfolding placeOf placeAmong choose
-  other-place P u ps o e = subst (λ b. P (choose b Fifo (placeAmong o others otherPlaces))) (sym e) (among otherPlaces others ps)
-    where
-      pick : (b : Bool) {p q : Place} → P p → P q → P (choose b p q)
-      pick true hp hq = hp
-      pick false hp hq = hq
+  pub other-place : (o : ℕ) → eqb o fifo ≡ false → isFifo (registerOf (fifo ∷ others) o) ≡ false
+  unfolding registerOf registerAmong
+  other-place o e = ap isFifo (choose-false _ _ e) ∙ after-first o others
 
-      among : (qs : List Place) (os : List ℕ) → All P qs → P (placeAmong o os qs)
-      among [] [] hs = u
-      among [] (o′ ∷ os) hs = u
-      among (q ∷ qs) [] hs = u
-      among (q ∷ qs) (o′ ∷ os) (cons h hs) = pick (eqb o o′) h (among qs os hs)
-
-  pub fifo-place : (o : ℕ) → eqb o fifo ≡ true → placeOf (fifo ∷ others) o ≡ Fifo
-  unfolding placeOf placeAmong choose
-  fifo-place o e = ap (λ b. choose b Fifo (placeAmong o others otherPlaces)) e
+  pub fifo-place : (o : ℕ) → eqb o fifo ≡ true → registerOf (fifo ∷ others) o ≡ Register.fifo
+  unfolding registerOf registerAmong
+  fifo-place o e = choose-true _ _ e
 
 -- ---- the numbered list
 
@@ -139,19 +121,14 @@ pub host-placed : (offsets : List ℕ) (cs : List Request) → flatMap hostOf (m
 host-placed offsets cs = flatMap-map hostOf (placed offsets) hostOf (host-of-placed offsets) cs
 
 module _ (fifo : ℕ) (others : List ℕ) where
-  put-placed : (x : Written) → putOf (putAt (placeOf (fifo ∷ others) (x .offset)) (x .value)) ≡ fifoByte fifo x
-  unfolding fifoByte choose putOf putAt
+  put-placed : (x : Written) → putOf (putAt (registerOf (fifo ∷ others) (x .offset)) (x .value)) ≡ fifoByte fifo x
+  unfolding fifoByte choose putOf putAt decide
   put-placed x = go (eqb (x .offset) fifo) refl
     where
-      go : (b : Bool) → eqb (x .offset) fifo ≡ b → putOf (putAt (placeOf (fifo ∷ others) (x .offset)) (x .value))
+      go : (b : Bool) → eqb (x .offset) fifo ≡ b → putOf (putAt (registerOf (fifo ∷ others) (x .offset)) (x .value))
           ≡ choose b (x .value % 256 ∷ []) []
       go true e = ap (λ p. putOf (putAt p (x .value))) (fifo-place fifo others (x .offset) e)
-      go false e =
-          other-place fifo others (λ p. putOf (putAt p (x .value)) ≡ []) refl
-          (cons refl (cons refl (cons refl (cons refl
-          (cons refl (cons refl (cons refl (cons refl
-          (cons refl (cons refl (cons refl (cons refl (cons refl (cons refl (cons refl nil)))))))))))))))
-          (x .offset) e
+      go false e = ap putOf (choose-false _ _ (other-place fifo others (x .offset) e))
 
   pub written-of-placed : (c : Request) → writtenOf (placed (fifo ∷ others) c) ≡ flatMap (fifoByte fifo) (writesOf c)
   unfolding writtenOf placed
@@ -212,8 +189,8 @@ forget-alike (a ∷ s) (b ∷ t) e = ap (λ r. tt ∷ r) (forget-alike s t (suc-
 
 module _ (fifo : ℕ) (others : List ℕ) where
   -- at FIFO's offset every word becomes a byte
-  put-fifo : (v : ℕ) → putAt (placeOf (fifo ∷ others) fifo) v ≡ Put.byte (v % 256)
-  unfolding putAt
+  put-fifo : (v : ℕ) → putAt (registerOf (fifo ∷ others) fifo) v ≡ Put.byte (v % 256)
+  unfolding putAt decide choose
   put-fifo v = ap (λ p. putAt p v) (fifo-place fifo others fifo (eq-eqb fifo fifo refl))
 
   module _ (h w : ℕ) where

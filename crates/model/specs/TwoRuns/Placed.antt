@@ -1,26 +1,25 @@
--- Calls whose offset has become a place, so that a write to FIFO carries a byte and every other a word; one such call is
+-- Calls whose offset has become a register, so that a write to FIFO carries a byte and every other a word; one such call is
 -- what a caller's call does. Assumes nothing.
 use mathlib.Core.Path.{_≡_, refl, ap}
 use Prim.Native.Nat.{ℕ, _%_}
 use mathlib.Core.List.{List}
+use Rattle.model.specs.Numbers.{choose}
 use Rattle.model.specs.State.{Uart}
-use Rattle.model.specs.Registers.{placeOf}
+use Rattle.model.specs.Map.{Register, isFifo, registerOf}
 use Rattle.model.specs.Calls
 use Rattle.model.specs.Calls.{Outcome, readPlaced, writePlaced, send, writeAt}
 use Rattle.model.specs.Call.{Call, Request}
 use Rattle.model.specs.Run.{Step, answering, stepBy, writing, step}
-use Rattle.model.specs.declared.Place.{Place}
-use Rattle.model.specs.declared.Place.the-variants.{Fifo, IntRaw, IntSt, IntEna, IntClr, Clkdiv, Status, FsmStatus, Conf0, Conf1}
-use Rattle.model.specs.declared.Place.the-variants.{ClkConf, IdleConf, Rs485Conf, AtCmdChar, MemConf, MemRxStatus, Unknown}
+use Rattle.model.specs.Laws.Choose.{choose-nat}
 use Rattle.model.specs.declared.Write.{Write}
 
--- what is written where: a byte to FIFO, or a word to another place
+-- what is written where: a byte to FIFO, or a word to another register
 pub data Put (W : Type 0) : Type 0 where
   byte : W → Put W
-  word : Place → ℕ → Put W
+  word : Register → ℕ → Put W
 
 abbrev pub Placed : (H W L : Type 0) → Type 0
-Placed H W L = Call Place (Put W) H L
+Placed H W L = Call Register (Put W) H L
 
 -- ---- a call with other parts
 
@@ -40,28 +39,12 @@ changed r x h l Call.hasLeft = Call.hasLeft
 changed r x h l Call.hostPending = Call.hostPending
 
 -- a FIFO write's byte is its word's low 8 bits
-unfoldable pub putAt : Place → ℕ → Put ℕ
-putAt Fifo v = Put.byte (v % 256)
-putAt IntRaw v = Put.word IntRaw v
-putAt IntSt v = Put.word IntSt v
-putAt IntEna v = Put.word IntEna v
-putAt IntClr v = Put.word IntClr v
-putAt Clkdiv v = Put.word Clkdiv v
-putAt Status v = Put.word Status v
-putAt FsmStatus v = Put.word FsmStatus v
-putAt Conf0 v = Put.word Conf0 v
-putAt Conf1 v = Put.word Conf1 v
-putAt ClkConf v = Put.word ClkConf v
-putAt IdleConf v = Put.word IdleConf v
-putAt Rs485Conf v = Put.word Rs485Conf v
-putAt AtCmdChar v = Put.word AtCmdChar v
-putAt MemConf v = Put.word MemConf v
-putAt MemRxStatus v = Put.word MemRxStatus v
-putAt Unknown v = Put.word Unknown v
+unfoldable pub putAt : Register → ℕ → Put ℕ
+putAt p v = choose (isFifo p) (Put.byte (v % 256)) (Put.word p v)
 
--- a caller's call with places for its offsets
+-- a caller's call with registers for its offsets
 unfoldable pub placed : List ℕ → Request → Placed ℕ ℕ ℕ
-placed offsets c = changed (placeOf offsets) (λ x. putAt (placeOf offsets (x .offset)) (x .value)) (λ bs. bs) (λ lent. lent) c
+placed offsets c = changed (registerOf offsets) (λ x. putAt (registerOf offsets (x .offset)) (x .value)) (λ bs. bs) (λ lent. lent) c
 
 module _ {H W : Type 0} where
   unfoldable pub putting : ℕ → Put W → Uart H W → Outcome Write H W
@@ -71,31 +54,15 @@ module _ {H W : Type 0} where
   unfoldable pub stepPlaced : {L : Type 0} → Placed H W L → Uart H W → Step H W L
   stepPlaced c u = stepBy readPlaced putting c u
 
-writeAt-placed : (now : ℕ) (p : Place) (v : ℕ) (u : Uart ℕ ℕ) → writeAt now p v u ≡ putting now (putAt p v) u
+writeAt-placed : (now : ℕ) (p : Register) (v : ℕ) (u : Uart ℕ ℕ) → writeAt now p v u ≡ putting now (putAt p v) u
 unfolding writeAt putting putAt
-writeAt-placed now Fifo v u = refl
-writeAt-placed now IntRaw v u = refl
-writeAt-placed now IntSt v u = refl
-writeAt-placed now IntEna v u = refl
-writeAt-placed now IntClr v u = refl
-writeAt-placed now Clkdiv v u = refl
-writeAt-placed now Status v u = refl
-writeAt-placed now FsmStatus v u = refl
-writeAt-placed now Conf0 v u = refl
-writeAt-placed now Conf1 v u = refl
-writeAt-placed now ClkConf v u = refl
-writeAt-placed now IdleConf v u = refl
-writeAt-placed now Rs485Conf v u = refl
-writeAt-placed now AtCmdChar v u = refl
-writeAt-placed now MemConf v u = refl
-writeAt-placed now MemRxStatus v u = refl
-writeAt-placed now Unknown v u = refl
+writeAt-placed now p v u = choose-nat (λ (x : Put ℕ). putting now x u) (isFifo p) refl refl
 
 -- a caller's call does what the placed one does
 pub step-placed : (c : Request) (u : Uart ℕ ℕ) → step c u ≡ stepPlaced (placed (u .map .offsets) c) u
 unfolding step stepPlaced placed changed stepBy writing Calls.read Calls.write
 step-placed (Call.read now o) u = refl
-step-placed (Call.write now x) u = ap (answering _) (writeAt-placed now (placeOf (u .map .offsets) (x .offset)) (x .value) u)
+step-placed (Call.write now x) u = ap (answering _) (writeAt-placed now (registerOf (u .map .offsets) (x .offset)) (x .value) u)
 step-placed (Call.receive now at bs) u = refl
 step-placed (Call.wake now) u = refl
 step-placed (Call.reset now) u = refl

@@ -2,26 +2,25 @@
 -- the host. Assumes nothing.
 use mathlib.Core.Path.{_≡_, refl, sym, subst}
 use Prim.Native.Nat.{ℕ}
-use mathlib.Core.Bool.{Bool, true, false}
+use mathlib.Core.Bool.{Bool, true, false, decide}
 use mathlib.Core.Option.{Option, none, some}
 use mathlib.Core.List.{List, [], _∷_, map}
 use lib.Dec.{eqb}
 use lib.ListN.{length, length-map}
 use lib.Seq.{take-at}
 use Rattle.model.specs.State.{Uart, lineOf}
-use Rattle.model.specs.Limits.{nil, cons}
 use Rattle.model.specs.Replies.{refused, notices, report}
-use Rattle.model.specs.Registers.{placeOf, loaded, looks, pop, gives, readPlace, readLooking, readAt}
+use Rattle.model.specs.Map.{Register, sameRegister, registerOf}
+use Rattle.model.specs.Registers.{looks, pop, readRegister, readLooking, readAt}
 use Rattle.model.specs.Tests.{refuseDate}
 use Rattle.model.specs.Calls.{refusing, unless, afterSettling, settleAt, readWork, readPlaced}
 use Rattle.model.specs.Call.{Call, Request, reads}
 use Rattle.model.specs.Run.{answering, stepBy, runBy}
+use Rattle.model.specs.Ends.Passes.{apart}
 use Rattle.model.specs.TwoRuns.Placed.{changed, placed, stepPlaced}
 use Rattle.model.specs.TwoRuns.Alike.{Each}
 use Rattle.model.specs.TwoRuns.Numbering.{other-place, fifo-place, numbered, number}
 use Rattle.model.specs.TwoRuns.Agree.{byteRead, bytesRead, bytesSent, readsFifo, noted, mistimed, noticesOf, Shape}
-use Rattle.model.specs.declared.Place.{Place}
-use Rattle.model.specs.declared.Place.the-variants.{Fifo}
 use Rattle.model.specs.declared.Refusal.{Refusal}
 use Rattle.model.specs.declared.Source.{Source}
 use Rattle.model.specs.declared.Unsupported.{Unsupported}
@@ -43,52 +42,53 @@ module _ (fifo : ℕ) (c : Request) (e : readsFifo fifo c ≡ true) where
   pop-shape passes overflows s [] u = Shape.fifoEmpty s e (noted-report passes overflows _ _)
   pop-shape passes overflows s (b ∷ bs) u = Shape.fifoByte s e (noted-report passes overflows _ _)
 
-  fifo-shape : (now : ℕ) (u : Uart ℕ ℕ) → Shape fifo c (stepPlaced (Call.read now Fifo) u .answer)
-  unfolding stepPlaced stepBy answering readPlaced unless refusing readWork afterSettling readAt looks readLooking readPlace mistimed
+  fifo-shape : (now : ℕ) (u : Uart ℕ ℕ) → Shape fifo c (stepPlaced (Call.read now Register.fifo) u .answer)
+  unfolding stepPlaced stepBy answering readPlaced unless refusing readWork afterSettling readAt looks decide readLooking readRegister
+      mistimed
   fifo-shape now u = go (refuseDate now (u .control) none)
     where
       go : (o : Option Refusal) → Shape fifo c (record {
-        reply = reads (unless o refused (readWork now Fifo) u .reply);
-        report = unless o refused (readWork now Fifo) u .report;
+        reply = reads (unless o refused (readWork now Register.fifo) u .reply);
+        report = unless o refused (readWork now Register.fifo) u .report;
       })
       go (some r) = Shape.fifoRefused e
       go none = pop-shape _ _ (lineOf (settleAt now u .state) .«rx_mistimed») (settleAt now u .state .rx) _
 
--- ---- a read of another place
+-- ---- a read of another register
 
-abbrev NoByte : Place → Type 0
-NoByte p = (ns : List Unsupported) (u : Uart ℕ ℕ) → byteRead (readPlace ns p u .reply) ≡ []
+abbrev NoByte : Register → Type 0
+NoByte k = (ns : List Unsupported) (u : Uart ℕ ℕ) → byteRead (readRegister ns k u .reply) ≡ []
 
-looking-noByte : (p : Place) → NoByte p → (b : Bool) (u : Uart ℕ ℕ) → byteRead (readLooking b p u .reply) ≡ []
+-- only FIFO gives a byte
+register-noByte : (k : Register) → sameRegister k Register.fifo ≡ false → NoByte k
+unfolding readRegister byteRead decide
+register-noByte Register.fifo e ns u = apart (cc)
+register-noByte Register.intClr e ns u = refl
+register-noByte Register.unknown e ns u = refl
+register-noByte (Register.shown s) e ns u = refl
+register-noByte (Register.stored x) e ns u = refl
+
+looking-noByte : (k : Register) → NoByte k → (b : Bool) (u : Uart ℕ ℕ) → byteRead (readLooking b k u .reply) ≡ []
 unfolding readLooking
-looking-noByte p k true u = k _ _
-looking-noByte p k false u = k _ _
+looking-noByte k n true u = n _ _
+looking-noByte k n false u = n _ _
 
-placed-noByte : (p : Place) → NoByte p → (now : ℕ) (u : Uart ℕ ℕ) → byteRead (readPlaced now p u .reply) ≡ []
+placed-noByte : (p : Register) → NoByte p → (now : ℕ) (u : Uart ℕ ℕ) → byteRead (readPlaced now p u .reply) ≡ []
 unfolding readPlaced unless refusing readWork afterSettling readAt byteRead
-placed-noByte p k now u = go (refuseDate now (u .control) none)
+placed-noByte p n now u = go (refuseDate now (u .control) none)
   where
     go : (o : Option Refusal) → byteRead (unless o refused (readWork now p) u .reply) ≡ []
     go (some r) = refl
-    go none = looking-noByte p k (looks p) (settleAt now u .state)
+    go none = looking-noByte p n _ (settleAt now u .state)
 
 -- ---- every call
 
 module _ (fifo : ℕ) (others : List ℕ) where
-  -- only FIFO gives a byte
-  other-noByte : (o : ℕ) → eqb o fifo ≡ false → NoByte (placeOf (fifo ∷ others) o)
-  unfolding readPlace gives loaded byteRead
-  other-noByte o e =
-      other-place fifo others NoByte nothing
-      (cons nothing (cons nothing (cons nothing (cons nothing (cons nothing (cons nothing (cons nothing (cons nothing
-      (cons nothing (cons nothing (cons nothing (cons nothing (cons nothing (cons nothing (cons nothing nil)))))))))))))))
-      o e
-    where
-      nothing : (ns : List Unsupported) (u : Uart ℕ ℕ) → _≡_ {A = List ℕ} [] []
-      nothing ns u = refl
+  other-noByte : (o : ℕ) → eqb o fifo ≡ false → NoByte ((registerOf (fifo ∷ others) o))
+  other-noByte o e = register-noByte _ (other-place fifo others o e)
 
   read-shape : (now o : ℕ) (u : Uart ℕ ℕ) (b : Bool) → eqb o fifo ≡ b
-      → Shape fifo (Call.read now o) (stepPlaced (Call.read now (placeOf (fifo ∷ others) o)) u .answer)
+      → Shape fifo (Call.read now o) (stepPlaced (Call.read now (registerOf (fifo ∷ others) o)) u .answer)
   unfolding readsFifo stepPlaced stepBy answering bytesRead bytesSent
   read-shape now o u true e =
       subst (λ p. Shape fifo (Call.read now o) (stepPlaced (Call.read now p) u .answer)) (sym (fifo-place fifo others o e))

@@ -1,15 +1,16 @@
 -- `load::read_place` meets its contract: a mistimed reception is told of where the firmware looks, and then the byte or the word is
 -- given. Assumes nothing.
-use mathlib.Core.Path.{refl}
+use mathlib.Core.Path.{_≡_, refl, ap}
+use mathlib.Core.Bool.{false, decide}
 use mathlib.Core.List.{[], _∷_}
 use Prim.Native.Nat.{_≤_}
-use Rattle.model.specs.Registers.{readPlace}
-use Rattle.model.specs.Settle.{intStatus}
+use Rattle.model.specs.Map.{isFifo}
 use Rattle.model.specs.Laws.Choose.{choose-ind}
 use Rattle.queue.specs.Cursors.{Held}
 use Rattle.device.specs.declared.Core.{Core}
+use Rattle.registers.specs.Places.{registerAt}
 use Rattle.registers.proofs.Tags.{place-keys}
-use Rattle.access.specs.Reads.{wordAt, Words, status-words, fsm-words, reads-fifo, reads-word}
+use Rattle.access.specs.Reads.{reads-fifo, reads-word}
 use borrow.Author.Needs.{needs}
 use Rattle.access.proofs.load.read_place.Statement.{statement}
 use Rattle.access.proofs.load.read_place.Tie as tie
@@ -39,49 +40,22 @@ word-at-requires c κs =
     (λ _. (pre .0 .few, pre .1 .few)))
 
 returns : tie.Need-returns
+unfolding registerAt
 returns c = λ a e k.
     let at = c .before .before .before in
     reads-fifo _ _ a k (at .before .before .before .before .before .looks .ensures) (at .before .before .mistimed-at .ensures)
-    (at .before .receive-clock-notices .ensures) (at .forget-mistimed .ensures) (c .before .enum-told .given .1) e (c .pop .ensures)
+    (at .before .receive-clock-notices .ensures) (at .forget-mistimed .ensures) (ap registerAt (c .before .enum-told .given .1)) e
+    (c .pop .ensures)
 
 returns-2 : tie.Need-returns-2
-unfolding readPlace wordAt intStatus
+unfolding registerAt decide
 returns-2 c = λ a e k.
     let at = c .before .before in
     let place = c .before .before .before .before .before .before .before .before .args .place in
     reads-word _ _ a k (at .before .before .before .before .before .looks .ensures) (at .before .before .mistimed-at .ensures)
     (at .before .receive-clock-notices .ensures) (at .forget-mistimed .ensures)
-    (place-keys Words 1 (2 ∷ 3 ∷ 4 ∷ 5 ∷ 6 ∷ 7 ∷ 8 ∷ 9 ∷ 10 ∷ 11 ∷ 12 ∷ 13 ∷ 14 ∷ 15 ∷ 16 ∷ []) place (
-      λ _ _ _. refl,
-      (
-        λ _ _ _. refl,
-        (
-          λ _ _ _. refl,
-          (
-            λ _ _ _. refl,
-            (
-              λ _ _ _. refl,
-              (
-                status-words,
-                (
-                  fsm-words,
-                  (
-                    λ _ _ _. refl,
-                    (
-                      λ _ _ _. refl,
-                      (
-                        λ _ _ _. refl,
-                        (λ _ _ _. refl, (λ _ _ _. refl, (λ _ _ _. refl, (λ _ _ _. refl, (λ _ _ _. refl, (λ _ _ _. refl, tt)))))),
-                      ),
-                    ),
-                  ),
-                ),
-              ),
-            ),
-          ),
-        ),
-      ),
-    )
+    (place-keys (λ p. isFifo (registerAt p) ≡ false) 1 (2 ∷ 3 ∷ 4 ∷ 5 ∷ 6 ∷ 7 ∷ 8 ∷ 9 ∷ 10 ∷ 11 ∷ 12 ∷ 13 ∷ 14 ∷ 15 ∷ 16 ∷ []) place
+    (refl, (refl, (refl, (refl, (refl, (refl, (refl, (refl, (refl, (refl, (refl, (refl, (refl, (refl, (refl, (refl, tt))))))))))))))))
     (c .before .match .keys2))
     (c .word-at .ensures)
 

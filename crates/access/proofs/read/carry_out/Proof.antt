@@ -3,6 +3,7 @@ use mathlib.Core.Path.{refl}
 use Rattle.model.specs.Replies.{asRead}
 use Rattle.model.specs.Registers.{readAt}
 use Rattle.model.specs.Calls.{readWork}
+use Rattle.registers.specs.Places.{registerAt}
 use Rattle.calls.specs.Answers.{after}
 use borrow.Author.Needs.{needs}
 use Rattle.access.proofs.read.carry_out.Statement.{statement}
@@ -16,7 +17,7 @@ unfolding readWork
 returns c =
     let s = c .before .before .before .before .before .before .settle-at .ensures in
     rw (c .answer .ensures) (after asRead s (readAt
-    (c .before .before .before .before .before .before .before .before .before .before .args .place))
+    (registerAt (c .before .before .before .before .before .before .before .before .before .before .args .place)))
     (c .before .before .before .read-place .ensures _ refl (s .ok .shape)))
 
 pub carry-out-spec : {M : Type 1} → statement M

@@ -1,6 +1,7 @@
 -- `read::read` meets its contract: refused as the tests say, or carried out at the place of the offset. Assumes nothing.
 use mathlib.Core.Option.{none}
-use Rattle.model.specs.Registers.{placeOf, readAt}
+use Rattle.model.specs.Map.{registerOf}
+use Rattle.model.specs.Registers.{readAt}
 use Rattle.model.specs.Calls.{afterSettling, readWork}
 use Rattle.model.specs.Calls
 use Rattle.model.specs.Replies.{refused, asRead, readNumber}
@@ -40,9 +41,9 @@ unfolding Calls.read asRead
 returns c =
     let start = c .before .before .before .before .before .before .before .before .before in
     let o = start .args in
-    let place = placeOf (o .core .map .offsets) (o .offset) in
+    let register = registerOf (o .core .map .offsets) (o .offset) in
     rw (c .refuse .ensures)
-    (turned-away asRead readNumber refused (readWork (o .cycle) place) _ _ (read-tests (o .cycle) _ place)
+    (turned-away asRead readNumber refused (readWork (o .cycle) register) _ _ (read-tests (o .cycle) _ register)
     (refuses (c .before .before .before .before .date-refusal .ensures) (c .before .before .tests .given .1)) (start .pre))
 
 returns-2 : tie.Need-returns-2
@@ -50,11 +51,11 @@ unfolding Calls.read readWork afterSettling readAt
 returns-2 c =
     let start = c .before .before .before .before .before .before .before .before .before .before .before in
     let o = start .args in
-    let place = placeOf (o .core .map .offsets) (o .offset) in
+    let register = registerOf (o .core .map .offsets) (o .offset) in
     let tests =
     passes (c .before .before .before .before .before .before .date-refusal .ensures)
     (c .before .before .before .before .enum-told .given .1) in
-    carried asRead readNumber refused (readWork (o .cycle) place) _ _ (read-tests (o .cycle) _ place) tests
+    carried asRead readNumber refused (readWork (o .cycle) register) _ _ (read-tests (o .cycle) _ register) tests
     (read-within (o .cycle) (o .offset) _ (start .pre .within)) (looking-proper _ _ _ .zero)
     (rw (c .before .before .before .before .before .before .before .before .place-of .ensures) at (c .carry-out .ensures))
 

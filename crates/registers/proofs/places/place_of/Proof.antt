@@ -4,26 +4,25 @@ use Prim.Native.Nat.{_≤_, _-_}
 use native.Mathlib.Omega.{arith}
 use lib.ListN.{length}
 use borrow.Author.Needs.{needs}
-use Rattle.model.specs.Registers.{places, placeOf}
-use Rattle.model.specs.declared.Place.{Place}
-use Rattle.registers.specs.Places.{placeFrom, place-found, place-passed, place-end, any-default}
+use Rattle.model.specs.Map.{registers, registerOf}
+use Rattle.registers.specs.Places.{registerAt, nth-register, registerFrom, register-found, register-passed, register-end}
 use Rattle.registers.proofs.places.place_of.Statement.{statement}
 use Rattle.registers.proofs.places.place_of.Tie as tie
 
 abbrev Inv-loop : tie.InvT-loop
-Inv-loop offset offsets at₀ at = (at ≤ 16) × (length offsets ≡ 16) × (placeFrom at offset offsets places ≡ placeOf offsets offset)
+Inv-loop offset offsets at₀ at = (at ≤ 16) × (length offsets ≡ 16) × (registerFrom at offset offsets registers ≡ registerOf offsets offset)
 
 abbrev μ-loop : tie.MeasureT-loop
 μ-loop offset offsets at₀ at = 16 - at
 
 loop-holds : tie.Need-loop-holds Inv-loop μ-loop
-unfolding placeOf
+unfolding registerOf
 loop-holds c = (omega arith, omega arith, refl)
 
 returns : tie.Need-returns Inv-loop μ-loop
 returns c =
-    any-default places (c .before .before .before .loop .at) _ Place.Unknown (omega arith)
-    ∙ place-found (c .before .before .before .loop .at) (c .before .before .before .before .args .offset) _ places (omega arith)
+    nth-register (c .before .before .before .loop .at) _ (omega arith)
+    ∙ register-found (c .before .before .before .loop .at) (c .before .before .before .before .args .offset) _ registers (omega arith)
     (omega arith) (c .before .if1 .taken)
     ∙ c .before .before .before .loop .inv .2
 
@@ -31,12 +30,13 @@ loop-again : tie.Need-loop-again Inv-loop μ-loop
 loop-again c = (
   omega arith,
   c .before .before .loop .inv .1,
-  sym (place-passed (c .before .before .loop .at) (c .before .before .before .args .offset) _ places (omega arith) (omega arith)
+  sym (register-passed (c .before .before .loop .at) (c .before .before .before .args .offset) _ registers (omega arith) (omega arith)
       (c .if1 .left)) ∙ c .before .before .loop .inv .2,
 )
 
 returns-2 : tie.Need-returns-2 Inv-loop μ-loop
-returns-2 c = place-end (c .before .loop .at) _ _ places (omega arith) ∙ c .before .loop .inv .2
+unfolding registerAt
+returns-2 c = register-end (c .before .loop .at) _ _ registers (omega arith) ∙ c .before .loop .inv .2
 
 pub place-of-spec : {M : Type 1} → statement M
 place-of-spec =
