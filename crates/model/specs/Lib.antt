@@ -23,3 +23,4 @@ pub mod Refuses
 pub mod TwoRuns
 pub mod MeetsManual
 pub mod ShutsOut
+pub mod TwoSteps
