@@ -6,6 +6,7 @@ pub mod Departures
 pub mod Levels
 pub mod Later
 pub mod Bare
+pub mod Moves
 pub mod ClockOff
 pub mod Exception
 pub mod Together

@@ -16,7 +16,8 @@ use Rattle.model.specs.Laws.Cases.{KeptOnLine, pass-cases, passes-ind}
 use Rattle.model.specs.Ends.Passes.{After, timeOut-closes}
 use Rattle.model.specs.Ends.Through.{Through, ends, goes, through, through-quiet}
 use Rattle.model.specs.TwoSteps.Later.{due-later}
-use Rattle.model.specs.TwoSteps.Bare.{bare, passes-bare}
+use Rattle.model.specs.TwoSteps.Bare.{bare}
+use Rattle.model.specs.TwoSteps.Moves.{passes-bare}
 use Rattle.model.specs.declared.Date.{Date}
 use Rattle.model.specs.declared.Date.the-variants.{None, At}
 use Rattle.model.specs.declared.Line.{Line}

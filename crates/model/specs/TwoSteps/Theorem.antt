@@ -20,7 +20,8 @@ use Rattle.model.specs.Keeps.Kept.{settle-keeps}
 use Rattle.model.specs.TwoSteps.Among.{landingsIn, departuresIn, landings-append, departures-append, overflows-land}
 use Rattle.model.specs.TwoSteps.Among.{landings-settled, departures-settled}
 use Rattle.model.specs.TwoSteps.Departures.{departures-twice}
-use Rattle.model.specs.TwoSteps.Bare.{bare, passes-bare}
+use Rattle.model.specs.TwoSteps.Bare.{bare}
+use Rattle.model.specs.TwoSteps.Moves.{passes-bare}
 use Rattle.model.specs.TwoSteps.Exception.{Exception, passes-agree}
 use Rattle.model.specs.TwoSteps.Together.{between, settled-state, first-events, second-events}
 use Rattle.model.specs.TwoSteps.Differs.{looked, looked-within, looked-exception, looked-differs}

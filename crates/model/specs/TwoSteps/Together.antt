@@ -3,46 +3,38 @@
 use mathlib.Core.Path.{_≡_, refl, sym, ap, ap₂, _∙_}
 use Prim.Native.Nat.{ℕ, _^_, _≤_}
 use native.Mathlib.Omega.{arith}
-use mathlib.Core.List.{List, [], _∷_, _++_}
+use mathlib.Core.Bool.{true}
+use mathlib.Core.List.{[], _++_}
 use lib.ListN.{length, take, length-drop, length-append}
 use Rattle.model.specs.State.{Uart, withIntRaw, withControl, withLine, withLevel, lineOf}
 use Rattle.model.specs.Timing.{settings}
-use Rattle.model.specs.Line.{TX-DONE, raiseIf, fate}
-use Rattle.model.specs.Settle.{gone, txDone, leave, depart, departures, received, timedOut, landed, begun, passes}
+use Rattle.model.specs.Line.{TX-DONE, raiseIf}
+use Rattle.model.specs.Settle.{gone, txDone, leave, depart, departures, pass, passes}
 use Rattle.model.specs.Settle.{assertLevels, drive, levels, leveled, settingsOf, settleTo}
 use Rattle.model.specs.Laws.Choose.{choose-nat}
-use Rattle.model.specs.Laws.Cases.{KeptOnLine, passes-ind}
+use Rattle.model.specs.Laws.Cases.{passes-on}
 use Rattle.model.specs.Ends.Passes.{Kept}
 use Rattle.model.specs.Ends.Through.{through, through-kept}
+use Rattle.model.specs.ShutsOut.Landings.{pass-grows}
 use Rattle.model.specs.TwoSteps.Among.{asDepartures}
 use Rattle.model.specs.TwoSteps.Dressed.{dressed, passes-dressed}
 use Rattle.model.specs.TwoSteps.Departures.{departing, depart-dressed, depart-twice}
 use Rattle.model.specs.TwoSteps.Levels.{leveling, levels-dressed, levels-again}
 use Rattle.model.specs.declared.Settings.{Settings}
-use Rattle.model.specs.declared.Fate.{Fate}
-use Rattle.model.specs.declared.Fate.the-variants.{Stored, Overflowed, Cleared, ClockOff, Unheard}
 
--- ---- the receive FIFO only grows
-
-received-grows : {H : Type 0} (n : ℕ) (f : Fate) (b : H) (held : List H) → n ≤ length held → n ≤ length (received f b held)
-unfolding received
-received-grows n Stored b held h = omega (arith, length-append held (b ∷ []))
-received-grows n Overflowed b held h = h
-received-grows n Cleared b held h = h
-received-grows n ClockOff b held h = h
-received-grows n Unheard b held h = h
+-- ---- what passes and departures do to each other
 
 module _ {H W : Type 0} (s : Settings) (date : ℕ) (u : Uart H W) where
-  grows-kept : (n : ℕ) → KeptOnLine {H = H} {W = W} s (λ v. n ≤ length (v .rx))
-  unfolding timedOut landed begun
-  grows-kept n = record {
-    timeout = λ v p. p;
-    landing = λ l v p. received-grows n (fate s (length (v .rx)) (l .frame)) (l .byte) (v .rx) p;
-    start = λ at b bs v e h p. p;
-  }
+  -- the receive FIFO only grows
+  pass-grow : (v : Uart H W) → length (v .rx) ≤ length (pass s date v .state .rx)
+  pass-grow v =
+      let (more, e) = pass-grows s date v in
+      omega (arith, ap length e, length-append (v .rx) more)
 
   passes-grow : length (u .rx) ≤ length (passes s date u .state .rx)
-  passes-grow = passes-ind s (λ v. length (u .rx) ≤ length (v .rx)) (grows-kept (length (u .rx))) date u (omega arith)
+  unfolding passes
+  passes-grow =
+      passes-on (λ (v w : Uart H W). length (v .rx) ≤ length (w .rx)) s date (λ v. omega arith) (λ v w x p q. omega arith) pass-grow _ true u
 
   passes-kept : Kept u (passes s date u .state)
   passes-kept = through-kept s date (through s date u)
