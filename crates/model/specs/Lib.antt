@@ -24,3 +24,4 @@ pub mod Refuses
 pub mod TwoRuns
 pub mod MeetsManual
 pub mod ShutsOut
+pub mod TwoSteps

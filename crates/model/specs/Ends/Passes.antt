@@ -145,11 +145,11 @@ start-timeout s at l date =
     → afterDate (s .«timeout_time») (x .«idle_since») ≡ timeoutAt s l) (s .«rx_sclk_en»)
     (λ _ h. let e : None ≡ At (h .at) = h .is in apart (cc)) (λ _ _. refl)
 
-timeOut-closes : (s : Settings) (held : ℕ) (l : Line) → timeOut s held l .«idle_since» ≡ None
+pub timeOut-closes : (s : Settings) (held : ℕ) (l : Line) → timeOut s held l .«idle_since» ≡ None
 unfolding timeOut raiseIf noteSource
 timeOut-closes s held l = choose-ind (λ (x : Line). x .«idle_since» ≡ None) _ (λ _. refl) (λ _. refl)
 
-land-free : (s : Settings) (f : Fate) (fr : Frame) (l : Line) → land s f fr l .«line_free_at» ≡ l .«line_free_at»
+pub land-free : (s : Settings) (f : Fate) (fr : Frame) (l : Line) → land s f fr l .«line_free_at» ≡ l .«line_free_at»
 unfolding land Line.opened raiseIf noteSource
 land-free s Stored fr l = refl
 land-free s Overflowed fr l = refl

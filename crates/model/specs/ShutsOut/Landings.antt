@@ -83,7 +83,7 @@ module _ {H : Type 0} where
   received-grows ClockOff b held = as-it-was held
   received-grows Unheard b held = as-it-was held
 
-pass-grows : {H W : Type 0} (s : Settings) (date : ℕ) (u : Uart H W) → Grown (u .rx) (pass s date u .state .rx)
+pub pass-grows : {H W : Type 0} (s : Settings) (date : ℕ) (u : Uart H W) → Grown (u .rx) (pass s date u .state .rx)
 unfolding timedOut nothingDue landed begun
 pass-grows s date =
     pass-cases s date (λ (u : Uart _ _) (p : Pass _ _). Grown (u .rx) (p .state .rx)) (λ u _. as-it-was (u .rx)) (λ u. as-it-was (u .rx))

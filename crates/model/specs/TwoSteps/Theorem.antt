@@ -1,0 +1,147 @@
+-- A settling at an earlier date, and then one at a later, is the settling at the later date:
+-- 1. the same bytes leave and land, each with its date and its fate, and overflows add up: from every state;
+-- 2. the queues, what is in flight and sent, the byte on the line and when the line is free are the same: from every state;
+-- 3. the whole state is the same, within the limits and outside `Exception`;
+-- 4. in `Exception` it can differ.
+-- Each to the subcycle (`settleTo`) and at cycles, after power-down no later than that (`settle`). Assumes nothing.
+use mathlib.Core.Path.{_≡_, sym, ap, ap₂, subst, _∙_}
+use Prim.Native.Nat.{ℕ, _+_, _≤_}
+use native.Mathlib.Omega.{arith}
+use mathlib.Core.List.{List, _++_}
+use Rattle.dates.specs.Dates.{subcycles}
+use Rattle.model.specs.State.{Uart, lineOf}
+use Rattle.model.specs.Events.{Event, overflowsIn}
+use Rattle.model.specs.Line.{raiseIf}
+use Rattle.model.specs.Settle.{depart, passes, assertLevels, drive, noLaterThan, settlingDate, levels, leveled}
+use Rattle.model.specs.Settle.{settingsOf, settleTo, settle}
+use Rattle.model.specs.Limits.{Within}
+use Rattle.model.specs.Laws.Events.{overflows-append}
+use Rattle.model.specs.Keeps.Kept.{settle-keeps}
+use Rattle.model.specs.TwoSteps.Among.{landingsIn, departuresIn, landings-append, departures-append, overflows-land}
+use Rattle.model.specs.TwoSteps.Among.{landings-settled, departures-settled}
+use Rattle.model.specs.TwoSteps.Departures.{departures-twice}
+use Rattle.model.specs.TwoSteps.Bare.{bare}
+use Rattle.model.specs.TwoSteps.Moves.{passes-bare}
+use Rattle.model.specs.TwoSteps.Exception.{Exception, passes-agree}
+use Rattle.model.specs.TwoSteps.Together.{between, settled-state, first-events, second-events}
+use Rattle.model.specs.TwoSteps.Differs.{looked, looked-within, looked-exception, looked-differs}
+use Rattle.model.specs.declared.Date.{Date}
+use Rattle.model.specs.declared.Date.the-variants.{None, At}
+
+-- the queues, what is in flight and sent, the byte on the line with its frame, and when the line is free
+pub record SameQueues {H W : Type 0} (u v : Uart H W) : Type 0 where
+  pub rx : u .rx ≡ v .rx
+  pub host : u .host ≡ v .host
+  pub hostRuns : u .hostRuns ≡ v .hostRuns
+  pub receiving : u .receiving ≡ v .receiving
+  pub lineFreeAt : lineOf u .«line_free_at» ≡ lineOf v .«line_free_at»
+  pub inFlight : u .inFlight ≡ v .inFlight
+  pub tx : u .tx ≡ v .tx
+
+-- levels move none of these
+same-levels : {H W : Type 0} (u v : Uart H W) → bare u ≡ bare v → SameQueues (levels u) (levels v)
+unfolding levels assertLevels drive raiseIf
+same-levels u v e = record {
+  rx = ap (λ w. w .rx) e;
+  host = ap (λ w. w .host) e;
+  hostRuns = ap (λ w. w .hostRuns) e;
+  receiving = ap (λ w. w .receiving) e;
+  lineFreeAt = ap (λ w. lineOf w .«line_free_at») e;
+  inFlight = ap (λ w. w .inFlight) e;
+  tx = ap (λ w. w .tx) e;
+}
+
+-- ---- to the subcycle
+
+module _ {H W : Type 0} (a b : ℕ) (u : Uart H W) (le : a ≤ b) where
+  abbrev both : List (Event H W)
+  both = settleTo a u .events ++ settleTo b (settleTo a u .state) .events
+
+  -- 1. landings: dates, bytes and fates, in order
+  pub settleTo-landings : landingsIn both ≡ landingsIn (settleTo b u .events)
+  unfolding settleTo leveled
+  settleTo-landings =
+      landings-append (settleTo a u .events) (settleTo b (settleTo a u .state) .events)
+      ∙ ap₂ (λ x y. x ++ y)
+      (ap landingsIn (first-events a b le u) ∙ landings-settled a u _)
+      (ap landingsIn (second-events a b le u) ∙ landings-settled b (depart a u) _)
+      ∙ passes-bare (settingsOf u) a b le (depart b u) .0
+      ∙ sym (landings-settled b u (passes (settingsOf u) b (depart b u) .events))
+
+  -- 1. departures: dates and bytes, in order
+  pub settleTo-departures : departuresIn both ≡ departuresIn (settleTo b u .events)
+  unfolding settleTo leveled
+  settleTo-departures =
+      departures-append (settleTo a u .events) (settleTo b (settleTo a u .state) .events)
+      ∙ ap₂ (λ x y. x ++ y)
+      (ap departuresIn (first-events a b le u) ∙ departures-settled a u (settingsOf u) a (depart b u))
+      (ap departuresIn (second-events a b le u) ∙ departures-settled b (depart a u) (settingsOf u) b (between a b le u))
+      ∙ departures-twice a b le u
+      ∙ sym (departures-settled b u (settingsOf u) b (depart b u))
+
+  -- 1. overflows add up
+  pub settleTo-overflows : overflowsIn (settleTo a u .events) + overflowsIn (settleTo b (settleTo a u .state) .events)
+      ≡ overflowsIn (settleTo b u .events)
+  settleTo-overflows =
+      sym (overflows-append (settleTo a u .events) (settleTo b (settleTo a u .state) .events))
+      ∙ sym (overflows-land both) ∙ ap overflowsIn settleTo-landings ∙ overflows-land (settleTo b u .events)
+
+  -- 2. from every state, the exception too
+  pub settleTo-queues : SameQueues (settleTo b (settleTo a u .state) .state) (settleTo b u .state)
+  unfolding settleTo leveled
+  settleTo-queues =
+      subst (λ v. SameQueues v (settleTo b u .state)) (sym (settled-state a b le u))
+      (same-levels _ _ (passes-bare (settingsOf u) a b le (depart b u) .1))
+
+  -- 3. the whole state
+  pub settleTo-unexcepted : Within u → ¬ Exception u → settleTo b (settleTo a u .state) .state ≡ settleTo b u .state
+  unfolding settleTo leveled
+  settleTo-unexcepted w n = settled-state a b le u ∙ ap levels (passes-agree u w n a b le b)
+
+-- ---- at cycles
+
+-- a later cycle settles no earlier
+no-later : (m n : ℕ) (d : Date) → m ≤ n → noLaterThan d (subcycles m) ≤ noLaterThan d (subcycles n)
+unfolding noLaterThan
+no-later m n None le = omega arith
+no-later m n (At t) le = omega arith
+
+module _ {H W : Type 0} (m n : ℕ) (u : Uart H W) (le : m ≤ n) where
+  abbrev dateOf : ℕ → ℕ
+  dateOf now = settlingDate now (u .control)
+
+  dates : dateOf m ≤ dateOf n
+  unfolding settlingDate
+  dates = no-later m n (u .control .«powered_down_at») le
+
+  -- a settling does not move the date of power-down
+  again : settle n (settle m u .state) ≡ settleTo (dateOf n) (settleTo (dateOf m) u .state)
+  unfolding settle settlingDate
+  again = ap (λ d. settleTo (noLaterThan d (subcycles n)) (settle m u .state)) (settle-keeps m u .poweredDownAt)
+
+  pub settle-landings : landingsIn (settle m u .events ++ settle n (settle m u .state) .events) ≡ landingsIn (settle n u .events)
+  unfolding settle
+  settle-landings = ap (λ t. landingsIn (settle m u .events ++ t .events)) again ∙ settleTo-landings (dateOf m) (dateOf n) u dates
+
+  pub settle-departures : departuresIn (settle m u .events ++ settle n (settle m u .state) .events) ≡ departuresIn (settle n u .events)
+  unfolding settle
+  settle-departures = ap (λ t. departuresIn (settle m u .events ++ t .events)) again ∙ settleTo-departures (dateOf m) (dateOf n) u dates
+
+  pub settle-overflows : overflowsIn (settle m u .events) + overflowsIn (settle n (settle m u .state) .events)
+      ≡ overflowsIn (settle n u .events)
+  unfolding settle
+  settle-overflows =
+      ap (λ t. overflowsIn (settle m u .events) + overflowsIn (t .events)) again ∙ settleTo-overflows (dateOf m) (dateOf n) u dates
+
+  pub settle-queues : SameQueues (settle n (settle m u .state) .state) (settle n u .state)
+  unfolding settle
+  settle-queues =
+      subst (λ t. SameQueues (t .state) (settle n u .state)) (sym again) (settleTo-queues (dateOf m) (dateOf n) u dates)
+
+  pub settle-unexcepted : Within u → ¬ Exception u → settle n (settle m u .state) .state ≡ settle n u .state
+  unfolding settle
+  settle-unexcepted w x = ap (λ t. t .state) again ∙ settleTo-unexcepted (dateOf m) (dateOf n) u dates w x
+
+-- 4. a state within the limits, in the exception, that a settling at cycle 28 changes for the one at 40
+pub excepted-differs : Within looked × Exception looked × (¬ (settle 40 (settle 28 looked .state) .state ≡ settle 40 looked .state))
+excepted-differs = (looked-within, looked-exception, looked-differs)
