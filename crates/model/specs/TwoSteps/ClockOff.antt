@@ -100,7 +100,7 @@ module _ {H W : Type 0} (s : Settings) (off : s .«rx_sclk_en» ≡ false) where
       (λ u t. ap (idleAfter s date) (timeOut-closes s _ (lineOf u)) ∙ sym (choose-true _ _ t))
       (λ u. refl)
       (λ u l e. ap (λ (x : Line). idleAfter s date (x .«idle_since»)) (land-off s off _ (l .frame) (lineOf u)))
-      (λ u at b bs p e h q. q ∙ ap (λ (x : Line). idleAfter s date (x .«idle_since»)) (start-off s off at (lineOf u)))
+      (λ u r rs b bs p e _ h q. q ∙ ap (λ (x : Line). idleAfter s date (x .«idle_since»)) (start-off s off _ (lineOf u)))
 
   through-idle : (date : ℕ) {u v : Uart H W} {es : List (Event H W)} → Through s date u es v
       → lineOf v .«idle_since» ≡ idleAfter s date (lineOf u .«idle_since»)
