@@ -108,11 +108,11 @@ landedFate (landing at b f) = f
 landedFate (nothing at) = Stored
 
 -- the idle line after a landing: it opens then, or stays as it was, by the byte's fate
-unfoldable pub idleAfter : {H W : Type 0} → Event H W → Date → Date
-idleAfter (departure at b) d = d
-idleAfter (timeout at) d = None
-idleAfter (landing at b f) d = choose (opens f) (At at) d
-idleAfter (nothing at) d = d
+unfoldable idleBy : {H W : Type 0} → Event H W → Date → Date
+idleBy (departure at b) d = d
+idleBy (timeout at) d = None
+idleBy (landing at b f) d = choose (opens f) (At at) d
+idleBy (nothing at) d = d
 
 module _ {H W : Type 0} (s : Settings) where
   abbrev Lands : Uart H W → Pass H W → Type 0
@@ -121,10 +121,10 @@ module _ {H W : Type 0} (s : Settings) where
       → (f ≡ fate s (length (u .rx)) (frameOf s (u .receiving))) × (lineOf (p .state) .«idle_since» ≡ choose (opens f) (At at) (lineOf u .«idle_since»))
 
   landed-lands : (u : Uart H W) (l : OnTheLine H) → u .receiving ≡ some l → Lands u (landed s (fate s (length (u .rx)) (l .frame)) l u)
-  unfolding landed idleAfter landedFate
+  unfolding landed idleBy landedFate
   landed-lands u l e at b f q = (
     sym (ap landedFate q) ∙ ap (λ o. fate s (length (u .rx)) (frameOf s o)) (sym e),
-    land-idle s (fate s (length (u .rx)) (l .frame)) (l .frame) (lineOf u) ∙ ap (λ x. idleAfter x (lineOf u .«idle_since»)) q,
+    land-idle s (fate s (length (u .rx)) (l .frame)) (l .frame) (lineOf u) ∙ ap (λ x. idleBy x (lineOf u .«idle_since»)) q,
   )
 
   begun-lands : (u : Uart H W) (at : ℕ) (c : H) (cs : List H) (p : Pass H W) → u .receiving ≡ none → Lands (begun s at c cs u) p → Lands u p

@@ -29,7 +29,7 @@ use Rattle.model.specs.Refuses.Conditions.{dateOf, Condition, number2, n
 use Rattle.model.specs.Refuses.Exactly.{done-exactly}
 use Rattle.model.specs.Ends.Settlings.{Settling, settles, settlings}
 use Rattle.model.specs.MeetsManual.Timing.{Meant, FrameTime, TimeoutTime, byte-lasts, timeout-lasts}
-use Rattle.model.specs.MeetsManual.Reception.{comes, landingsIn, settling-receives}
+use Rattle.model.specs.MeetsManual.Reception.{comes, arrivalsIn, settling-receives}
 use Rattle.model.specs.MeetsManual.ReceiveTimeout.{showsIn, shownIn, settling-shows}
 use Rattle.model.specs.declared.Date.{Date}
 use Rattle.model.specs.declared.Words.{Words}
@@ -111,8 +111,8 @@ module _ (s : Settling) where
   pub record Lands : Type 0 where
     pub time : ℕ
     pub frame : (m : Meant words) → FrameTime words period m time
-    pub lands : landingsIn (settles s .events) ≡ by date (comes time (s .begins))
-    pub rest : comes time (s .begins) ≡ landingsIn (settles s .events) ++ comes time (settles s .state)
+    pub lands : arrivalsIn (settles s .events) ≡ by date (comes time (s .begins))
+    pub rest : comes time (s .begins) ≡ arrivalsIn (settles s .events) ++ comes time (settles s .state)
 
   -- with the receiver's clock on and no byte on the line that started unheard: all that the receiver shows, landings and timeouts with their
   -- dates, a timeout coming RX_TOUT_THRHD bit times after the last landing unless a byte starts before it

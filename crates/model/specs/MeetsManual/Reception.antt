@@ -49,15 +49,15 @@ module _ {H W : Type 0} where
   comes time u = toLand time (lineOf u .«line_free_at») (u .receiving) (datedBytes (u .hostRuns) (u .host))
 
   -- the landing that an event is, and those among events, in order
-  unfoldable pub landingOf : Event H W → List (ℕ × H)
-  landingOf (departure at b) = []
-  landingOf (timeout at) = []
-  landingOf (landing at b f) = (at, b) ∷ []
-  landingOf (nothing at) = []
+  unfoldable pub arrivalOf : Event H W → List (ℕ × H)
+  arrivalOf (departure at b) = []
+  arrivalOf (timeout at) = []
+  arrivalOf (landing at b f) = (at, b) ∷ []
+  arrivalOf (nothing at) = []
 
-  unfoldable pub landingsIn : List (Event H W) → List (ℕ × H)
-  landingsIn [] = []
-  landingsIn (e ∷ es) = landingOf e ++ landingsIn es
+  unfoldable pub arrivalsIn : List (Event H W) → List (ℕ × H)
+  arrivalsIn [] = []
+  arrivalsIn (e ∷ es) = arrivalOf e ++ arrivalsIn es
 
 -- ---- one pass
 
@@ -103,15 +103,15 @@ land-free s Unheard fr l = refl
 module _ {H W : Type 0} (s : Settings) where
   -- what is to land is what a pass found to land, and then what is still to land
   abbrev Meets : Uart H W → Pass H W → Type 0
-  Meets u p = Counted u → comes (s .«byte_time») u ≡ landingOf (p .event) ++ comes (s .«byte_time») (p .state)
+  Meets u p = Counted u → comes (s .«byte_time») u ≡ arrivalOf (p .event) ++ comes (s .«byte_time») (p .state)
 
   out-meets : (u : Uart H W) → Meets u (timedOut s u)
-  unfolding timedOut comes landingOf
+  unfolding timedOut comes arrivalOf
   out-meets u _ =
       ap (λ d. toLand (s .«byte_time») d (u .receiving) (datedBytes (u .hostRuns) (u .host))) (sym (timeOut-free s (length (u .rx)) (lineOf u)))
 
   lands-meets : (u : Uart H W) (l : OnTheLine H) → u .receiving ≡ some l → (f : Fate) → Meets u (landed s f l u)
-  unfolding landed comes landingOf toLand
+  unfolding landed comes arrivalOf toLand
   lands-meets u l e f _ =
       let free : ℕ = lineOf u .«line_free_at» in
       let bs : List (ℕ × H) = datedBytes (u .hostRuns) (u .host) in
@@ -138,7 +138,7 @@ module _ {H W : Type 0} (s : Settings) where
       start-comes u r rs b bs (all-head (subst (λ x. All (λ n. 1 ≤ n) (runCounts x)) q c)) e q h ∙ m (popped-counted (u .hostRuns) c)
 
   pub pass-meets : (date : ℕ) (u : Uart H W) → Meets u (pass s date u)
-  unfolding nothingDue landingOf
+  unfolding nothingDue arrivalOf
   pass-meets date = pass-cases s date Meets (λ u _. out-meets u) (λ u _. refl) (λ u l e. lands-meets u l e _) starts-meets
 
 -- ---- lists of dated bytes
@@ -177,8 +177,8 @@ module _ {H : Type 0} where
 -- ---- all passes
 
 module _ {H W : Type 0} (s : Settings) (date : ℕ) where
-  event-due : (u v : Uart H W) (e : Event H W) → Takes s date u e v → Due date (landingOf e)
-  unfolding landingOf
+  event-due : (u v : Uart H W) (e : Event H W) → Takes s date u e v → Due date (arrivalOf e)
+  unfolding arrivalOf
   event-due u v (departure at b) t = nil
   event-due u v (timeout at) t = nil
   event-due u v (landing at b f) t = cons (t .due) nil
@@ -207,25 +207,25 @@ module _ {H W : Type 0} (s : Settings) (date : ℕ) where
 
   -- from `u` passes found `es` and led to `v`: the landings among it are all that come by the date, and the others are still to come
   pub record Receives (u : Uart H W) (es : List (Event H W)) (v : Uart H W) : Type 0 where
-    pub lands : landingsIn es ≡ by date (comes (s .«byte_time») u)
-    pub rest : comes (s .«byte_time») u ≡ landingsIn es ++ comes (s .«byte_time») v
+    pub lands : arrivalsIn es ≡ by date (comes (s .«byte_time») u)
+    pub rest : comes (s .«byte_time») u ≡ arrivalsIn es ++ comes (s .«byte_time») v
 
   -- the same, before it is cut at the date
   record Met (u : Uart H W) (es : List (Event H W)) (v : Uart H W) : Type 0 where
-    whole : comes (s .«byte_time») u ≡ landingsIn es ++ comes (s .«byte_time») v
-    due : Due date (landingsIn es)
+    whole : comes (s .«byte_time») u ≡ arrivalsIn es ++ comes (s .«byte_time») v
+    due : Due date (arrivalsIn es)
     later : by date (comes (s .«byte_time») v) ≡ []
 
   through-met : {u v : Uart H W} {es : List (Event H W)} → Through s date u es v → Within u → Met u es v
-  unfolding landingsIn comes
+  unfolding arrivalsIn comes
   through-met (ends {u = u} {v = v} {e = x} e g) w =
       let law : PassLaw s date u (record { event = x; state = v }) = subst (PassLaw s date u) e (pass-law s date u) in
       let within : Within v = subst (λ p. Within (p .state)) e (pass-within s date u w) in
       record {
         whole =
-            pass-meets s date u (w .runCount) ∙ ap (λ p. landingOf (p .event) ++ comes (s .«byte_time») (p .state)) e
-            ∙ ap (λ l. l ++ comes (s .«byte_time») v) (sym (append-nil (landingOf x)));
-        due = due-append (landingOf x) [] (event-due u v x (law .takes)) nil;
+            pass-meets s date u (w .runCount) ∙ ap (λ p. arrivalOf (p .event) ++ comes (s .«byte_time») (p .state)) e
+            ∙ ap (λ l. l ++ comes (s .«byte_time») v) (sym (append-nil (arrivalOf x)));
+        due = due-append (arrivalOf x) [] (event-due u v x (law .takes)) nil;
         later = line-later v within (through-quiet s date (ends e g)) (v .receiving) refl;
       }
   through-met (goes {u = u} {v = v} {w = z} {e = x} {es = es} e g t) w =
@@ -233,9 +233,9 @@ module _ {H W : Type 0} (s : Settings) (date : ℕ) where
       let rest : Met v es z = through-met t (subst (λ p. Within (p .state)) e (pass-within s date u w)) in
       record {
         whole =
-            pass-meets s date u (w .runCount) ∙ ap (λ p. landingOf (p .event) ++ comes (s .«byte_time») (p .state)) e
-            ∙ ap (λ l. landingOf x ++ l) (rest .whole) ∙ sym (append-assoc (landingOf x) (landingsIn es) (comes (s .«byte_time») z));
-        due = due-append (landingOf x) (landingsIn es) (event-due u v x (law .takes)) (rest .due);
+            pass-meets s date u (w .runCount) ∙ ap (λ p. arrivalOf (p .event) ++ comes (s .«byte_time») (p .state)) e
+            ∙ ap (λ l. arrivalOf x ++ l) (rest .whole) ∙ sym (append-assoc (arrivalOf x) (arrivalsIn es) (comes (s .«byte_time») z));
+        due = due-append (arrivalOf x) (arrivalsIn es) (event-due u v x (law .takes)) (rest .due);
         later = rest .later;
       }
 
@@ -247,8 +247,8 @@ module _ {H W : Type 0} (s : Settings) (date : ℕ) where
 -- ---- a settling
 
 module _ {H W : Type 0} where
-  no-landing : (ss : List (Sent W)) (es : List (Event H W)) → landingsIn (map (λ s. departure (s .goneAt) (s .byte)) ss ++ es) ≡ landingsIn es
-  unfolding landingsIn landingOf
+  no-landing : (ss : List (Sent W)) (es : List (Event H W)) → arrivalsIn (map (λ s. departure (s .goneAt) (s .byte)) ss ++ es) ≡ arrivalsIn es
+  unfolding arrivalsIn arrivalOf
   no-landing [] es = refl
   no-landing (s ∷ ss) es = no-landing ss es
 
