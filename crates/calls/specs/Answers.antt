@@ -80,7 +80,8 @@ module _ {X R : Type 0} (view : X → R) where
             ap (λ (k : Notices). reportOf c′ n o k) (x .notes) ∙ report-of n o _ (abs c′ a′)
             ∙ ap (λ (u : State.Uart ℕ ℕ). Replies.report n o (work (abs c₁ a₁) .notes) u) (x .state)
             ∙ ap (λ (u : State.Uart ℕ ℕ). Replies.report n o (work u .notes) (work u .state)) same
-            ∙ ap₂ (λ (p q : ℕ). Replies.report p q (work (t .state) .notes) (work (t .state) .state)) (s .gives .passes) (s .gives .overflows);
+            ∙ ap₂ (λ (p q : ℕ). Replies.report p q (work (t .state) .notes) (work (t .state) .state)) (s .gives .passes)
+            (s .gives .overflows);
         state = x .state ∙ ap (λ (u : State.Uart ℕ ℕ). work u .state) same;
       }
 

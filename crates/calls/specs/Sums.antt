@@ -60,11 +60,20 @@ twice now u {c₁ = c₁} {a₁ = a₁} {n₁ = n₁} {o₁ = o₁} {n₂ = n₂
       ok = second .ok;
       gives = record {
         state = second .gives .state ∙ ap (λ (x : Settled ℕ ℕ). x .state) again;
-        passes = omega (arith, first .gives .passes, second .gives .passes, ap (λ (x : Settled ℕ ℕ). passesIn (x .events)) again,
-        passes-append (t .events) (settle now (clocked period (t .state)) .events));
-        overflows = omega (arith, first .gives .overflows, second .gives .overflows,
-        ap (λ (x : Settled ℕ ℕ). overflowsIn (x .events)) again,
-        overflows-append (t .events) (settle now (clocked period (t .state)) .events));
+        passes = omega (
+          arith,
+          first .gives .passes,
+          second .gives .passes,
+          ap (λ (x : Settled ℕ ℕ). passesIn (x .events)) again,
+          passes-append (t .events) (settle now (clocked period (t .state)) .events),
+        );
+        overflows = omega (
+          arith,
+          first .gives .overflows,
+          second .gives .overflows,
+          ap (λ (x : Settled ℕ ℕ). overflowsIn (x .events)) again,
+          overflows-append (t .events) (settle now (clocked period (t .state)) .events),
+        );
       };
     }
 

@@ -21,4 +21,5 @@ module _ (s : Settings) (date : ℕ) (at : Reception) (hosts dates counts rxs : 
   -- all passes: the receive side that they leave, how many there were, and the bytes lost with UartRxOverflow
   pub record Ends (n o : ℕ) : Type 0 where
     pub fit : Fit at′ hosts dates counts′ rxs′
-    pub all : (u : State.Uart ℕ ℕ) → Gives (Settle.passes s date (with at hosts dates counts rxs u)) (with at′ hosts dates counts′ rxs′ u) n o
+    pub all : (u : State.Uart ℕ ℕ) → Gives (Settle.passes s date (with at hosts dates counts rxs u))
+        (with at′ hosts dates counts′ rxs′ u) n o

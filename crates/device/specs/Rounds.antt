@@ -64,9 +64,11 @@ module _ {H W : Type 0} (s : Settings) (date : ℕ) where
     pub ran-more : goesOn f ≡ true → Ran v (p + 1) (o + n) t
     ran-more g =
         let r : Settle.passes s date u ≡ found (pass s date u .event ∷ []) (Settle.passes s date v) =
-        passes-go s date u refl (again u e true g) ∙ ap (λ (x : Uart H W). found (pass s date u .event ∷ []) (Settle.passes s date x)) (left u e) in
+        passes-go s date u refl (again u e true g)
+        ∙ ap (λ (x : Uart H W). found (pass s date u .event ∷ []) (Settle.passes s date x)) (left u e) in
         let es : List (Event H W) = Settle.passes s date v .events in
-        let q : passesIn (Settle.passes s date u .events) ≡ 1 + passesIn es = ap (λ (x : Settled H W). passesIn (x .events)) r ∙ first-pass u es in
+        let q : passesIn (Settle.passes s date u .events) ≡ 1 + passesIn es = ap (λ (x : Settled H W). passesIn (x .events)) r
+        ∙ first-pass u es in
         let some : 0 < passesIn es = some-pass v (Events.goesOn (pass s date v .event)) refl in
         record {
           state = sym (ap (λ (x : Settled H W). x .state) r) ∙ k .state;

@@ -132,7 +132,8 @@ module _ (cycle : ℕ) (c : Core) (a : Arrays) (ok : Ok c a) {date n passes over
 
   -- the settling of the definition: what it found before the passes, and what they found
   whole : Settle.settle cycle (abs c a)
-      ≡ found (departures date (abs c a)) (Settle.leveled (Settle.passes s date (with (receptionOf c l) (a .host) (a .runAt) (a .runLen) (a .rx) sent)))
+      ≡ found (departures date (abs c a))
+      (Settle.leveled (Settle.passes s date (with (receptionOf c l) (a .host) (a .runAt) (a .runLen) (a .rx) sent)))
   unfolding Settle.settle Settle.settleTo Settle.settlingDate Settle.settingsOf
   whole =
       ap (λ (d : ℕ). found (departures d (abs c a))

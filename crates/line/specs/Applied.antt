@@ -93,11 +93,13 @@ module _ {H W : Type 0} where
 
   module _ (s : Settings) (date : ℕ) where
     abbrev Law : Uart H W → Type 0
-    Law u = seen (pass s date u) ≡ applied u (move s (length (u .rx)) date (waiting (u .hostRuns) (u .host)) (mark (u .receiving)) (lineOf u))
+    Law u = seen (pass s date u) ≡ applied u
+        (move s (length (u .rx)) date (waiting (u .hostRuns) (u .host)) (mark (u .receiving)) (lineOf u))
 
     -- a byte on the line
     frame-law : (l : OnTheLine H) (u : Uart H W) → Law (withReceiving (some l) u)
-    unfolding foundOf pass passOn Settle.inFrame nothingDue timedOut landed applied move inFrame resting timingOut landing mark marked subject
+    unfolding foundOf pass passOn Settle.inFrame nothingDue timedOut landed applied move inFrame resting timingOut landing mark marked
+        subject
         lineByte dropIf popRunIf storedInto
     frame-law l u =
         let v : Uart H W = withReceiving (some l) u in
@@ -106,7 +108,8 @@ module _ {H W : Type 0} where
 
     -- no byte on the line
     free-law : (rs : List Run) (bs : List H) (u : Uart H W) → Law (withReceiving none (withHost bs rs u))
-    unfolding foundOf pass passOn Settle.lineFree Settle.idle Settle.beforeStart Settle.inFrame begun nothingDue timedOut landed applied move
+    unfolding foundOf pass passOn Settle.lineFree Settle.idle Settle.beforeStart Settle.inFrame begun nothingDue timedOut landed
+        applied move
         lineFree idle beforeStart inFrame resting timingOut landing waiting mark marked subject lineByte dropIf popRunIf storedInto
     free-law [] bs u = choose-both seen (applied (withReceiving none (withHost bs [] u))) _ refl refl
     free-law (r ∷ rs) [] u = choose-both seen (applied (withReceiving none (withHost [] (r ∷ rs) u))) _ refl refl
@@ -114,7 +117,8 @@ module _ {H W : Type 0} where
         let v : Uart H W = withReceiving none (withHost (b ∷ bs) (r ∷ rs) u) in
         choose-both seen (applied v) _ refl
         (choose-both seen (applied v) _ refl
-        (choose-both seen (applied v) _ refl (choose-both seen (applied v) _ refl (rw (stored-rx (fate s (length (u .rx)) (frame s)) b (u .rx))))))
+        (choose-both seen (applied v) _ refl
+        (choose-both seen (applied v) _ refl (rw (stored-rx (fate s (length (u .rx)) (frame s)) b (u .rx))))))
 
     law-by : (o : Option (OnTheLine H)) (u : Uart H W) → Law (withReceiving o u)
     law-by none u = free-law (u .hostRuns) (u .host) u

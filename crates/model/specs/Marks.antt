@@ -223,10 +223,12 @@ marks = p1 ++ p2 ++ p3 ++ p4 ++ p5 ++ p6 ++ p7 ++ p8 ++ p9 ++ p10
 
 pub marks-hold : allHold marks ≡ true
 unfolding upBy4 benchWords bench valueIs dateIs isOverflow isEmptyRead onlyNotice meets reading putting handing waking played holdsRow
-    allHold p1 p2 p3 filledUp p4 p5 p6 timeoutOn p7 p8 p9 p10 marks choose dueBy instantOf onlyIf earliest inCycles stopHalfBits frameHalfBits
+    allHold p1 p2 p3 filledUp p4 p5 p6 timeoutOn p7 p8 p9 p10 marks choose dueBy instantOf onlyIf earliest inCycles stopHalfBits
+    frameHalfBits
     sourcePeriod unmodelled unmodelledSource halfBitTime bitTime byteTime timeoutTime settings raiseIf latest noteSource afterDate opened
     timeoutAt timeOut frame start fate land gone txDone leave depart popRun received nothingDue timedOut landed inFrame begun beforeStart
-    idle lineFree passOn pass total goesOn onePass lost passesIn overflowsIn onTheLine passesFrom pending departures passes aboveFull inFifo emptyThreshold belowEmpty
+    idle lineFree passOn pass total goesOn onePass lost passesIn overflowsIn onTheLine passesFrom pending departures passes aboveFull
+    inFifo emptyThreshold belowEmpty
     assertLevels intStatus drive noLaterThan settlingDate levels leveled settingsOf settleTo settle called nthGone firstGone lastGone
     belowThresholdAt nextStart landingOf nextLanding instants armAll arm number notices noReport report readNumber writeNumber doneNumber
     takenNumber registerAmong registerOf decide valueOf wordsBy replaced noteIf sourceNotes statusWord fsmStatus looks pop shownIn

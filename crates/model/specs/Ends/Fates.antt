@@ -118,7 +118,8 @@ module _ {H W : Type 0} (s : Settings) where
   abbrev Lands : Uart H W → Pass H W → Type 0
   Lands u p =
       (at : ℕ) (b : H) (f : Fate) → p .event ≡ landing at b f
-      → (f ≡ fate s (length (u .rx)) (frameOf s (u .receiving))) × (lineOf (p .state) .«idle_since» ≡ choose (opens f) (At at) (lineOf u .«idle_since»))
+      → (f ≡ fate s (length (u .rx)) (frameOf s (u .receiving)))
+      × (lineOf (p .state) .«idle_since» ≡ choose (opens f) (At at) (lineOf u .«idle_since»))
 
   landed-lands : (u : Uart H W) (l : OnTheLine H) → u .receiving ≡ some l → Lands u (landed s (fate s (length (u .rx)) (l .frame)) l u)
   unfolding landed idleBy landedFate

@@ -14,7 +14,8 @@ use Rattle.model.specs.State.{Sent, Run, OnTheLine, Uart, lineOf}
 use Rattle.model.specs.Events.{Event, passesIn, overflowsIn}
 use Rattle.model.specs.Timing.{settings}
 use Rattle.model.specs.Line.{raiseIf, timeoutAt}
-use Rattle.model.specs.Settle.{gone, leave, depart, pending, departures, passes, assertLevels, drive, noLaterThan, settlingDate, levels}
+use Rattle.model.specs.Settle.{gone, leave, depart, pending, departures, passes, assertLevels, drive, noLaterThan, settlingDate}
+use Rattle.model.specs.Settle.{levels}
 use Rattle.model.specs.Settle.{leveled, settingsOf, settleTo, settle}
 use Rattle.model.specs.Limits.{All, nil, cons, Chain, empty, single, link, flightDates}
 use Rattle.model.specs.Ends.Passes.{After, LineQuiet, Kept}

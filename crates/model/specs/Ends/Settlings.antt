@@ -16,7 +16,8 @@ use Rattle.model.specs.Arm.{called, arm}
 use Rattle.model.specs.Replies.{noReport, report}
 use Rattle.model.specs.Map.{Register, isFifo, registerOf}
 use Rattle.model.specs.Registers.{Access, readAt, sendByte, writeRegister, concluded}
-use Rattle.model.specs.Calls.{Outcome, unsettled, afterSettling, undated, quiet, dated, settleAt, clocked, reclocked, cleared, written}
+use Rattle.model.specs.Calls.{Outcome, unsettled, afterSettling, undated, quiet, dated, settleAt, clocked, reclocked, cleared}
+use Rattle.model.specs.Calls.{written}
 use Rattle.model.specs.Calls.{filled, handOver, hostDate, readWork, writeWork, sendWork, receiveWork, wakeWork, watchWork}
 use Rattle.model.specs.Calls.{powerDownWork, clockWork, resetWork, takeTxWork, takeWrittenWork, hasLeft, hostPending}
 use Rattle.model.specs.Call.{Call, Request, Reply, reads, writes, does, takes, left, pends}
@@ -119,8 +120,10 @@ one c u s now as-reply work e d w = record {
 }
 
 carried-works : (c : Request) (u : Uart ℕ ℕ) → Works c u (carriedOut c u)
-unfolding settlings carriedOut answering afterSettling unsettled undated eventsOf leftBy worked reported writeOf settleAt quiet replying dateOf
-    passesIn overflowsIn total readWork writtenAt sendWork writeWork receiveWork wakeWork resetWork powerDownWork watchWork clockWork reclocked
+unfolding settlings carriedOut answering afterSettling unsettled undated eventsOf leftBy worked reported writeOf settleAt quiet
+    replying dateOf
+    passesIn overflowsIn total readWork writtenAt sendWork writeWork receiveWork wakeWork resetWork powerDownWork watchWork clockWork
+    reclocked
     takeTxWork takeWrittenWork hasLeft hostPending
 carried-works (Call.read now offset) u = one _ u _ now reads _ refl refl (λ v. refl)
 carried-works (Call.write now x) u =
@@ -191,7 +194,8 @@ undated-settles Call.hostPending u e = refl
 pub call-counts : (c : Request) (u : Uart ℕ ℕ) → numberOf (step c u .answer .reply) ≡ 0 → Counts (settlings c u) (step c u .answer .report)
 call-counts c u e =
     let w = call-works c u e in
-    let (p, o) = report-counts (dateOf c) (step c u .events) (worked c u (leftBy u (settlings c u))) (λ n. w .events ∙ undated-settles c u n) in
+    let (p, o) = report-counts (dateOf c) (step c u .events) (worked c u (leftBy u (settlings c u)))
+    (λ n. w .events ∙ undated-settles c u n) in
     record {
       passes = ap (λ r. r .passes) (w .report) ∙ p ∙ ap passesIn (w .events) ∙ passes-sum (settlings c u);
       overflows = ap (λ r. r .overflows) (w .report) ∙ o ∙ ap overflowsIn (w .events) ∙ overflows-sum (settlings c u);

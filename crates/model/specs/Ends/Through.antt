@@ -80,7 +80,8 @@ module _ {H W : Type 0} (s : Settings) (date : ℕ) where
   after-pass zero u v e true g p ih = goes p g (ih g)
   after-pass (suc k) u v e true g p ih = goes p g (ih g)
 
-  through-from : (k : ℕ) (u : Uart H W) → todo u < k → Through s date u (passesFrom s date k true u .events) (passesFrom s date k true u .state)
+  through-from : (k : ℕ) (u : Uart H W) → todo u < k
+      → Through s date u (passesFrom s date k true u .events) (passesFrom s date k true u .state)
   unfolding passesFrom
   through-from zero u lt = absurd (omega arith)
   through-from (suc k) u lt =

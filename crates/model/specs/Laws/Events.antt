@@ -35,11 +35,21 @@ module _ {H W : Type 0} where
   module _ (date : ℕ) (u : Uart H W) (es : List (Event H W)) where
     pub departures-pass : passesIn (departures date u ++ es) ≡ passesIn es
     unfolding passesIn departures onePass
-    departures-pass = omega (arith, total-append onePass (departures date u) es, none-counted onePass (λ at b. refl) (take (gone date (u .inFlight)) (u .inFlight)))
+    departures-pass = omega (
+      arith,
+      total-append onePass (departures date u) es,
+      none-counted onePass (λ at b. refl)
+          (take (gone date (u .inFlight)) (u .inFlight)),
+    )
 
     pub departures-lose : overflowsIn (departures date u ++ es) ≡ overflowsIn es
     unfolding overflowsIn departures lost
-    departures-lose = omega (arith, total-append lost (departures date u) es, none-counted lost (λ at b. refl) (take (gone date (u .inFlight)) (u .inFlight)))
+    departures-lose = omega (
+      arith,
+      total-append lost (departures date u) es,
+      none-counted lost (λ at b. refl)
+          (take (gone date (u .inFlight)) (u .inFlight)),
+    )
 
   -- ---- a pass loses at most one byte
 

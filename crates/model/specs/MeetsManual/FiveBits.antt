@@ -79,7 +79,8 @@ losses s date (suc k) true u =
     let p = pass s date u in
     ltb-sum (lost (p .event)) _ ∙ ap (λ (b : Bool). ltb 0 (lost (p .event)) || b) (losses s date k (goesOn (p .event)) (p .state))
 
-overflow-raises : {H W : Type 0} (s : Settings) (held : ℕ) (f : Event H W) → raisedBy s 4 held f ≡ (not (s .«dis_rx_dat_ovf») && lossy held f)
+overflow-raises : {H W : Type 0} (s : Settings) (held : ℕ) (f : Event H W)
+    → raisedBy s 4 held f ≡ (not (s .«dis_rx_dat_ovf») && lossy held f)
 unfolding raisedBy lossy lost
 overflow-raises s held (departure at b) = sym (and-false (not (s .«dis_rx_dat_ovf»)))
 overflow-raises s held (timeout at) = sym (and-false (not (s .«dis_rx_dat_ovf»)))

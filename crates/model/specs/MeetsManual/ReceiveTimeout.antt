@@ -18,14 +18,16 @@ use Rattle.model.specs.Events.{Event, departure, timeout, landing, nothi
 use Rattle.model.specs.State.{Sent, Run, OnTheLine, Uart, lineOf}
 use Rattle.model.specs.Line.{raiseIf, noteSource, afterDate, opened, timeoutAt, timeOut, frame, start, land, fate}
 use Rattle.model.specs.Settle.{gone, txDone, leave, depart, departures, passes, assertLevels, drive, levels, leveled, settingsOf}
-use Rattle.model.specs.Settle.{settleTo, Pass, popRun, nothingDue, timedOut, landed, inFrame, begun, beforeStart, idle, lineFree, passOn, pass}
+use Rattle.model.specs.Settle.{settleTo, Pass, popRun, nothingDue, timedOut, landed, inFrame, begun, beforeStart, idle}
+use Rattle.model.specs.Settle.{lineFree, passOn, pass}
 use Rattle.model.specs.Limits.{All, cons, nil, runDates, runCounts, Fits, isHeard, Within}
 use Rattle.model.specs.Laws.Choose.{choose-ind, choose-true, choose-false}
 use Rattle.model.specs.Laws.Lists.{all-head}
 use Rattle.model.specs.Ends.Passes.{apart, After, LineQuiet, Takes, PassLaw, pass-law}
 use Rattle.model.specs.Ends.Through.{Through, ends, goes, through, through-quiet}
 use Rattle.model.specs.Keeps.Settling.{depart-within, pass-within}
-use Rattle.model.specs.MeetsManual.Reception.{datedBytes, first-dated, none-dated, timeOut-free, land-free, Due, due-append, not-yet, all-by}
+use Rattle.model.specs.MeetsManual.Reception.{datedBytes, first-dated, none-dated, timeOut-free, land-free, Due, due-append}
+use Rattle.model.specs.MeetsManual.Reception.{not-yet, all-by}
 use Rattle.model.specs.declared.Date.{Date}
 use Rattle.model.specs.declared.Date.the-variants.{None, At}
 use Rattle.model.specs.declared.Line.{Line}
@@ -81,7 +83,8 @@ none-before : {H : Type 0} (s : Settings) (date at : ℕ) (d : Date) → at ≤ 
     → dueBy (earlier date at) (afterDate (s .«timeout_time») d) ≡ false → timeoutBefore {B = H} at (s .«timeout_time») d ≡ []
 unfolding timeoutBefore afterDate dueBy
 none-before s date at None le h = refl
-none-before s date at (At i) le h = choose-false _ _ (lt-leb _ at (omega (arith, leb-false (after i (s .«timeout_time»)) (earlier date at) h)))
+none-before s date at (At i) le h = choose-false _ _
+    (lt-leb _ at (omega (arith, leb-false (after i (s .«timeout_time»)) (earlier date at) h)))
 
 closed : (s : Settings) (held : ℕ) (l : Line) → timeOut s held l .«idle_since» ≡ None
 unfolding timeOut raiseIf noteSource
@@ -338,7 +341,8 @@ module _ {H W : Type 0} where
   none-shown (s ∷ ss) es = none-shown ss es
 
   -- what a settling to a date finds on the line is what the manual has a receiver with its clock on show by then
-  pub settling-shows : (date : ℕ) (u : Uart H W) → Within u → (clock : settingsOf u .«rx_sclk_en» ≡ true) → ((l : OnTheLine H) → u .receiving ≡ some l → l .frame .heard ≡ true)
+  pub settling-shows : (date : ℕ) (u : Uart H W) → Within u → (clock : settingsOf u .«rx_sclk_en» ≡ true)
+      → ((l : OnTheLine H) → u .receiving ≡ some l → l .frame .heard ≡ true)
       → Showing (settingsOf u) date clock u (settleTo date u .events) (settleTo date u .state)
   unfolding settleTo leveled levels drive assertLevels raiseIf departures depart leave txDone showsIn
   settling-shows date u w clock heard =

@@ -114,7 +114,8 @@ module _ (s : Settling) where
     pub lands : arrivalsIn (settles s .events) ≡ by date (comes time (s .begins))
     pub rest : comes time (s .begins) ≡ arrivalsIn (settles s .events) ++ comes time (settles s .state)
 
-  -- with the receiver's clock on and no byte on the line that started unheard: all that the receiver shows, landings and timeouts with their
+  -- with the receiver's clock on and no byte on the line that started unheard: all that the receiver shows, landings and timeouts with
+  -- their
   -- dates, a timeout coming RX_TOUT_THRHD bit times after the last landing unless a byte starts before it
   pub record Shows : Type 0 where
     pub time : ℕ
@@ -151,7 +152,8 @@ all-map : {P Q : Settling → Type 0} (ss : List Settling) → ((s : Settling) �
 all-map [] f nil = nil
 all-map (s ∷ ss) f (cons p a) = cons (f s p) (all-map ss f a)
 
--- of every call that is carried out, whatever it is: `settlings c u` are its settlings, and its events are theirs (`call-works`, Ends/Settlings)
+-- of every call that is carried out, whatever it is: `settlings c u` are its settlings, and its events are theirs (`call-works`,
+-- Ends/Settlings)
 pub call-lands : (c : Request) (u : Uart ℕ ℕ) → Within u → numberOf (step c u .answer .reply) ≡ 0 → All Lands (settlings c u)
 call-lands c u w d = all-map (settlings c u) settled-lands (begins-within c u w d)
 

@@ -16,7 +16,8 @@ use Rattle.model.specs.Numbers.{choose}
 use Rattle.model.specs.Events.{Event, departure, timeout, landing, nothing}
 use Rattle.model.specs.State.{Sent, Run, OnTheLine, Uart, lineOf}
 use Rattle.model.specs.Line.{raiseIf, noteSource, opened, timeOut, start, land}
-use Rattle.model.specs.Settle.{Pass, gone, txDone, leave, depart, departures, popRun, nothingDue, timedOut, landed, begun, pass, passes}
+use Rattle.model.specs.Settle.{Pass, gone, txDone, leave, depart, departures, popRun, nothingDue, timedOut, landed, begun, pass}
+use Rattle.model.specs.Settle.{passes}
 use Rattle.model.specs.Settle.{assertLevels, drive, levels, leveled, settingsOf, settleTo}
 use Rattle.model.specs.Limits.{All, cons, nil, runDates, runCounts, Fits, Within}
 use Rattle.model.specs.Laws.Choose.{choose-ind, choose-true, choose-false}
@@ -72,7 +73,8 @@ one-dated : {H : Type 0} (date n : ℕ) (rs : List Run) (b : H) (bs : List H)
 unfolding datedBytes popRun choose
 one-dated date zero rs b bs = refl
 one-dated date (suc n) rs b bs =
-    rw (lt-leb (suc (suc n)) 1 (omega arith)) (ap {B = List _} (λ k. (date, b) ∷ map (λ c. (date, c)) (take k bs) ++ datedBytes rs (drop k bs))
+    rw (lt-leb (suc (suc n)) 1 (omega arith))
+    (ap {B = List _} (λ k. (date, b) ∷ map (λ c. (date, c)) (take k bs) ++ datedBytes rs (drop k bs))
     (let e : suc n ≡ suc (suc n) - 1 = omega arith in e))
 
 pub first-dated : {H : Type 0} (r : Run) (rs : List Run) (b : H) (bs : List H) → 1 ≤ r .count
@@ -108,7 +110,8 @@ module _ {H W : Type 0} (s : Settings) where
   out-meets : (u : Uart H W) → Meets u (timedOut s u)
   unfolding timedOut comes arrivalOf
   out-meets u _ =
-      ap (λ d. toLand (s .«byte_time») d (u .receiving) (datedBytes (u .hostRuns) (u .host))) (sym (timeOut-free s (length (u .rx)) (lineOf u)))
+      ap (λ d. toLand (s .«byte_time») d (u .receiving) (datedBytes (u .hostRuns) (u .host)))
+      (sym (timeOut-free s (length (u .rx)) (lineOf u)))
 
   lands-meets : (u : Uart H W) (l : OnTheLine H) → u .receiving ≡ some l → (f : Fate) → Meets u (landed s f l u)
   unfolding landed comes arrivalOf toLand
@@ -197,7 +200,8 @@ module _ {H W : Type 0} (s : Settings) (date : ℕ) where
       let lands : ℕ = after (later (r .date) free) (s .«byte_time») in
       let fits : r .date ≤ Dates.last = all-head (subst (λ x. All Fits (runDates x)) er (w .runsFit)) in
       ap (λ l. by date (landings (s .«byte_time») free l)) (first-dated r rs b bs one)
-      ∙ not-yet date lands b (landings (s .«byte_time») lands (datedBytes (popRun (r ∷ rs)) bs)) (omega (arith, q .start n r rs b bs er eh, fits, w .lineFits))
+      ∙ not-yet date lands b (landings (s .«byte_time») lands (datedBytes (popRun (r ∷ rs)) bs))
+      (omega (arith, q .start n r rs b bs er eh, fits, w .lineFits))
 
   line-later : (u : Uart H W) → Within u → LineQuiet s date u → (o : Option (OnTheLine H)) → u .receiving ≡ o
       → by date (toLand (s .«byte_time») (lineOf u .«line_free_at») o (datedBytes (u .hostRuns) (u .host))) ≡ []
@@ -247,7 +251,8 @@ module _ {H W : Type 0} (s : Settings) (date : ℕ) where
 -- ---- a settling
 
 module _ {H W : Type 0} where
-  no-landing : (ss : List (Sent W)) (es : List (Event H W)) → arrivalsIn (map (λ s. departure (s .goneAt) (s .byte)) ss ++ es) ≡ arrivalsIn es
+  no-landing : (ss : List (Sent W)) (es : List (Event H W))
+      → arrivalsIn (map (λ s. departure (s .goneAt) (s .byte)) ss ++ es) ≡ arrivalsIn es
   unfolding arrivalsIn arrivalOf
   no-landing [] es = refl
   no-landing (s ∷ ss) es = no-landing ss es

@@ -55,7 +55,8 @@ module _ (now : ℕ) (u : Uart ℕ ℕ) (x : Written) (t : InTime now u) (e : re
         ap (λ (z : Step ℕ ℕ ℕ). z .answer .reply) q,
         ap (λ (z : Step ℕ ℕ ℕ). z .state .inFlight) q,
         ap (λ (z : Step ℕ ℕ ℕ). z .answer .report) q
-            ∙ ap (λ (z : Step ℕ ℕ ℕ). report (passesIn (settleAt now u .events)) (overflowsIn (settleAt now u .events)) (a .notes) (z .state)) (sym q),
+            ∙ ap (λ (z : Step ℕ ℕ ℕ). report (passesIn (settleAt now u .events)) (overflowsIn (settleAt now u .events)) (a .notes)
+            (z .state)) (sym q),
       )
 
   -- with 128 bytes in flight, and with fewer, the byte joins them, and no notice but the clock's is given

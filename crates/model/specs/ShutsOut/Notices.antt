@@ -22,7 +22,8 @@ use Rattle.model.specs.Run.{Step, answering, stepBy, writing, step}
 use Rattle.model.specs.Limits.{Chain, single, link}
 use Rattle.model.specs.MeetsManual.Answers.{InTime, in-time, carried-out}
 use Rattle.model.specs.declared.Feature.{Feature}
-use Rattle.model.specs.declared.Feature.the-variants.{Loopback, InvertedRx, Autobaud, NoStopBit, TxFlowControl, InvertedTx, Irda, TxBreak}
+use Rattle.model.specs.declared.Feature.the-variants.{Loopback, InvertedRx, Autobaud, NoStopBit, TxFlowControl, InvertedTx}
+use Rattle.model.specs.declared.Feature.the-variants.{Irda, TxBreak}
 use Rattle.model.specs.declared.Unsupported.{Unsupported}
 use Rattle.model.specs.declared.Unsupported.the-variants.{UartFeature}
 
@@ -49,7 +50,8 @@ conf0-noted : (v : ℕ) → conf0Notes v ≡ conf0Noted v
 unfolding conf0Notes conf0Noted modesIn
 conf0-noted v = refl
 
-module _ (now : ℕ) (u : Uart ℕ ℕ) (x : Written) (t : InTime now u) (e : registerOf (u .map .offsets) (x .offset) ≡ Register.stored Word.conf0) where
+module _ (now : ℕ) (u : Uart ℕ ℕ) (x : Written) (t : InTime now u)
+    (e : registerOf (u .map .offsets) (x .offset) ≡ Register.stored Word.conf0) where
   answer : step (Call.write now x) u ≡ answering writes (writeWork now (Register.stored Word.conf0) (x .value) u)
   unfolding step stepBy writing Calls.write writeAt writePlaced choose decide
   answer =
@@ -67,5 +69,6 @@ module _ (now : ℕ) (u : Uart ℕ ℕ) (x : Written) (t : InTime now u) (e : re
 
   -- the word is stored whole
   pub conf0-stored : step (Call.write now x) u .state .control .words .conf0 ≡ x .value
-  unfolding answering writeWork afterSettling concluded writeRegister storing replaced wordsBy valueOf resetFifos arm levels drive assertLevels choose decide
+  unfolding answering writeWork afterSettling concluded writeRegister storing replaced wordsBy valueOf resetFifos arm levels drive
+      assertLevels choose decide
   conf0-stored = ap (λ (s : Step ℕ ℕ ℕ). s .state .control .words .conf0) answer

@@ -97,7 +97,8 @@ module _ {H W : Type 0} (s : Settings) (date : ℕ) where
       ap (λ (o : Option (OnTheLine H)). passOn s date o u) (h .line) ∙ ap (λ (bs : List H). lineFree s date (u .hostRuns) bs u) (h .waiting)
       ∙ no-host (u .hostRuns) u
 
-  idle-due : (u : Uart H W) (b : Bool) → dueBy date (timeoutAt s (lineOf u)) ≡ b → idle s date u ≡ choose b (timedOut s u) (nothingDue date u)
+  idle-due : (u : Uart H W) (b : Bool) → dueBy date (timeoutAt s (lineOf u)) ≡ b
+      → idle s date u ≡ choose b (timedOut s u) (nothingDue date u)
   unfolding idle
   idle-due u b h = ap (λ (t : Bool). choose t (timedOut s u) (nothingDue date u)) h
 
@@ -118,7 +119,8 @@ module _ {H W : Type 0} (s : Settings) (date : ℕ) where
       subst (λ (p : Pass H W). Closed (p .state)) (sym (still-pass u h ∙ idle-due u true due))
       (record { still = record { line = h .line; waiting = h .waiting }; idleLine = timeOut-closes s (length (u .rx)) (lineOf u) })
 
-  due-passes : (k : ℕ) (u : Uart H W) → Still u → dueBy date (timeoutAt s (lineOf u)) ≡ true → Closed (passesFrom s date (suc k) true u .state)
+  due-passes : (k : ℕ) (u : Uart H W) → Still u → dueBy date (timeoutAt s (lineOf u)) ≡ true
+      → Closed (passesFrom s date (suc k) true u .state)
   unfolding passesFrom
   due-passes k u h due = closed-passes k _ _ (due-pass u h due)
 

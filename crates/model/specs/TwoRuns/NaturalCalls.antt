@@ -21,7 +21,8 @@ use Rattle.model.specs.Calls.{watchWork, powerDownWork, clocked, reclock
 use Rattle.model.specs.Calls.{takeWrittenWork}
 use Rattle.model.specs.Call.{Call, Reply}
 use Rattle.model.specs.Run.{Step, answering, stepBy, runBy}
-use Rattle.model.specs.TwoRuns.Natural.{mapEvent, mapSettled, found-nat, passes-in-nat, overflows-in-nat, bytes-nat, lastGone-nat, pending-nat, levels-nat, settle-nat, arm-nat}
+use Rattle.model.specs.TwoRuns.Natural.{mapEvent, mapSettled, found-nat, passes-in-nat, overflows-in-nat, bytes-nat}
+use Rattle.model.specs.TwoRuns.Natural.{lastGone-nat, pending-nat, levels-nat, settle-nat, arm-nat}
 use Rattle.model.specs.TwoRuns.Placed.{Put, Placed, changed, putting, stepPlaced}
 use Rattle.model.specs.TwoRuns.Alike.{mapReadOf, mapTake, mapReply, mapAnswer, itself}
 use Rattle.model.specs.declared.Refusal.{Refusal}
@@ -46,7 +47,13 @@ module _ {R R′ H H′ W W′ : Type 0} (m : R → R′) (f : H → H′) (g : 
   mapAccess a = record { reply = m (a .reply); notes = a .notes; state = mapUart f g (a .state) }
 
   unfoldable mapOutcome : Outcome R H W → Outcome R′ H′ W′
-  mapOutcome o = record { reply = m (o .reply); report = o .report; state = mapUart f g (o .state); events = map (mapEvent f g) (o .events) }
+  mapOutcome o = record {
+    reply = m (o .reply);
+    report = o .report;
+    state = mapUart f g (o .state);
+    events = map (mapEvent f g)
+        (o .events);
+  }
 
   unless-nat : (o : Option Refusal) (reply : Refusal → R) (reply′ : Refusal → R′) (work : Uart H W → Outcome R H W)
       (work′ : Uart H′ W′ → Outcome R′ H′ W′) (u : Uart H W)
@@ -225,7 +232,8 @@ module _ {H H′ W W′ : Type 0} (f : H → H′) (g : W → W′) where
   unfolding reclocked mapSettled
   reclocked-nat now period t =
       ap (λ v. found (mapSettled f g t .events) (settle now v)) (clocked-nat period t)
-      ∙ ap (found (mapSettled f g t .events)) (settle-nat f g now (clocked period (t .state))) ∙ found-nat f g (t .events) (settle now (clocked period (t .state)))
+      ∙ ap (found (mapSettled f g t .events)) (settle-nat f g now (clocked period (t .state)))
+      ∙ found-nat f g (t .events) (settle now (clocked period (t .state)))
 
   clockChange-nat : (now period : ℕ) (u : Uart H W)
       → Calls.clockChange now period (mapUart f g u) ≡ mapOutcome itself f g (Calls.clockChange now period u)
