@@ -15,6 +15,7 @@ pub mod SetUp
 pub mod Call
 pub mod Run
 pub mod Limits
+pub mod Widths
 pub mod Manual
 pub mod Marks
 pub mod Laws

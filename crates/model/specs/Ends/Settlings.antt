@@ -119,7 +119,7 @@ one c u s now as-reply work e d w = record {
   report = rw (e, d, w (settles s .state));
 }
 
-carried-works : (c : Request) (u : Uart ℕ ℕ) → Works c u (carriedOut c u)
+pub carried-works : (c : Request) (u : Uart ℕ ℕ) → Works c u (carriedOut c u)
 unfolding settlings carriedOut answering afterSettling unsettled undated eventsOf leftBy worked reported writeOf settleAt quiet
     replying dateOf
     passesIn overflowsIn total readWork writtenAt sendWork writeWork receiveWork wakeWork resetWork powerDownWork watchWork clockWork

@@ -1,0 +1,369 @@
+-- Every call keeps the widths of a state. Assumes nothing.
+use mathlib.Core.Path.{_≡_, refl, sym, ap, ap₂, subst, _∙_}
+use Prim.Native.Nat.{ℕ, zero, suc, _+_, _-_, _%_, _^_, _≤_, _<_}
+use native.Mathlib.Omega.{arith}
+use native.Mathlib.Nat.{min-le-right}
+use mathlib.Core.Bool.{Bool, true, false, _&&_}
+use mathlib.Core.Option.{Option, none, some}
+use mathlib.Core.List.{List, [], _∷_, _++_, map, map-id}
+use lib.ListN.{getD}
+use lib.Bits.{bitOr, bitAnd, or-lt, and-le-l}
+use Rattle.dates.specs.Dates
+use Rattle.dates.specs.Dates.{subcycles}
+use Rattle.model.specs.Numbers.{choose, without}
+use Rattle.model.specs.State.{Sent, OnTheLine, Uart, lineOf, mapSent, mapReceiving, mapUart}
+use Rattle.model.specs.Line.{RXFIFO-OVF, RXFIFO-TOUT, TXFIFO-EMPTY, RXFIFO-FULL, TX-DONE, raiseIf, noteSource, opened, timeOut}
+use Rattle.model.specs.Line.{start, land}
+use Rattle.model.specs.Settle.{txDone, leave, depart, timedOut, landed, begun, passes, assertLevels, drive, levels, leveled}
+use Rattle.model.specs.Settle.{settingsOf}
+use Rattle.model.specs.Settle.{settleTo, settle}
+use Rattle.model.specs.Arm.{arm}
+use Rattle.model.specs.Map.{Word, Register, isFifo, registerOf, sameWord, valueOf, wordsBy, replaced}
+use Rattle.model.specs.Registers.{Access, pop, gives, readRegister, readLooking, readAt, sendByte, sent, dropped, resetFifos, storing}
+use Rattle.model.specs.Registers.{clearing, writeRegister, concluded}
+use Rattle.model.specs.Calls.{quiet, dated, clocked, cleared, clearedLine, handOver}
+use Rattle.model.specs.Call.{Call, Request}
+use Rattle.model.specs.Run.{Step, step}
+use Rattle.model.specs.SetUp.{wordsAmong, fifoCounts, mapOf, newControl, new}
+use Rattle.model.specs.Limits.{All, nil, cons, NoLater}
+use Rattle.model.specs.Widths.{Word32, Words32, Bytes, ByteOn, Given, Widths}
+use Rattle.model.specs.Laws.Choose.{choose-ind}
+use Rattle.model.specs.Laws.Cases.{KeptOnLine, passes-ind}
+use Rattle.model.specs.Laws.AccessCases.{readRegister-ind, writeRegister-ind}
+use Rattle.model.specs.Refuses.Conditions.{Result, refusal, done}
+use Rattle.model.specs.Refuses.Refusals.{step-result}
+use Rattle.model.specs.Ends.Settlings.{Settling, settles, settlings, leftBy, replying, writeOf, worked, carried-works}
+use Rattle.model.specs.TwoRuns.Alike.{itself}
+use Rattle.model.specs.TwoRuns.Natural.{bytes-nat}
+use Rattle.model.specs.TwoRuns.NaturalCalls.{mapPut, mapPlaced, mapStep, stepPlaced-nat}
+use Rattle.model.specs.TwoRuns.Placed.{Put, changed, putAt, placed, stepPlaced, step-placed}
+use Rattle.model.specs.TwoRuns.MapKept.{step-kept}
+use Rattle.model.specs.declared.Date.{Date}
+use Rattle.model.specs.declared.Line.{Line}
+use Rattle.model.specs.declared.Frame.{Frame}
+use Rattle.model.specs.declared.Settings.{Settings}
+use Rattle.model.specs.declared.Fate.{Fate}
+use Rattle.model.specs.declared.Fate.the-variants.{Stored, Overflowed, Cleared, ClockOff, Unheard}
+use Rattle.model.specs.declared.Unsupported.{Unsupported}
+use Rattle.model.specs.declared.Words.{Words}
+
+-- ---- the numbers
+
+record Numbers {H W : Type 0} (u : Uart H W) : Type 0 where
+  reset : Words32 (u .map .reset)
+  words : Words32 (u .control .words)
+  raw : Word32 (lineOf u .«int_raw»)
+  down : NoLater Dates.last (u .control .«powered_down_at»)
+
+raise-fits : (t : Bool) (n : ℕ) (l : Line) → 2 ^ n < 2 ^ 32 → Word32 (l .«int_raw») → Word32 (raiseIf t n l .«int_raw»)
+unfolding raiseIf
+raise-fits t n l h w = choose-ind Word32 t (λ _. or-lt 32 (l .«int_raw») (2 ^ n) w h) (λ _. w)
+
+module _ (s : Settings) where
+  out-fits : (held : ℕ) (l : Line) → Word32 (l .«int_raw») → Word32 (timeOut s held l .«int_raw»)
+  unfolding timeOut noteSource
+  out-fits held l w =
+      choose-ind (λ (x : Line). Word32 (x .«int_raw»)) _ (λ _. raise-fits _ RXFIFO-TOUT _ (omega arith) w) (λ _. w)
+
+  land-fits : (f : Fate) (fr : Frame) (l : Line) → Word32 (l .«int_raw») → Word32 (land s f fr l .«int_raw»)
+  unfolding land opened noteSource
+  land-fits Stored fr l w = w
+  land-fits Overflowed fr l w = raise-fits _ RXFIFO-OVF l (omega arith) w
+  land-fits Cleared fr l w = w
+  land-fits ClockOff fr l w = w
+  land-fits Unheard fr l w = w
+
+  start-fits : (at : ℕ) (l : Line) → Word32 (l .«int_raw») → Word32 (start s at l .«int_raw»)
+  unfolding start noteSource
+  start-fits at l w = choose-ind (λ (x : Line). Word32 (x .«int_raw»)) _ (λ _. w) (λ _. w)
+
+value-by : (value : Word → ℕ) (y : Word) → valueOf (wordsBy value) y ≡ value y
+unfolding valueOf wordsBy
+value-by value Word.intEna = refl
+value-by value Word.clkdiv = refl
+value-by value Word.conf0 = refl
+value-by value Word.conf1 = refl
+value-by value Word.clkConf = refl
+value-by value Word.idleConf = refl
+value-by value Word.rs485Conf = refl
+value-by value Word.atCmdChar = refl
+value-by value Word.memConf = refl
+
+stored-fits : (x : Word) (v : ℕ) (w : Words) → Word32 v → Words32 w → Words32 (replaced x v w)
+unfolding replaced
+stored-fits x v w h k y = subst Word32 (sym (value-by (λ z. choose (sameWord x z) v (valueOf w z)) y))
+    (choose-ind Word32 _ (λ _. h) (λ _. k y))
+
+module _ {H W : Type 0} where
+  -- the same numbers, another INT_RAW that fits
+  withRaw : {u v : Uart H W} → v .map ≡ u .map → v .control .words ≡ u .control .words
+      → v .control .«powered_down_at» ≡ u .control .«powered_down_at» → Word32 (lineOf v .«int_raw») → Numbers u → Numbers v
+  withRaw a b c raw n = record {
+    reset = subst (λ m. Words32 (m .reset)) (sym a) (n .reset);
+    words = subst Words32 (sym b) (n .words);
+    raw = raw;
+    down = subst (NoLater Dates.last) (sym c) (n .down);
+  }
+
+  numbers-kept : (s : Settings) → KeptOnLine {H = H} {W = W} s Numbers
+  unfolding timedOut landed begun
+  numbers-kept s = record {
+    timeout = λ u n. withRaw refl refl refl (out-fits s _ (lineOf u) (n .raw)) n;
+    landing = λ l u n. withRaw refl refl refl (land-fits s _ (l .frame) (lineOf u) (n .raw)) n;
+    start = λ at b bs u e h n. withRaw refl refl refl (start-fits s at (lineOf u) (n .raw)) n;
+  }
+
+  levels-numbers : (u : Uart H W) → Numbers u → Numbers (levels u)
+  unfolding levels drive assertLevels
+  levels-numbers u n =
+      withRaw refl refl refl (raise-fits _ TXFIFO-EMPTY _ (omega arith) (raise-fits _ RXFIFO-FULL (lineOf u) (omega arith) (n .raw))) n
+
+  depart-numbers : (date : ℕ) (u : Uart H W) → Numbers u → Numbers (depart date u)
+  unfolding depart leave txDone
+  depart-numbers date u n = withRaw refl refl refl (raise-fits _ TX-DONE (lineOf u) (omega arith) (n .raw)) n
+
+  settle-numbers : (now : ℕ) (u : Uart H W) → Numbers u → Numbers (settle now u .state)
+  unfolding settle settleTo leveled
+  settle-numbers now u n =
+      levels-numbers _ (passes-ind (settingsOf u) Numbers (numbers-kept (settingsOf u)) _ (depart _ u) (depart-numbers _ u n))
+
+  arm-numbers : (u : Uart H W) → Numbers u → Numbers (arm u)
+  unfolding arm
+  arm-numbers u n = withRaw refl refl refl (n .raw) n
+
+  hand-numbers : (date : ℕ) (bs : List H) (u : Uart H W) → Numbers u → Numbers (handOver date bs u)
+  unfolding handOver
+  hand-numbers date [] u n = n
+  hand-numbers date (b ∷ bs) u n = arm-numbers _ (withRaw refl refl refl (n .raw) n)
+
+  -- ---- a read
+
+  pop-numbers : (ns : List Unsupported) (bs : List H) (u : Uart H W) → Numbers u → Numbers (pop ns bs u .state)
+  unfolding pop
+  pop-numbers ns [] u n = n
+  pop-numbers ns (b ∷ bs) u n = withRaw refl refl refl (n .raw) n
+
+  read-numbers : (ns : List Unsupported) (r : Register) (u : Uart H W) → Numbers u → Numbers (readRegister ns r u .state)
+  read-numbers ns r u n = readRegister-ind (λ a. Numbers (a .state)) ns u (pop-numbers ns (u .rx) u n) (λ _. n) r
+
+  looking-numbers : (b : Bool) (r : Register) (u : Uart H W) → Numbers u → Numbers (readLooking b r u .state)
+  unfolding readLooking
+  looking-numbers true r u n = read-numbers _ r _ (withRaw refl refl refl (n .raw) n)
+  looking-numbers false r u n = read-numbers [] r u n
+
+  -- ---- a write
+
+  write-numbers : (r : Register) (v : ℕ) (u : Uart H W) → Word32 v → Numbers u → Numbers (writeRegister r v u .state)
+  unfolding storing clearing resetFifos
+  write-numbers r v u h n =
+      writeRegister-ind (λ _ a. Numbers (a .state)) v u (λ _. n)
+      (withRaw refl refl refl (omega (arith, and-le-l (lineOf u .«int_raw») (2 ^ 32 - 1 - v), n .raw)) n)
+      (λ x. record { reset = n .reset; words = stored-fits x v (u .control .words) h (n .words); raw = n .raw; down = n .down })
+      (λ x. record { reset = n .reset; words = stored-fits x v (u .control .words) h (n .words); raw = n .raw; down = n .down }) r
+
+  send-numbers : (now : ℕ) (b : W) (u : Uart H W) → Numbers u → Numbers (sendByte now b u .state)
+  unfolding sendByte sent dropped
+  send-numbers now b u n = choose-ind (λ (a : Access _ H W). Numbers (a .state)) _ (λ _. n) (λ _. withRaw refl refl refl (n .raw) n)
+
+left-numbers : (u : Uart ℕ ℕ) (ss : List Settling) → Numbers u → All (λ s. Numbers (s .begins)) ss → Numbers (leftBy u ss)
+unfolding leftBy
+left-numbers u [] n nil = n
+left-numbers u (s ∷ ss) n (cons p a) = left-numbers (settles s .state) ss (settle-numbers (s .now) (s .begins) p) a
+
+-- ---- every call
+
+begins-numbers : (c : Request) (u : Uart ℕ ℕ) → Numbers u → All (λ s. Numbers (s .begins)) (settlings c u)
+unfolding settlings dated clocked
+begins-numbers (Call.read now offset) u n = cons (withRaw refl refl refl (n .raw) n) nil
+begins-numbers (Call.write now x) u n = cons (withRaw refl refl refl (n .raw) n) nil
+begins-numbers (Call.receive now at bs) u n = cons (withRaw refl refl refl (n .raw) n) nil
+begins-numbers (Call.wake now) u n = cons (withRaw refl refl refl (n .raw) n) nil
+begins-numbers (Call.reset now) u n = cons (record { reset = n .reset; words = n .words; raw = n .raw; down = tt }) nil
+begins-numbers (Call.powerDown now) u n = nil
+begins-numbers (Call.watch now b) u n = nil
+begins-numbers (Call.clockChange now period) u n =
+    let first = settle-numbers now (dated now u) (withRaw refl refl refl (n .raw) n) in
+    cons (withRaw refl refl refl (n .raw) n) (cons (withRaw refl refl refl (first .raw) first) nil)
+begins-numbers (Call.takeTx now lent) u n = cons (withRaw refl refl refl (n .raw) n) nil
+begins-numbers (Call.takeWritten lent) u n = nil
+begins-numbers Call.hasLeft u n = nil
+begins-numbers Call.hostPending u n = nil
+
+worked-numbers : (c : Request) (u v : Uart ℕ ℕ) → Given c → Numbers v → Numbers (worked c u v .state)
+unfolding worked replying quiet readAt writeOf concluded cleared clearedLine
+worked-numbers (Call.read now offset) u v g n = looking-numbers _ _ v n
+worked-numbers (Call.write now x) u v g n =
+    arm-numbers _ (levels-numbers _ (choose-ind (λ (a : Access _ ℕ ℕ). Numbers (a .state)) _ (λ _. send-numbers now _ v n)
+    (λ _. write-numbers _ (x .value) v g n)))
+worked-numbers (Call.receive now at bs) u v g n = hand-numbers _ bs v n
+worked-numbers (Call.wake now) u v g n = arm-numbers v n
+worked-numbers (Call.reset now) u v g n =
+    arm-numbers _ (levels-numbers _ (record { reset = n .reset; words = n .reset; raw = omega arith; down = n .down }))
+worked-numbers (Call.powerDown now) u v g n = record { reset = n .reset; words = n .words; raw = n .raw; down = min-le-right _ _ }
+worked-numbers (Call.watch now b) u v g n = arm-numbers _ (withRaw refl refl refl (n .raw) n)
+worked-numbers (Call.clockChange now period) u v g n = arm-numbers v n
+worked-numbers (Call.takeTx now lent) u v g n = withRaw refl refl refl (n .raw) n
+worked-numbers (Call.takeWritten lent) u v g n = withRaw refl refl refl (n .raw) n
+worked-numbers Call.hasLeft u v g n = n
+worked-numbers Call.hostPending u v g n = n
+
+result-numbers : (c : Request) (u : Uart ℕ ℕ) {s : Step ℕ ℕ ℕ} → Given c → Numbers u → Result c u s → Numbers (s .state)
+result-numbers c u g n (refusal f r) = n
+result-numbers c u g n (done all) =
+    subst Numbers (sym (carried-works c u .state))
+    (worked-numbers c u _ g (left-numbers u (settlings c u) n (begins-numbers c u n)))
+
+step-numbers : (c : Request) (u : Uart ℕ ℕ) → Given c → Numbers u → Numbers (step c u .state)
+step-numbers c u g n = result-numbers c u g n (step-result c u)
+
+-- ---- the bytes: a state has bytes alone where cutting each to its low 8 bits changes nothing, and a call looks into none
+
+low : ℕ → ℕ
+low b = b % 256
+
+abbrev Cut : Uart ℕ ℕ → Type 0
+Cut u = mapUart low low u ≡ u
+
+low-same : (bs : List ℕ) → Bytes bs → map low bs ≡ bs
+unfolding low
+low-same [] a = refl
+low-same (b ∷ bs) (cons p a) = ap₂ _∷_ (let e : b % 256 ≡ b = omega arith in e) (low-same bs a)
+
+same-low : (bs : List ℕ) → map low bs ≡ bs → Bytes bs
+unfolding low
+same-low [] e = nil
+same-low (b ∷ bs) e =
+    let p : b % 256 ≡ b = cc in
+    let q : map low bs ≡ bs = cc in
+    let h : b < 256 = omega arith in
+    cons h (same-low bs q)
+
+flight-same : (ss : List (Sent ℕ)) → Bytes (map (λ s. s .byte) ss) → map (mapSent low) ss ≡ ss
+unfolding low
+flight-same [] a = refl
+flight-same (s ∷ ss) (cons p a) =
+    ap₂ (λ b r. record { goneAt = s .goneAt; byte = b } ∷ r) (let e : s .byte % 256 ≡ s .byte = omega arith in e) (flight-same ss a)
+
+line-same : (o : Option (OnTheLine ℕ)) → ByteOn o → mapReceiving low o ≡ o
+unfolding mapReceiving low
+line-same none h = refl
+line-same (some l) h = ap (λ b. some (record { byte = b; frame = l .frame })) (let e : l .byte % 256 ≡ l .byte = omega arith in e)
+
+byteOn : Option (OnTheLine ℕ) → ℕ
+byteOn none = 0
+byteOn (some l) = l .byte
+
+same-line : (o : Option (OnTheLine ℕ)) → mapReceiving low o ≡ o → ByteOn o
+unfolding mapReceiving low byteOn
+same-line none e = tt
+same-line (some l) e = let p : l .byte % 256 ≡ l .byte = ap byteOn e in omega arith
+
+widths-cut : (u : Uart ℕ ℕ) → Widths u → Cut u
+widths-cut u w =
+    let flight = flight-same (u .inFlight) (w .inFlight) in
+    let tx = low-same (u .tx) (w .tx) in
+    let host = low-same (u .host) (w .host) in
+    let line = line-same (u .receiving) (w .receiving) in
+    let rx = low-same (u .rx) (w .rx) in
+    λ i. record {
+      map = u .map;
+      control = u .control;
+      inFlight = flight i;
+      tx = tx i;
+      host = host i;
+      hostRuns = u .hostRuns;
+      receiving = line i;
+      rx = rx i;
+    }
+
+put-cut : (r : Register) (v : ℕ) → mapPut low (putAt r v) ≡ putAt r v
+unfolding putAt mapPut low
+put-cut r v =
+    choose-ind (λ (x : Put ℕ). mapPut low x ≡ x) (isFifo r) (λ _. ap Put.byte (let e : v % 256 % 256 ≡ v % 256 = omega arith in e))
+    (λ _. refl)
+
+-- a call whose host bytes are bytes is the same with each cut
+given-cut : (offsets : List ℕ) (c : Request) → Given c → mapPlaced low low itself (placed offsets c) ≡ placed offsets c
+unfolding mapPlaced placed changed itself
+given-cut offsets (Call.read now offset) g = refl
+given-cut offsets (Call.write now x) g = ap (λ y. Call.write now y) (put-cut (registerOf offsets (x .offset)) (x .value))
+given-cut offsets (Call.receive now at bs) g = ap (λ l. Call.receive now at l) (low-same bs g)
+given-cut offsets (Call.wake now) g = refl
+given-cut offsets (Call.reset now) g = refl
+given-cut offsets (Call.powerDown now) g = refl
+given-cut offsets (Call.watch now b) g = refl
+given-cut offsets (Call.clockChange now p) g = refl
+given-cut offsets (Call.takeTx now lent) g = ap (λ l. Call.takeTx now l) (map-id lent)
+given-cut offsets (Call.takeWritten lent) g = ap (λ l. Call.takeWritten l) (map-id lent)
+given-cut offsets Call.hasLeft g = refl
+given-cut offsets Call.hostPending g = refl
+
+step-cut : (c : Request) (u : Uart ℕ ℕ) → Given c → Cut u → Cut (step c u .state)
+unfolding mapStep
+step-cut c u g e =
+    let pc = placed (u .map .offsets) c in
+    let same : step c u ≡ stepPlaced pc u = step-placed c u in
+    let fixed : mapStep low low itself (stepPlaced pc u) ≡ stepPlaced pc u =
+    sym (stepPlaced-nat low low itself pc u) ∙ ap₂ stepPlaced (given-cut (u .map .offsets) c g) e in
+    subst (λ s. Cut (s .state)) (sym same) (ap (λ s. s .state) fixed)
+
+-- ---- the whole
+
+-- every call keeps the widths, refused or not
+pub step-widths : (c : Request) (u : Uart ℕ ℕ) → Given c → Widths u → Widths (step c u .state)
+step-widths c u g w =
+    let n = step-numbers c u g (record { reset = w .reset; words = w .words; raw = w .intRaw; down = w .poweredDownAt }) in
+    let v : Uart ℕ ℕ = step c u .state in
+    let cut : Cut v = step-cut c u g (widths-cut u w) in
+    let map-kept = step-kept c u in
+    record {
+      offsets = subst (λ m. All Word32 (m .offsets)) (sym map-kept) (w .offsets);
+      reset = n .reset;
+      idleStatus = subst (λ m. Word32 (m .«idle_status»)) (sym map-kept) (w .idleStatus);
+      memRxStatus = subst (λ m. Word32 (m .«mem_rx_status»)) (sym map-kept) (w .memRxStatus);
+      words = n .words;
+      intRaw = n .raw;
+      poweredDownAt = n .down;
+      inFlight = same-low _ (sym (bytes-nat low (v .inFlight)) ∙ ap (λ x. map (λ s. s .byte) (x .inFlight)) cut);
+      tx = same-low (v .tx) (ap (λ x. x .tx) cut);
+      host = same-low (v .host) (ap (λ x. x .host) cut);
+      receiving = same-line (v .receiving) (ap (λ x. x .receiving) cut);
+      rx = same-low (v .rx) (ap (λ x. x .rx) cut);
+    }
+
+-- set-up gives them, from sixteen offsets and reset words of 32 bits
+among-fits : (ws : List ℕ) (n : ℕ) → All Word32 ws → Word32 (getD ws n 0)
+among-fits [] zero a = omega arith
+among-fits [] (suc n) a = omega arith
+among-fits (x ∷ ws) zero (cons p a) = p
+among-fits (x ∷ ws) (suc n) (cons p a) = among-fits ws n a
+
+words-fit : (ws : List ℕ) → All Word32 ws → Words32 (wordsAmong ws)
+unfolding wordsAmong valueOf
+words-fit ws a Word.intEna = among-fits ws 3 a
+words-fit ws a Word.clkdiv = among-fits ws 5 a
+words-fit ws a Word.conf0 = among-fits ws 8 a
+words-fit ws a Word.conf1 = among-fits ws 9 a
+words-fit ws a Word.clkConf = among-fits ws 10 a
+words-fit ws a Word.idleConf = among-fits ws 11 a
+words-fit ws a Word.rs485Conf = among-fits ws 12 a
+words-fit ws a Word.atCmdChar = among-fits ws 13 a
+words-fit ws a Word.memConf = among-fits ws 14 a
+
+pub new-widths : (offsets ws : List ℕ) → All Word32 offsets → All Word32 ws → Widths (new offsets ws)
+unfolding new mapOf newControl
+new-widths offsets ws o a =
+    record {
+      offsets = o;
+      reset = words-fit ws a;
+      idleStatus = omega (arith, and-le-l (getD ws 6 0) (2 ^ 32 - 1 - fifoCounts), among-fits ws 6 a);
+      memRxStatus = among-fits ws 15 a;
+      words = words-fit ws a;
+      intRaw = omega arith;
+      poweredDownAt = tt;
+      inFlight = nil;
+      tx = nil;
+      host = nil;
+      receiving = tt;
+      rx = nil;
+    }

@@ -1,0 +1,53 @@
+-- What the types say of a state beyond its limits (Limits): words of 32 bits, a power-down date of 64, and bytes. Every call keeps it
+-- (Keeps/Widths), so that a saved state can be read back. Assumes nothing.
+use Prim.Native.Nat.{ℕ, _^_, _<_}
+use mathlib.Core.Option.{Option, none, some}
+use mathlib.Core.List.{List, map}
+use Rattle.dates.specs.Dates
+use Rattle.model.specs.State.{OnTheLine, Uart, lineOf}
+use Rattle.model.specs.Map.{Word, valueOf}
+use Rattle.model.specs.Call.{Call, Request}
+use Rattle.model.specs.Limits.{All, NoLater}
+use Rattle.model.specs.declared.Words.{Words}
+
+abbrev pub Word32 : ℕ → Type 0
+Word32 n = n < 2 ^ 32
+
+abbrev pub Words32 : Words → Type 0
+Words32 w = (x : Word) → Word32 (valueOf w x)
+
+abbrev pub Bytes : List ℕ → Type 0
+Bytes bs = All (λ b. b < 256) bs
+
+abbrev pub ByteOn : Option (OnTheLine ℕ) → Type 0
+ByteOn none = Unit {0}
+ByteOn (some l) = l .byte < 256
+
+pub record Widths (u : Uart ℕ ℕ) : Type 0 where
+  pub offsets : All Word32 (u .map .offsets)
+  pub reset : Words32 (u .map .reset)
+  pub idleStatus : Word32 (u .map .«idle_status»)
+  pub memRxStatus : Word32 (u .map .«mem_rx_status»)
+  pub words : Words32 (u .control .words)
+  pub intRaw : Word32 (lineOf u .«int_raw»)
+  pub poweredDownAt : NoLater Dates.last (u .control .«powered_down_at»)
+  pub inFlight : Bytes (map (λ s. s .byte) (u .inFlight))
+  pub tx : Bytes (u .tx)
+  pub host : Bytes (u .host)
+  pub receiving : ByteOn (u .receiving)
+  pub rx : Bytes (u .rx)
+
+-- the same of what a call gives: a word written, and host bytes
+abbrev pub Given : Request → Type 0
+Given (Call.read now offset) = Unit {0}
+Given (Call.write now x) = Word32 (x .value)
+Given (Call.receive now at bs) = Bytes bs
+Given (Call.wake now) = Unit {0}
+Given (Call.reset now) = Unit {0}
+Given (Call.powerDown now) = Unit {0}
+Given (Call.watch now b) = Unit {0}
+Given (Call.clockChange now p) = Unit {0}
+Given (Call.takeTx now lent) = Unit {0}
+Given (Call.takeWritten lent) = Unit {0}
+Given Call.hasLeft = Unit {0}
+Given Call.hostPending = Unit {0}
