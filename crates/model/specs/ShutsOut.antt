@@ -4,4 +4,5 @@ pub mod LineAndBits
 pub mod Moves
 pub mod Timeouts
 pub mod Notices
+pub mod Corners
 pub mod Landings

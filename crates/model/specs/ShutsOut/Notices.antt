@@ -52,9 +52,9 @@ conf0-noted v = refl
 
 module _ (now : ℕ) (u : Uart ℕ ℕ) (x : Written) (t : InTime now u)
     (e : registerOf (u .map .offsets) (x .offset) ≡ Register.stored Word.conf0) where
-  answer : step (Call.write now x) u ≡ answering writes (writeWork now (Register.stored Word.conf0) (x .value) u)
+  pub conf0-answer : step (Call.write now x) u ≡ answering writes (writeWork now (Register.stored Word.conf0) (x .value) u)
   unfolding step stepBy writing Calls.write writeAt writePlaced choose decide
-  answer =
+  conf0-answer =
       ap (λ (q : Register). answering writes (writeAt now q (x .value) u)) e
       ∙ ap (answering writes) (carried-out _ (writeWork now (Register.stored Word.conf0) (x .value)) u (in-time t none))
 
@@ -63,12 +63,12 @@ module _ (now : ℕ) (u : Uart ℕ ℕ) (x : Written) (t : InTime now u)
       × (step (Call.write now x) u .answer .report .noted ≡ length (conf0Noted (x .value)))
   unfolding answering writeWork afterSettling concluded writeRegister storing storedNotes choose decide report
   conf0-notices = (
-    ap (λ (s : Step ℕ ℕ ℕ). s .answer .report .notices) answer ∙ ap notices (conf0-noted (x .value)),
-    ap (λ (s : Step ℕ ℕ ℕ). s .answer .report .noted) answer ∙ ap length (conf0-noted (x .value)),
+    ap (λ (s : Step ℕ ℕ ℕ). s .answer .report .notices) conf0-answer ∙ ap notices (conf0-noted (x .value)),
+    ap (λ (s : Step ℕ ℕ ℕ). s .answer .report .noted) conf0-answer ∙ ap length (conf0-noted (x .value)),
   )
 
   -- the word is stored whole
   pub conf0-stored : step (Call.write now x) u .state .control .words .conf0 ≡ x .value
   unfolding answering writeWork afterSettling concluded writeRegister storing replaced wordsBy valueOf resetFifos arm levels drive
       assertLevels choose decide
-  conf0-stored = ap (λ (s : Step ℕ ℕ ℕ). s .state .control .words .conf0) answer
+  conf0-stored = ap (λ (s : Step ℕ ℕ ℕ). s .state .control .words .conf0) conf0-answer

@@ -54,8 +54,8 @@ module _ {H W : Type 0} (s : Settings) (date : ℕ) where
 
   through-moves : {u v : Uart H W} {es : List (Event H W)} → Through s date u es v → Moves u (landingsIn es) (bare v)
   through-moves (ends {u = u} {v = v} {e = x} e g) = ends-moves u v x (subst (Moved s date u) e (pass-moves s date u)) g
-  through-moves (goes {u = u} {v = v} {e = x} {es = es} e g t) = goes-moves u v x es (subst (Moved s date u) e (pass-moves s date u)) g
-      (through-moves t)
+  through-moves (goes {u = u} {v = v} {e = x} {es = es} e g t) =
+      goes-moves u v x es (subst (Moved s date u) e (pass-moves s date u)) g (through-moves t)
 
 -- ---- to a later date
 

@@ -34,8 +34,8 @@ module _ {H W : Type 0} (s : Settings) (date : ℕ) (u : Uart H W) where
   passes-grow : length (u .rx) ≤ length (passes s date u .state .rx)
   unfolding passes
   passes-grow =
-      passes-on (λ (v w : Uart H W). length (v .rx) ≤ length (w .rx)) s date (λ v. omega arith)
-      (λ v w x p q. omega arith) pass-grow _ true u
+      passes-on (λ (v w : Uart H W). length (v .rx) ≤ length (w .rx)) s date (λ v. omega arith) (λ v w x p q. omega arith) pass-grow
+      _ true u
 
   passes-kept : Kept u (passes s date u .state)
   passes-kept = through-kept s date (through s date u)
