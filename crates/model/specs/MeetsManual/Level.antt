@@ -122,3 +122,8 @@ module _ (c : Request) (u : Uart ℕ ℕ) (done : numberOf (step c u .answer .re
 pub new-level : (offsets ws : List ℕ) → new {H = ℕ} {W = ℕ} offsets ws .control .level ≡ false
 unfolding new newControl
 new-level offsets ws = refl
+
+-- and set-up sets TXFIFO_EMPTY, bit 1 of INT_RAW, whatever its threshold
+pub new-raw : (offsets ws : List ℕ) → lineOf (new {H = ℕ} {W = ℕ} offsets ws) .«int_raw» ≡ 2
+unfolding new newControl
+new-raw offsets ws = refl
