@@ -10,7 +10,7 @@ use Rattle.model.specs.Numbers.{choose, bit, dueBy}
 use Rattle.model.specs.State.{Sent, OnTheLine, Uart, lineOf, withPoweredDownAt, withControl}
 use Rattle.model.specs.Line.{raiseIf, timeoutAt}
 use Rattle.model.specs.Settle.{Pass, timedOut, inFrame, passOn, pass, assertLevels, drive, levels, settle, settleTo}
-use Rattle.model.specs.Arm.{arm}
+use Rattle.model.specs.Arm.{instants, armAll, arm}
 use Rattle.model.specs.Map.{Word, Register, registerOf}
 use Rattle.model.specs.Registers.{resetFifos, storing, writeRegister, concluded}
 use Rattle.model.specs.Calls.{afterSettling, quiet, dated, settleAt, handOver, cleared, clearedLine, writeWork}
@@ -79,6 +79,12 @@ module _ (now : ℕ) (u : Uart ℕ ℕ) (done : numberOf (step (Call.reset now) 
     tx = ap (λ v. v .tx) reset-is;
     watched = ap (λ v. v .control .watched) reset-is;
   }
+
+  -- the wake that was armed stays, and the instants that ask for one are armed
+  pub reset-wake : after .control .wake ≡ armAll (instants (levels (cleared found))) (u .control .wake)
+  unfolding arm levels drive assertLevels cleared dated
+  reset-wake =
+      ap (λ v. v .control .wake) reset-is ∙ ap (armAll (instants (levels (cleared found)))) (settle-keeps now _ .wake)
 
   -- INT_RAW has only what the level rules raise
   pub reset-raw : (n : ℕ) → rawBit n after ≡ (rawBit n (cleared found) || fullIn n (cleared found) || emptyIn n (cleared found))
