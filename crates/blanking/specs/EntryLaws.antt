@@ -1,5 +1,5 @@
 -- Laws of the text of a call: how it is put piece by piece, and how long it can be. Assumes nothing.
-use mathlib.Core.Path.{_≡_, refl, ap, sym, subst, _∙_}
+use mathlib.Core.Path.{_≡_, refl, ap, ap₂, sym, subst, _∙_}
 use mathlib.Core.Bool.{Bool, true, false}
 use mathlib.Core.List.{List, [], _∷_, _++_, map, append-nil, append-assoc}
 use mathlib.Core.Logic.{⊎-elim}
@@ -57,6 +57,15 @@ zeros-front m n h = let all : n - 0 ≡ n = omega arith in ap (λ (k : ℕ). tak
 -- a lent buffer keeps its length
 pub lent-length : (n : ℕ) → length (map blankByte (replicate n 0)) ≡ n
 lent-length n = simp (length-map, length-replicate)
+
+-- numbers that are equal have the same text
+pub two-same : (a b c : ℕ) → b ≡ c → number a ++ number b ≡ number a ++ number c
+two-same a b c e = ap (λ (k : ℕ). number a ++ number k) e
+
+pub write-same : (offsets : List ℕ) (date o o′ v v′ : ℕ) → o ≡ o′ → v ≡ v′
+    → number date ++ number o ++ number (blankWord offsets o v) ≡ number date ++ number o′ ++ number (blankWord offsets o′ v′)
+write-same offsets date o o′ v v′ e f =
+    ap₂ (λ (x y : ℕ). number date ++ number x ++ number (blankWord offsets x y)) e f
 
 module _ (offsets ns : List ℕ) (last : ℕ) (bs : List ℕ) where
   -- blanking keeps the name

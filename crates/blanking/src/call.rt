@@ -94,3 +94,59 @@ fn bit_number(last: usize) -> u64
 {
     if 0 < last { 1 } else { 0 }
 }
+
+// The words after the name.
+fn put_words(out: &mut [u8], at: usize, map: [u32; 16], name: Name, all: [u64; 32], last: usize, bytes: &[u8]) -> usize
+    requires { ⌜ length (now bytes) ≤ 8192 ⌝ }
+    ensures { λ r. ⌜ Puts (entryWords (blankedEntry map (entryOf name all last (now (bytes .entry)))))
+        (now (out .entry)) at (now (out .exit)) r ⌝ }
+{
+    match name {
+        Name::Setup => put_set_up(out, at, all),
+        Name::Read => put_two(out, at, all[0], low(all[1]) as u64),
+        Name::Write => put_write(out, at, map, all[0], low(all[1]), low(all[2])),
+        Name::Receive => put_received(out, at, all[0], all[1], bytes, last),
+        Name::Wake => put_number(out, at, all[0]),
+        Name::Watch => put_two(out, at, all[0], bit_number(last)),
+        Name::Reset => put_number(out, at, all[0]),
+        Name::PowerDown => put_number(out, at, all[0]),
+        Name::Clock => put_two(out, at, all[0], all[1]),
+        Name::TakeTx => put_two(out, at, all[0], last as u64),
+        Name::TakeWritten => put_number(out, at, last as u64),
+        Name::HasLeft => at,
+        Name::HostPending => at,
+    }
+}
+
+// The call's name.
+fn put_name(out: &mut [u8], at: usize, name: Name) -> usize
+    ensures { λ r. ⌜ Put (letters name) (now (out .entry)) at (now (out .exit)) r ⌝ }
+{
+    match name {
+        Name::Setup => put(out, at, b"setup"),
+        Name::Read => put(out, at, b"read"),
+        Name::Write => put(out, at, b"write"),
+        Name::Receive => put(out, at, b"receive"),
+        Name::Wake => put(out, at, b"wake"),
+        Name::Watch => put(out, at, b"watch"),
+        Name::Reset => put(out, at, b"reset"),
+        Name::PowerDown => put(out, at, b"power_down"),
+        Name::Clock => put(out, at, b"clock"),
+        Name::TakeTx => put(out, at, b"take_tx"),
+        Name::TakeWritten => put(out, at, b"take_written"),
+        Name::HasLeft => put(out, at, b"has_left"),
+        Name::HostPending => put(out, at, b"host_pending"),
+    }
+}
+
+// Puts the line of a call, blanked for the register map `map`, and gives the place after it.
+pub fn put_call(out: &mut [u8], at: usize, map: [u32; 16], name: Name, all: [u64; 32], last: usize, bytes: &[u8]) -> usize
+    requires { ⌜ length (now bytes) ≤ 8192 ⌝ }
+    requires { ⌜ at + length (entryText (blankedEntry map (entryOf name all last (now bytes)))) ≤ length (now out) ⌝ }
+    ensures { λ r. ⌜ Put (entryText (blankedEntry map (entryOf name all last (now (bytes .entry)))))
+        (now (out .entry)) at (now (out .exit)) r ⌝ }
+{
+    let named = put_name(out, at, name);
+    let words = put_words(out, named, map, name, all, last, bytes);
+    put(out, words, b"\n")
+}
