@@ -4,4 +4,6 @@ pub mod TimesAlike
 pub mod Puts
 pub mod Entries
 pub mod EntryLaws
+pub mod Lines
+pub mod LineLaws
 mod Examples

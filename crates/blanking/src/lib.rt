@@ -1,3 +1,4 @@
 // A trace without a client's bytes: what is put in their place, and the text of every line; specs/ has the theorems on blanked lists.
-pub mod call;
-pub mod words;
+mod call;
+pub mod line;
+mod words;
