@@ -91,7 +91,12 @@ pub fn run() {
     let mut session = start();
     let mut turns = u64::MAX;
     while turns > 0 && input.more {
-        input = read_more(input, session.output.failed, &mut chunk, b"blank: standard input");
+        input = read_more(
+            input,
+            session.output.failed,
+            &mut chunk,
+            b"blank: standard input",
+        );
         input = next_line(input, &chunk, &mut buffer);
         session = turn(session, input, &buffer, &mut out);
         turns -= 1;

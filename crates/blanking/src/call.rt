@@ -78,7 +78,14 @@ fn put_zeros(out: &mut [u8], at: usize, count: usize) -> usize
 }
 
 // A hand-over, its host bytes blanked.
-fn put_received(out: &mut [u8], at: usize, date: u64, start: u64, bytes: &[u8], count: usize) -> usize
+fn put_received(
+    out: &mut [u8],
+    at: usize,
+    date: u64,
+    start: u64,
+    bytes: &[u8],
+    count: usize,
+) -> usize
     requires { ⌜ length (now bytes) ≤ 8192 ⌝ }
     ensures { λ r. ⌜ Puts (number date ++ number start ++ (32 ∷ hexText (map blankByte (take count (now (bytes .entry))))))
         (now (out .entry)) at (now (out .exit)) r ⌝ }
@@ -96,7 +103,15 @@ fn bit_number(last: usize) -> u64
 }
 
 // The words after the name.
-fn put_words(out: &mut [u8], at: usize, map: [u32; 16], name: Name, all: [u64; 32], last: usize, bytes: &[u8]) -> usize
+fn put_words(
+    out: &mut [u8],
+    at: usize,
+    map: [u32; 16],
+    name: Name,
+    all: [u64; 32],
+    last: usize,
+    bytes: &[u8],
+) -> usize
     requires { ⌜ length (now bytes) ≤ 8192 ⌝ }
     ensures { λ r. ⌜ Puts (entryWords (blankedEntry map (entryOf name all last (now (bytes .entry)))))
         (now (out .entry)) at (now (out .exit)) r ⌝ }
@@ -140,7 +155,15 @@ fn put_name(out: &mut [u8], at: usize, name: Name) -> usize
 }
 
 // Puts the line of a call, blanked for the register map `map`, and gives the place after it.
-pub fn put_call(out: &mut [u8], at: usize, map: [u32; 16], name: Name, all: [u64; 32], last: usize, bytes: &[u8]) -> usize
+pub fn put_call(
+    out: &mut [u8],
+    at: usize,
+    map: [u32; 16],
+    name: Name,
+    all: [u64; 32],
+    last: usize,
+    bytes: &[u8],
+) -> usize
     requires { ⌜ length (now bytes) ≤ 8192 ⌝ }
     requires { ⌜ at + length (entryText (blankedEntry map (entryOf name all last (now bytes)))) ≤ length (now out) ⌝ }
     ensures { λ r. ⌜ Put (entryText (blankedEntry map (entryOf name all last (now (bytes .entry)))))

@@ -106,7 +106,15 @@ fn set_map(mut trace: Trace, offsets: [u32; 16]) -> Trace
 }
 
 // A call: a set-up, or one on the UART that is set up.
-fn call(trace: Trace, name: Name, all: [u64; 32], last: usize, bytes: &[u8], out: &mut [u8], at: usize) -> Blanked
+fn call(
+    trace: Trace,
+    name: Name,
+    all: [u64; 32],
+    last: usize,
+    bytes: &[u8],
+    out: &mut [u8],
+    at: usize,
+) -> Blanked
     requires { ⌜ length (now bytes) ≤ 8192 ⌝ }
     requires { ⌜ at + longest ≤ length (now out) ⌝ }
     ensures { λ r. ⌜ Blanks (callKind (trace .ready) name all last (now (bytes .entry))) trace

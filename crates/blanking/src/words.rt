@@ -14,7 +14,8 @@ fn takes_word(place: Place) -> bool
 {
     match place {
         Place::IntEna | Place::IntClr | Place::Clkdiv | Place::Conf0 | Place::Conf1 => true,
-        Place::ClkConf | Place::IdleConf | Place::Rs485Conf | Place::AtCmdChar | Place::MemConf => true,
+        Place::ClkConf | Place::IdleConf | Place::Rs485Conf | Place::AtCmdChar | Place::MemConf =>
+            true,
         _ => false,
     }
 }

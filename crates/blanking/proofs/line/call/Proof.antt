@@ -8,9 +8,11 @@ use Rattle.blanking.proofs.line.call.Tie as tie
 put-call-requires : tie.Need-put-call-requires
 put-call-requires c κs =
     let start = c .before .before .before .before .before .before in
-    let a = start .args in
-    (start .pre .0, text-room (a .out .now) (a .at) (a .trace .offsets) (a .name) (a .all) (a .last) (a .bytes .now) (start .pre .0)
-    (start .pre .1))
+    let a = start .args in (
+      start .pre .0,
+      text-room (a .out .now) (a .at) (a .trace .offsets) (a .name) (a .all) (a .last) (a .bytes .now) (start .pre .0)
+          (start .pre .1),
+    )
 
 returns : tie.Need-returns
 returns c =
@@ -22,9 +24,11 @@ returns c =
 put-call-requires-2 : tie.Need-put-call-requires-2
 put-call-requires-2 c κs =
     let start = c .before .before .before .before .before .before .before in
-    let a = start .args in
-    (start .pre .0, text-room (a .out .now) (a .at) (a .trace .offsets) (a .name) (a .all) (a .last) (a .bytes .now) (start .pre .0)
-    (start .pre .1))
+    let a = start .args in (
+      start .pre .0,
+      text-room (a .out .now) (a .at) (a .trace .offsets) (a .name) (a .all) (a .last) (a .bytes .now) (start .pre .0)
+          (start .pre .1),
+    )
 
 returns-2 : tie.Need-returns-2
 returns-2 c =
