@@ -62,6 +62,9 @@ lent-length n = simp (length-map, length-replicate)
 pub two-same : (a b c : ℕ) → b ≡ c → number a ++ number b ≡ number a ++ number c
 two-same a b c e = ap (λ (k : ℕ). number a ++ number k) e
 
+pub three-same : (a b c d e f : ℕ) → a ≡ d → b ≡ e → c ≡ f → number a ++ number b ++ number c ≡ number d ++ number e ++ number f
+three-same a b c d e f p q r = rw (p, q, r)
+
 pub write-same : (offsets : List ℕ) (date o o′ v v′ : ℕ) → o ≡ o′ → v ≡ v′
     → number date ++ number o ++ number (blankWord offsets o v) ≡ number date ++ number o′ ++ number (blankWord offsets o′ v′)
 write-same offsets date o o′ v v′ e f =

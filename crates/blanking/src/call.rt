@@ -59,13 +59,31 @@ fn put_set_up(out: &mut [u8], at: usize, all: [u64; 32]) -> usize
     put_sixteen(out, offsets, blank_resets(sixteen(all, 16)))
 }
 
+// The numbers of a write.
+struct Numbers {
+    date: u64,
+    offset: u32,
+    value: u32,
+}
+
 // A write, its value blanked by the register map.
+fn blanked_write(map: [u32; 16], date: u64, offset: u32, value: u32) -> Numbers
+    ensures { λ r. ⌜ (r .date ≡ date) × (r .offset ≡ offset) × (r .value ≡ blankWord map offset value) ⌝ }
+{
+    Numbers {
+        date,
+        offset,
+        value: blank_word(map, offset, value),
+    }
+}
+
 fn put_write(out: &mut [u8], at: usize, map: [u32; 16], date: u64, offset: u32, value: u32) -> usize
     ensures { λ r. ⌜ Puts (number date ++ number offset ++ number (blankWord map offset value))
         (now (out .entry)) at (now (out .exit)) r ⌝ }
 {
-    let dated = put_two(out, at, date, offset as u64);
-    put_number(out, dated, blank_word(map, offset, value) as u64)
+    let blank = blanked_write(map, date, offset, value);
+    let dated = put_two(out, at, blank.date, blank.offset as u64);
+    put_number(out, dated, blank.value as u64)
 }
 
 // Zeros for `count` host bytes; none is `-`.
