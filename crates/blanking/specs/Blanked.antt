@@ -1,37 +1,46 @@
--- Calls with every host byte and every word written to FIFO replaced: what a reader of a blanked run must believe. Assumes
--- nothing.
+-- Calls without a client's bytes: every host byte, and every word written to a place that takes none or to FIFO, is replaced,
+-- and so are the reset words that set-up does not use: what a reader of a blanked run must believe. Assumes nothing.
 use Prim.Native.Nat.{ℕ}
-use mathlib.Core.List.{List, map}
-use lib.Dec.{eqb}
-use Rattle.model.specs.Numbers.{choose}
+use mathlib.Core.List.{List, [], _∷_, map}
+use lib.ListN.{getD}
+use Rattle.model.specs.Numbers.{choose, without}
+use Rattle.model.specs.Registers.{placeOf}
+use Rattle.model.specs.SetUp.{fifoCounts}
 use Rattle.model.specs.Call.{Call, Written, Request}
+use Rattle.model.specs.TwoRuns.Unused.{takesWord}
 
 -- every byte is replaced by 0
 unfoldable pub blankByte : ℕ → ℕ
 blankByte b = 0
 
--- of words written, that of FIFO alone
-unfoldable pub blankWord : ℕ → ℕ → ℕ → ℕ
-blankWord fifo offset value = choose (eqb offset fifo) (blankByte value) value
+-- a word is kept where it is written to INT_CLR or a stored word of the map, and else replaced by 0, whatever the call answers
+unfoldable pub blankWord : List ℕ → ℕ → ℕ → ℕ
+blankWord offsets offset value = choose (takesWord (placeOf offsets offset)) value 0
 
-unfoldable pub blankWritten : ℕ → Written → Written
-blankWritten fifo x = record { offset = x .offset; value = blankWord fifo (x .offset) (x .value) }
+unfoldable pub blankWritten : List ℕ → Written → Written
+blankWritten offsets x = record { offset = x .offset; value = blankWord offsets (x .offset) (x .value) }
+
+-- of the sixteen reset words, FIFO, INT_RAW, INT_ST, INT_CLR, FSM_STATUS and the counts of STATUS are replaced by 0
+unfoldable pub blankResets : List ℕ → List ℕ
+blankResets ws =
+    0 ∷ 0 ∷ 0 ∷ getD ws 3 0 ∷ 0 ∷ getD ws 5 0 ∷ without fifoCounts (getD ws 6 0) ∷ 0 ∷ getD ws 8 0 ∷ getD ws 9 0 ∷ getD ws 10 0
+    ∷ getD ws 11 0 ∷ getD ws 12 0 ∷ getD ws 13 0 ∷ getD ws 14 0 ∷ getD ws 15 0 ∷ []
 
 -- call, date, length, offset and every other value are kept
-unfoldable pub blanked : ℕ → Request → Request
-blanked fifo (Call.read now r) = Call.read now r
-blanked fifo (Call.write now x) = Call.write now (blankWritten fifo x)
-blanked fifo (Call.receive now at bs) = Call.receive now at (map blankByte bs)
-blanked fifo (Call.wake now) = Call.wake now
-blanked fifo (Call.reset now) = Call.reset now
-blanked fifo (Call.powerDown now) = Call.powerDown now
-blanked fifo (Call.watch now b) = Call.watch now b
-blanked fifo (Call.clockChange now p) = Call.clockChange now p
-blanked fifo (Call.takeTx now lent) = Call.takeTx now (map blankByte lent)
-blanked fifo (Call.takeWritten lent) = Call.takeWritten (map blankByte lent)
-blanked fifo Call.hasLeft = Call.hasLeft
-blanked fifo Call.hostPending = Call.hostPending
+unfoldable pub blanked : List ℕ → Request → Request
+blanked offsets (Call.read now r) = Call.read now r
+blanked offsets (Call.write now x) = Call.write now (blankWritten offsets x)
+blanked offsets (Call.receive now at bs) = Call.receive now at (map blankByte bs)
+blanked offsets (Call.wake now) = Call.wake now
+blanked offsets (Call.reset now) = Call.reset now
+blanked offsets (Call.powerDown now) = Call.powerDown now
+blanked offsets (Call.watch now b) = Call.watch now b
+blanked offsets (Call.clockChange now p) = Call.clockChange now p
+blanked offsets (Call.takeTx now lent) = Call.takeTx now (map blankByte lent)
+blanked offsets (Call.takeWritten lent) = Call.takeWritten (map blankByte lent)
+blanked offsets Call.hasLeft = Call.hasLeft
+blanked offsets Call.hostPending = Call.hostPending
 
 -- the list that is sent out
-abbrev pub blankedList : ℕ → List Request → List Request
-blankedList fifo cs = map (blanked fifo) cs
+abbrev pub blankedList : List ℕ → List Request → List Request
+blankedList offsets cs = map (blanked offsets) cs

@@ -1,5 +1,9 @@
--- A list of calls without a client's bytes, and that it times as the list it was made from.
+-- A list of calls without a client's bytes, that it times as the list it was made from, and the text of its lines.
 pub mod Blanked
 pub mod TimesAlike
-pub mod Fronts
+pub mod Puts
+pub mod Entries
+pub mod EntryLaws
+pub mod Lines
+pub mod LineLaws
 mod Examples

@@ -1,67 +1,99 @@
 -- A blanked run times as the real one, and tells nothing of the pattern. Assumes nothing.
 use mathlib.Core.Path.{_≡_, refl, sym, ap, ap₂, subst, _∙_}
-use Prim.Native.Nat.{ℕ, suc}
-use native.Mathlib.Nat.{suc-ne-zero, suc-inj}
+use Prim.Native.Nat.{ℕ, zero, suc, _/_, _^_, _<_}
+use native.Mathlib.Nat.{suc-ne-zero, suc-inj, pow-suc}
+use native.Mathlib.Omega.{arith}
 use mathlib.Core.Bool.{Bool, true, false}
 use mathlib.Core.List.{List, [], _∷_, map}
-use borrow.Author.Tests.{eqb-true, eq-eqb}
-use lib.Dec.{eqb}
-use lib.ListN.{length}
-use Rattle.model.specs.Numbers.{choose}
-use Rattle.model.specs.Laws.Choose.{choose-true}
+use lib.Bits.{bitAnd, and-step, and-zero-r}
+use lib.ListN.{length, getD}
+use Rattle.model.specs.Numbers.{choose, without}
+use Rattle.model.specs.Laws.Choose.{choose-false}
+use Rattle.model.specs.Registers.{placeOf, placeAmong}
 use Rattle.model.specs.Call.{Call, Written, Request}
-use Rattle.model.specs.SetUp.{new}
+use Rattle.model.specs.SetUp.{wordsAmong, fifoCounts, new}
 use Rattle.model.specs.Run.{run}
+use Rattle.model.specs.Refuses.Conditions.{isFifo}
+use Rattle.model.specs.Refuses.FifoPlace.{first-is-fifo, fifo-is-first}
 use Rattle.model.specs.TwoRuns.Alike.{Each, Alike, fifoOffset, withoutRest}
 use Rattle.model.specs.TwoRuns.Agree.{Agreeing}
-use Rattle.model.specs.TwoRuns.Theorem.{runs-agree}
-use Rattle.blanking.specs.Blanked.{blankByte, blankWord, blankWritten, blanked, blankedList}
+use Rattle.model.specs.TwoRuns.Unused.{takesWord, SameInUse}
+use Rattle.model.specs.TwoRuns.InUse.{AlikeInUse, runs-agree-in-use}
+use Rattle.blanking.specs.Blanked.{blankByte, blankWord, blankWritten, blankResets, blanked, blankedList}
 
 length-blank : (bs : List ℕ) → length bs ≡ length (map blankByte bs)
 length-blank [] = refl
 length-blank (b ∷ bs) = ap suc (length-blank bs)
 
--- ---- a blanked list is alike to the list it was made from
+-- ---- a blanked list is alike in use to the list it was made from
 
-write-alike : (fifo now : ℕ) (x : Written) → Alike fifo (Call.write now x) (Call.write now (blankWritten fifo x))
+first-fifo : (offsets : List ℕ) (offset v v′ : ℕ) → isFifo (placeOf offsets offset) ≡ true
+    → (now : ℕ) → AlikeInUse offsets (Call.write now (record { offset = offset; value = v }))
+    (Call.write now (record { offset = offset; value = v′ }))
+first-fifo offsets offset v v′ f now =
+    let (os, e) = fifo-is-first offsets offset f in
+    subst (λ l. AlikeInUse l (Call.write now (record { offset = offset; value = v }))
+    (Call.write now (record { offset = offset; value = v′ }))) (sym e) (AlikeInUse.alike Alike.fifoWord)
+
+write-alike : (offsets : List ℕ) (now : ℕ) (x : Written)
+    → AlikeInUse offsets (Call.write now x) (Call.write now (blankWritten offsets x))
 unfolding blankWritten blankWord choose
-write-alike fifo now x = by-test (eqb (x .offset) fifo) refl
+write-alike offsets now x = by-word (takesWord (placeOf offsets (x .offset))) refl
   where
-    by-test : (t : Bool) → eqb (x .offset) fifo ≡ t
-        → Alike fifo (Call.write now x) (Call.write now (record { offset = x .offset; value = choose t (blankByte (x .value)) (x .value) }))
-    by-test true e =
-        subst (λ o. Alike fifo (Call.write now (record { offset = o; value = x .value }))
-        (Call.write now (record { offset = o; value = blankByte (x .value) })))
-        (sym (eqb-true _ _ e)) Alike.fifoWord
-    by-test false e = Alike.same
+    by-fifo : (t : Bool) → isFifo (placeOf offsets (x .offset)) ≡ t → takesWord (placeOf offsets (x .offset)) ≡ false
+        → AlikeInUse offsets (Call.write now x) (Call.write now (record { offset = x .offset; value = 0 }))
+    by-fifo true f e = first-fifo offsets (x .offset) (x .value) 0 f now
+    by-fifo false f e = AlikeInUse.unusedWord f e
 
-alike : (fifo : ℕ) (c : Request) → Alike fifo c (blanked fifo c)
+    by-word : (t : Bool) → takesWord (placeOf offsets (x .offset)) ≡ t
+        → AlikeInUse offsets (Call.write now x) (Call.write now (record { offset = x .offset; value = choose t (x .value) 0 }))
+    by-word true e = AlikeInUse.alike Alike.same
+    by-word false e = by-fifo (isFifo (placeOf offsets (x .offset))) refl e
+
+alike : (offsets : List ℕ) (c : Request) → AlikeInUse offsets c (blanked offsets c)
 unfolding blanked
-alike fifo (Call.read now r) = Alike.same
-alike fifo (Call.write now x) = write-alike fifo now x
-alike fifo (Call.receive now at bs) = Alike.hostBytes (length-blank bs)
-alike fifo (Call.wake now) = Alike.same
-alike fifo (Call.reset now) = Alike.same
-alike fifo (Call.powerDown now) = Alike.same
-alike fifo (Call.watch now b) = Alike.same
-alike fifo (Call.clockChange now p) = Alike.same
-alike fifo (Call.takeTx now lent) = Alike.lentToTakeTx (length-blank lent)
-alike fifo (Call.takeWritten lent) = Alike.lentToTakeWritten (length-blank lent)
-alike fifo Call.hasLeft = Alike.same
-alike fifo Call.hostPending = Alike.same
+alike offsets (Call.read now r) = AlikeInUse.alike Alike.same
+alike offsets (Call.write now x) = write-alike offsets now x
+alike offsets (Call.receive now at bs) = AlikeInUse.alike (Alike.hostBytes (length-blank bs))
+alike offsets (Call.wake now) = AlikeInUse.alike Alike.same
+alike offsets (Call.reset now) = AlikeInUse.alike Alike.same
+alike offsets (Call.powerDown now) = AlikeInUse.alike Alike.same
+alike offsets (Call.watch now b) = AlikeInUse.alike Alike.same
+alike offsets (Call.clockChange now p) = AlikeInUse.alike Alike.same
+alike offsets (Call.takeTx now lent) = AlikeInUse.alike (Alike.lentToTakeTx (length-blank lent))
+alike offsets (Call.takeWritten lent) = AlikeInUse.alike (Alike.lentToTakeWritten (length-blank lent))
+alike offsets Call.hasLeft = AlikeInUse.alike Alike.same
+alike offsets Call.hostPending = AlikeInUse.alike Alike.same
 
-pub blanked-alike : (fifo : ℕ) (cs : List Request) → Each (Alike fifo) cs (blankedList fifo cs)
-blanked-alike fifo [] = Each.nil
-blanked-alike fifo (c ∷ cs) = Each.cons (alike fifo c) (blanked-alike fifo cs)
+pub blanked-alike : (offsets : List ℕ) (cs : List Request) → Each (AlikeInUse offsets) cs (blankedList offsets cs)
+blanked-alike offsets [] = Each.nil
+blanked-alike offsets (c ∷ cs) = Each.cons (alike offsets c) (blanked-alike offsets cs)
+
+-- what a mask has cleared stays so
+and-again : (n a b : ℕ) → b < 2 ^ n → bitAnd (bitAnd a b) b ≡ bitAnd a b
+and-again zero a b h =
+    let none : b ≡ 0 = omega arith in
+    rw none (and-zero-r (bitAnd a 0) ∙ sym (and-zero-r a))
+and-again (suc n) a b h =
+    let half : bitAnd a b / 2 ≡ bitAnd (a / 2) (b / 2) = omega (arith, and-step a b) in
+    let deeper : bitAnd (bitAnd a b / 2) (b / 2) ≡ bitAnd (a / 2) (b / 2) =
+    ap (λ (x : ℕ). bitAnd x (b / 2)) half ∙ and-again n (a / 2) (b / 2) (omega (arith, pow-suc 2 n)) in
+    omega (arith, and-step (bitAnd a b) b, and-step a b)
+
+-- set-up uses nothing that was replaced
+pub blanked-resets : (ws : List ℕ) → SameInUse ws (blankResets ws)
+unfolding blankResets wordsAmong
+blanked-resets ws = record { words = refl; status = sym (and-again 32 (getD ws 6 0) 0xFC00FC00 (omega arith)); memRxStatus = refl }
 
 -- so by demand 3 a blanked run times as the real one: all answers agree, apart from the byte that a read of FIFO gives and
 -- bytes handed out as sent, and these agree in count at every call
 pub blanked-times-alike : (offsets ws : List ℕ) → length offsets ≡ 16 → (cs : List Request)
-    → Agreeing (fifoOffset offsets) cs (blankedList (fifoOffset offsets) cs) 0 0 cs
-    (map withoutRest (run cs (new offsets ws))) (map withoutRest (run (blankedList (fifoOffset offsets) cs) (new offsets ws)))
-blanked-times-alike offsets ws e cs = runs-agree offsets ws e cs _ (blanked-alike (fifoOffset offsets) cs)
+    → Agreeing (fifoOffset offsets) cs (blankedList offsets cs) 0 0 cs
+    (map withoutRest (run cs (new offsets ws))) (map withoutRest (run (blankedList offsets cs) (new offsets (blankResets ws))))
+blanked-times-alike offsets ws e cs =
+    runs-agree-in-use offsets ws (blankResets ws) e (blanked-resets ws) cs _ (blanked-alike offsets cs)
 
--- ---- two alike lists blank to the same list: it tells nothing of the bytes
+-- ---- two lists that are alike in use blank to the same list: it tells nothing of what was replaced
 
 same-blank : (bs bs′ : List ℕ) → length bs ≡ length bs′ → map blankByte bs ≡ map blankByte bs′
 unfolding blankByte
@@ -70,19 +102,56 @@ same-blank [] (b ∷ bs′) e = absurd (suc-ne-zero _ (sym e))
 same-blank (b ∷ bs) [] e = absurd (suc-ne-zero _ e)
 same-blank (b ∷ bs) (b′ ∷ bs′) e = ap (λ l. 0 ∷ l) (same-blank bs bs′ (suc-inj e))
 
-same-word : (fifo v v′ : ℕ) → blankWord fifo fifo v ≡ blankWord fifo fifo v′
-unfolding blankWord blankByte
-same-word fifo v v′ = choose-true _ _ (eq-eqb fifo fifo refl) ∙ sym (choose-true _ _ (eq-eqb fifo fifo refl))
+same-word : (offsets : List ℕ) (offset v v′ : ℕ) → takesWord (placeOf offsets offset) ≡ false
+    → blankWord offsets offset v ≡ blankWord offsets offset v′
+unfolding blankWord
+same-word offsets offset v v′ e = choose-false v 0 e ∙ sym (choose-false v′ 0 e)
 
-blank-same : (fifo : ℕ) {c d : Request} → Alike fifo c d → blanked fifo c ≡ blanked fifo d
+fifo-takes-none : (offsets : List ℕ) → takesWord (placeOf offsets (fifoOffset offsets)) ≡ false
+unfolding placeOf placeAmong
+fifo-takes-none [] = refl
+fifo-takes-none (fifo ∷ others) = ap takesWord (first-is-fifo fifo others)
+
+same-write : (offsets : List ℕ) (now offset v v′ : ℕ) → takesWord (placeOf offsets offset) ≡ false
+    → blanked offsets (Call.write now (record { offset = offset; value = v }))
+    ≡ blanked offsets (Call.write now (record { offset = offset; value = v′ }))
 unfolding blanked blankWritten
-blank-same fifo Alike.same = refl
-blank-same fifo (Alike.hostBytes {now = now} {at = at} {bs = bs} {bs′ = bs′} e) = ap (λ l. Call.receive now at l) (same-blank bs bs′ e)
-blank-same fifo (Alike.fifoWord {now = now} {v = v} {v′ = v′}) =
-    ap (λ w. Call.write now (record { offset = fifo; value = w })) (same-word fifo v v′)
-blank-same fifo (Alike.lentToTakeTx {now = now} {lent = l} {lent′ = m} e) = ap (λ k. Call.takeTx now k) (same-blank l m e)
-blank-same fifo (Alike.lentToTakeWritten {lent = l} {lent′ = m} e) = ap Call.takeWritten (same-blank l m e)
+same-write offsets now offset v v′ e =
+    ap (λ w. Call.write now (record { offset = offset; value = w })) (same-word offsets offset v v′ e)
 
-pub alike-blanked : (fifo : ℕ) {cs ds : List Request} → Each (Alike fifo) cs ds → blankedList fifo cs ≡ blankedList fifo ds
-alike-blanked fifo Each.nil = refl
-alike-blanked fifo (Each.cons a rest) = ap₂ _∷_ (blank-same fifo a) (alike-blanked fifo rest)
+alike-same : (offsets : List ℕ) {c d : Request} → Alike (fifoOffset offsets) c d → blanked offsets c ≡ blanked offsets d
+unfolding blanked
+alike-same offsets Alike.same = refl
+alike-same offsets (Alike.hostBytes {now = now} {at = at} {bs = bs} {bs′ = bs′} e) =
+    ap (λ l. Call.receive now at l) (same-blank bs bs′ e)
+alike-same offsets (Alike.fifoWord {now = now} {v = v} {v′ = v′}) = same-write offsets now _ v v′ (fifo-takes-none offsets)
+alike-same offsets (Alike.lentToTakeTx {now = now} {lent = l} {lent′ = m} e) = ap (λ k. Call.takeTx now k) (same-blank l m e)
+alike-same offsets (Alike.lentToTakeWritten {lent = l} {lent′ = m} e) = ap Call.takeWritten (same-blank l m e)
+
+blank-same : (offsets : List ℕ) {c d : Request} → AlikeInUse offsets c d → blanked offsets c ≡ blanked offsets d
+blank-same offsets (AlikeInUse.alike a) = alike-same offsets a
+blank-same offsets (AlikeInUse.unusedWord {now = now} {offset = o} {v = v} {v′ = v′} f e) = same-write offsets now o v v′ e
+
+pub alike-blanked : (offsets : List ℕ) {cs ds : List Request} → Each (AlikeInUse offsets) cs ds
+    → blankedList offsets cs ≡ blankedList offsets ds
+alike-blanked offsets Each.nil = refl
+alike-blanked offsets (Each.cons a rest) = ap₂ _∷_ (blank-same offsets a) (alike-blanked offsets rest)
+
+-- and so do the reset words of two set-ups
+pub resets-blanked : (ws ws′ : List ℕ) → SameInUse ws ws′ → blankResets ws ≡ blankResets ws′
+unfolding blankResets wordsAmong
+resets-blanked ws ws′ s =
+    let w = s .words in
+    rw (
+      ap (λ x. x .«int_ena») w,
+      ap (λ x. x .clkdiv) w,
+      s .status,
+      ap (λ x. x .conf0) w,
+      ap (λ x. x .conf1) w,
+      ap (λ x. x .«clk_conf») w,
+      ap (λ x. x .«idle_conf») w,
+      ap (λ x. x .«rs485_conf») w,
+      ap (λ x. x .«at_cmd_char») w,
+      ap (λ x. x .«mem_conf») w,
+      s .memRxStatus,
+    )

@@ -10,3 +10,5 @@ pub mod StepCases
 pub mod Bounds
 pub mod Shapes
 pub mod Theorem
+pub mod Unused
+pub mod InUse

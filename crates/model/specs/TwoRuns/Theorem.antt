@@ -135,11 +135,15 @@ module _ (fifo : ℕ) (cs ds : List Request) where
   agreeing Each.nil EachBelow.nil = Agreeing.nil
   agreeing (Each.cons s ss) (EachBelow.cons b bs) = Agreeing.cons (agree s b) (agreeing ss bs)
 
+-- the answers of both runs, by the one list
+pub lists-agree : (offsets ws : List ℕ) (cs ds : List Request) → OneList offsets ws cs ds
+    → Agreeing (fifoOffset offsets) cs ds 0 0 cs (map withoutRest (run cs (new offsets ws))) (map withoutRest (run ds (new offsets ws)))
+lists-agree offsets ws cs ds o =
+    subst₂ (Agreeing (fifoOffset offsets) cs ds 0 0 cs) (sym (o .first)) (sym (o .second))
+    (agreeing (fifoOffset offsets) cs ds (o .shape) (o .below))
+
 -- demand 3 in its own words: all answers agree, apart from the byte that a read of FIFO gives and the bytes handed out as
 -- sent; these agree in count at every call, and each is the byte of the same number in both runs
 pub runs-agree : (offsets ws : List ℕ) → length offsets ≡ 16 → (cs ds : List Request) → Each (Alike (fifoOffset offsets)) cs ds
     → Agreeing (fifoOffset offsets) cs ds 0 0 cs (map withoutRest (run cs (new offsets ws))) (map withoutRest (run ds (new offsets ws)))
-runs-agree offsets ws e cs ds a =
-    let o : OneList offsets ws cs ds = two-runs offsets ws e cs ds a in
-    subst₂ (Agreeing (fifoOffset offsets) cs ds 0 0 cs) (sym (o .first)) (sym (o .second))
-    (agreeing (fifoOffset offsets) cs ds (o .shape) (o .below))
+runs-agree offsets ws e cs ds a = lists-agree offsets ws cs ds (two-runs offsets ws e cs ds a)

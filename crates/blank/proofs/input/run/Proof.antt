@@ -4,10 +4,10 @@ use Rattle.blank.proofs.input.run.Statement.{statement}
 use Rattle.blank.proofs.input.run.Tie as tie
 
 abbrev Inv-loop : tie.InvT-loop
-Inv-loop chunk₀ line₀ bytes₀ out₀ input₀ trace₀ turns₀ t9 chunk line bytes out input trace turns = Unit {0}
+Inv-loop chunk₀ buffer₀ out₀ input₀ session₀ turns₀ t7 chunk buffer out input session turns = Unit {0}
 
 abbrev μ-loop : tie.MeasureT-loop
-μ-loop chunk₀ line₀ bytes₀ out₀ input₀ trace₀ turns₀ t9 chunk line bytes out input trace turns = turns
+μ-loop chunk₀ buffer₀ out₀ input₀ session₀ turns₀ t7 chunk buffer out input session turns = turns
 
 pub run-spec : {M : Type 1} → statement M
 run-spec =

@@ -1,0 +1,121 @@
+-- Demand 3 for lists that may differ also in values that the definition does not use. Assumes nothing.
+use mathlib.Core.Path.{_≡_, refl, sym, ap, ap₂, subst, _∙_}
+use Prim.Native.Nat.{ℕ, _%_}
+use native.Mathlib.Nat.{suc-ne-zero}
+use mathlib.Core.Bool.{true, false}
+use mathlib.Core.List.{List, [], _∷_, _++_, map, flatMap}
+use lib.Dec.{eqb}
+use borrow.Author.Tests.{ne-eqb}
+use lib.ListN.{length, getD}
+use Rattle.model.specs.Numbers.{choose}
+use Rattle.model.specs.Laws.Choose.{choose-false}
+use Rattle.model.specs.State.{Uart}
+use Rattle.model.specs.Registers.{placeOf}
+use Rattle.model.specs.SetUp.{mapOf, new}
+use Rattle.model.specs.Call.{Call, Request}
+use Rattle.model.specs.Run.{step, runBy, run}
+use Rattle.model.specs.Refuses.Conditions.{isFifo}
+use Rattle.model.specs.Refuses.FifoPlace.{first-is-fifo}
+use Rattle.model.specs.Ends.Passes.{apart}
+use Rattle.model.specs.TwoRuns.Alike.{Each, Alike, fifoOffset, hostOf, writesOf, fifoByte, fifoBytesOf, hostGiven, fifoWritten}
+use Rattle.model.specs.TwoRuns.Alike.{itself, mapAnswer, withoutRest, withBytesOf}
+use Rattle.model.specs.TwoRuns.Agree.{Agreeing}
+use Rattle.model.specs.TwoRuns.MapKept.{step-kept}
+use Rattle.model.specs.TwoRuns.Theorem.{OneList, two-runs, lists-agree}
+use Rattle.model.specs.TwoRuns.Unused.{takesWord, SameInUse, step-unused, new-unused}
+
+-- two calls that are alike, or write any two words to a place that is not FIFO and takes none
+pub data AlikeInUse (offsets : List ℕ) : Request → Request → Type 0 where
+  alike : {c d : Request} → Alike (fifoOffset offsets) c d → AlikeInUse offsets c d
+  unusedWord : {now offset v v′ : ℕ} → isFifo (placeOf offsets offset) ≡ false → takesWord (placeOf offsets offset) ≡ false
+      → AlikeInUse offsets (Call.write now (record { offset = offset; value = v }))
+      (Call.write now (record { offset = offset; value = v′ }))
+
+-- ---- a list between the two: alike to the first, and in use the same as the second
+
+-- two calls that differ in an unused word at most
+data Same (offsets : List ℕ) : Request → Request → Type 0 where
+  same : {c : Request} → Same offsets c c
+  unusedWord : {now offset v v′ : ℕ} → isFifo (placeOf offsets offset) ≡ false → takesWord (placeOf offsets offset) ≡ false
+      → Same offsets (Call.write now (record { offset = offset; value = v }))
+      (Call.write now (record { offset = offset; value = v′ }))
+
+record Between (offsets : List ℕ) (cs ds : List Request) : Type 0 where
+  list : List Request
+  first : Each (Alike (fifoOffset offsets)) cs list
+  second : Each (Same offsets) list ds
+
+between : (offsets : List ℕ) {cs ds : List Request} → Each (AlikeInUse offsets) cs ds → Between offsets cs ds
+between offsets Each.nil = record { list = []; first = Each.nil; second = Each.nil }
+between offsets (Each.cons (AlikeInUse.alike {d = d} a) rest) =
+    let b : Between offsets _ _ = between offsets rest in
+    record { list = d ∷ b .list; first = Each.cons a (b .first); second = Each.cons Same.same (b .second) }
+between offsets (Each.cons {a = c} (AlikeInUse.unusedWord f e) rest) =
+    let b : Between offsets _ _ = between offsets rest in
+    record { list = c ∷ b .list; first = Each.cons Alike.same (b .first); second = Each.cons (Same.unusedWord f e) (b .second) }
+
+-- it gives the same host bytes and the same bytes to FIFO
+host-same : (offsets : List ℕ) {es ds : List Request} → Each (Same offsets) es ds → hostGiven es ≡ hostGiven ds
+unfolding hostOf flatMap
+host-same offsets Each.nil = refl
+host-same offsets (Each.cons {a = c} Same.same rest) = ap (λ l. hostOf c ++ l) (host-same offsets rest)
+host-same offsets (Each.cons (Same.unusedWord f e) rest) = host-same offsets rest
+
+not-first : (fifo : ℕ) (others : List ℕ) (offset : ℕ) → isFifo (placeOf (fifo ∷ others) offset) ≡ false → eqb offset fifo ≡ false
+unfolding isFifo
+not-first fifo others offset f =
+    ne-eqb offset fifo (λ e. let first : placeOf (fifo ∷ others) fifo ≡ _ = first-is-fifo fifo others in
+    let g : isFifo (placeOf (fifo ∷ others) fifo) ≡ false = rw e at f in apart cc)
+
+module _ (fifo : ℕ) (others : List ℕ) where
+  written-same : {es ds : List Request} → Each (Same (fifo ∷ others)) es ds → fifoWritten fifo es ≡ fifoWritten fifo ds
+  unfolding writesOf fifoByte flatMap
+  written-same Each.nil = refl
+  written-same (Each.cons {a = c} Same.same rest) = ap (λ l. fifoBytesOf fifo c ++ l) (written-same rest)
+  written-same (Each.cons (Same.unusedWord {offset = o} {v = v} {v′ = v′} f e) rest) =
+      let none = not-first fifo others o f in
+      ap₂ (λ (l m : List ℕ). (l ++ []) ++ m) (choose-false (v % 256 ∷ []) [] none ∙ sym (choose-false (v′ % 256 ∷ []) [] none))
+      (written-same rest)
+
+-- and every call of it does what that of the second list does
+run-same : (offsets : List ℕ) {es ds : List Request} → Each (Same offsets) es ds → (u : Uart ℕ ℕ) → u .map .offsets ≡ offsets
+    → run es u ≡ run ds u
+unfolding run runBy
+run-same offsets Each.nil u k = refl
+run-same offsets (Each.cons {a = c} Same.same rest) u k =
+    ap (λ l. step c u .answer ∷ l) (run-same offsets rest (step c u .state) (ap (λ m. m .offsets) (step-kept c u) ∙ k))
+run-same offsets (Each.cons {a = c} {b = d} {m = ds} (Same.unusedWord {now = now} {offset = o} {v = v} {v′ = w} f e) rest) u k =
+    let one : step c u ≡ step d u =
+    step-unused now o v w u (subst (λ os. isFifo (placeOf os o) ≡ false) (sym k) f)
+    (subst (λ os. takesWord (placeOf os o) ≡ false) (sym k) e) in
+    ap₂ (λ s r. s .answer ∷ r) one (run-same offsets rest (step c u .state) (ap (λ m. m .offsets) (step-kept c u) ∙ k)
+    ∙ ap (λ s. run ds (s .state)) one)
+
+-- ---- the theorem
+
+-- for every register map of sixteen offsets; the reset words may differ in what set-up does not use
+pub two-runs-in-use : (offsets ws : List ℕ) → length offsets ≡ 16 → (cs ds : List Request) → Each (AlikeInUse offsets) cs ds
+    → OneList offsets ws cs ds
+unfolding withBytesOf new mapOf
+two-runs-in-use [] ws e cs ds a = absurd (suc-ne-zero _ (sym e))
+two-runs-in-use (fifo ∷ others) ws e cs ds a =
+    let b : Between (fifo ∷ others) cs ds = between (fifo ∷ others) a in
+    let o : OneList (fifo ∷ others) ws cs (b .list) = two-runs (fifo ∷ others) ws e cs (b .list) (b .first) in
+    record {
+      answers = o .answers;
+      first = o .first;
+      second =
+          ap (map withoutRest) (sym (run-same (fifo ∷ others) (b .second) (new (fifo ∷ others) ws) refl))
+          ∙ o .second
+          ∙ ap₂ (λ (l m : List ℕ). map (mapAnswer (λ n. getD l n 0) (λ n. getD m n 0) itself) (o .answers))
+          (host-same (fifo ∷ others) (b .second)) (written-same fifo others (b .second));
+      below = o .below;
+      shape = o .shape;
+    }
+
+pub runs-agree-in-use : (offsets ws ws′ : List ℕ) → length offsets ≡ 16 → SameInUse ws ws′ → (cs ds : List Request)
+    → Each (AlikeInUse offsets) cs ds
+    → Agreeing (fifoOffset offsets) cs ds 0 0 cs (map withoutRest (run cs (new offsets ws))) (map withoutRest (run ds (new offsets ws′)))
+runs-agree-in-use offsets ws ws′ e s cs ds a =
+    subst (λ u. Agreeing (fifoOffset offsets) cs ds 0 0 cs (map withoutRest (run cs (new offsets ws))) (map withoutRest (run ds u)))
+    (new-unused offsets ws ws′ s) (lists-agree offsets ws cs ds (two-runs-in-use offsets ws e cs ds a))
