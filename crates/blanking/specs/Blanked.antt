@@ -4,7 +4,7 @@ use Prim.Native.Nat.{ℕ}
 use mathlib.Core.List.{List, [], _∷_, map}
 use lib.ListN.{getD}
 use Rattle.model.specs.Numbers.{choose, without}
-use Rattle.model.specs.Registers.{placeOf}
+use Rattle.model.specs.Map.{registerOf}
 use Rattle.model.specs.SetUp.{fifoCounts}
 use Rattle.model.specs.Call.{Call, Written, Request}
 use Rattle.model.specs.TwoRuns.Unused.{takesWord}
@@ -15,7 +15,7 @@ blankByte b = 0
 
 -- a word is kept where it is written to INT_CLR or a stored word of the map, and else replaced by 0, whatever the call answers
 unfoldable pub blankWord : List ℕ → ℕ → ℕ → ℕ
-blankWord offsets offset value = choose (takesWord (placeOf offsets offset)) value 0
+blankWord offsets offset value = choose (takesWord (registerOf offsets offset)) value 0
 
 unfoldable pub blankWritten : List ℕ → Written → Written
 blankWritten offsets x = record { offset = x .offset; value = blankWord offsets (x .offset) (x .value) }

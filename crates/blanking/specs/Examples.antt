@@ -3,7 +3,7 @@ use mathlib.Core.Path.{_≡_, refl}
 use Prim.Native.Nat.{ℕ}
 use mathlib.Core.List.{List, [], _∷_}
 use Rattle.model.specs.Numbers.{choose}
-use Rattle.model.specs.Registers.{placeOf, placeAmong}
+use Rattle.model.specs.Map.{registerOf, registerAmong}
 use Rattle.model.specs.Call.{Call}
 use Rattle.blanking.specs.Blanked.{blankByte, blankWord, blankWritten, blanked, blankedList}
 
@@ -15,12 +15,12 @@ row : blankedList offsets (Call.write 100 (record { offset = 0; value = 82 }) �
     ∷ Call.receive 100 520 (114 ∷ 111 ∷ []) ∷ [])
     ≡ Call.write 100 (record { offset = 0; value = 0 }) ∷ Call.write 100 (record { offset = 12; value = 256 })
     ∷ Call.receive 100 520 (0 ∷ 0 ∷ []) ∷ []
-unfolding blanked blankWritten blankWord blankByte choose placeOf placeAmong
+unfolding blanked blankWritten blankWord blankByte choose registerOf registerAmong
 row = refl
 
 -- INT_RAW is read-only, and no register has the absolute address 0x60000000
 nowhere : blankedList offsets (Call.write 100 (record { offset = 4; value = 82 })
     ∷ Call.write 100 (record { offset = 0x60000000; value = 82 }) ∷ [])
     ≡ Call.write 100 (record { offset = 4; value = 0 }) ∷ Call.write 100 (record { offset = 0x60000000; value = 0 }) ∷ []
-unfolding blanked blankWritten blankWord choose placeOf placeAmong
+unfolding blanked blankWritten blankWord choose registerOf registerAmong
 nowhere = refl

@@ -9,11 +9,10 @@ use lib.Bits.{bitAnd, and-step, and-zero-r}
 use lib.ListN.{length, getD}
 use Rattle.model.specs.Numbers.{choose, without}
 use Rattle.model.specs.Laws.Choose.{choose-false}
-use Rattle.model.specs.Registers.{placeOf, placeAmong}
+use Rattle.model.specs.Map.{isFifo, registerOf, registerAmong}
 use Rattle.model.specs.Call.{Call, Written, Request}
 use Rattle.model.specs.SetUp.{wordsAmong, fifoCounts, new}
 use Rattle.model.specs.Run.{run}
-use Rattle.model.specs.Refuses.Conditions.{isFifo}
 use Rattle.model.specs.Refuses.FifoPlace.{first-is-fifo, fifo-is-first}
 use Rattle.model.specs.TwoRuns.Alike.{Each, Alike, fifoOffset, withoutRest}
 use Rattle.model.specs.TwoRuns.Agree.{Agreeing}
@@ -27,7 +26,7 @@ length-blank (b ∷ bs) = ap suc (length-blank bs)
 
 -- ---- a blanked list is alike in use to the list it was made from
 
-first-fifo : (offsets : List ℕ) (offset v v′ : ℕ) → isFifo (placeOf offsets offset) ≡ true
+first-fifo : (offsets : List ℕ) (offset v v′ : ℕ) → isFifo (registerOf offsets offset) ≡ true
     → (now : ℕ) → AlikeInUse offsets (Call.write now (record { offset = offset; value = v }))
     (Call.write now (record { offset = offset; value = v′ }))
 first-fifo offsets offset v v′ f now =
@@ -38,17 +37,17 @@ first-fifo offsets offset v v′ f now =
 write-alike : (offsets : List ℕ) (now : ℕ) (x : Written)
     → AlikeInUse offsets (Call.write now x) (Call.write now (blankWritten offsets x))
 unfolding blankWritten blankWord choose
-write-alike offsets now x = by-word (takesWord (placeOf offsets (x .offset))) refl
+write-alike offsets now x = by-word (takesWord (registerOf offsets (x .offset))) refl
   where
-    by-fifo : (t : Bool) → isFifo (placeOf offsets (x .offset)) ≡ t → takesWord (placeOf offsets (x .offset)) ≡ false
+    by-fifo : (t : Bool) → isFifo (registerOf offsets (x .offset)) ≡ t → takesWord (registerOf offsets (x .offset)) ≡ false
         → AlikeInUse offsets (Call.write now x) (Call.write now (record { offset = x .offset; value = 0 }))
     by-fifo true f e = first-fifo offsets (x .offset) (x .value) 0 f now
     by-fifo false f e = AlikeInUse.unusedWord f e
 
-    by-word : (t : Bool) → takesWord (placeOf offsets (x .offset)) ≡ t
+    by-word : (t : Bool) → takesWord (registerOf offsets (x .offset)) ≡ t
         → AlikeInUse offsets (Call.write now x) (Call.write now (record { offset = x .offset; value = choose t (x .value) 0 }))
     by-word true e = AlikeInUse.alike Alike.same
-    by-word false e = by-fifo (isFifo (placeOf offsets (x .offset))) refl e
+    by-word false e = by-fifo (isFifo (registerOf offsets (x .offset))) refl e
 
 alike : (offsets : List ℕ) (c : Request) → AlikeInUse offsets c (blanked offsets c)
 unfolding blanked
@@ -102,17 +101,17 @@ same-blank [] (b ∷ bs′) e = absurd (suc-ne-zero _ (sym e))
 same-blank (b ∷ bs) [] e = absurd (suc-ne-zero _ e)
 same-blank (b ∷ bs) (b′ ∷ bs′) e = ap (λ l. 0 ∷ l) (same-blank bs bs′ (suc-inj e))
 
-same-word : (offsets : List ℕ) (offset v v′ : ℕ) → takesWord (placeOf offsets offset) ≡ false
+same-word : (offsets : List ℕ) (offset v v′ : ℕ) → takesWord (registerOf offsets offset) ≡ false
     → blankWord offsets offset v ≡ blankWord offsets offset v′
 unfolding blankWord
 same-word offsets offset v v′ e = choose-false v 0 e ∙ sym (choose-false v′ 0 e)
 
-fifo-takes-none : (offsets : List ℕ) → takesWord (placeOf offsets (fifoOffset offsets)) ≡ false
-unfolding placeOf placeAmong
+fifo-takes-none : (offsets : List ℕ) → takesWord (registerOf offsets (fifoOffset offsets)) ≡ false
+unfolding registerOf registerAmong
 fifo-takes-none [] = refl
 fifo-takes-none (fifo ∷ others) = ap takesWord (first-is-fifo fifo others)
 
-same-write : (offsets : List ℕ) (now offset v v′ : ℕ) → takesWord (placeOf offsets offset) ≡ false
+same-write : (offsets : List ℕ) (now offset v v′ : ℕ) → takesWord (registerOf offsets offset) ≡ false
     → blanked offsets (Call.write now (record { offset = offset; value = v }))
     ≡ blanked offsets (Call.write now (record { offset = offset; value = v′ }))
 unfolding blanked blankWritten

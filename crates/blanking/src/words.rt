@@ -3,6 +3,7 @@ use model::Place;
 use registers::places::place_of;
 ghost use mathlib.Core.Path.{_≡_};
 ghost use Rattle.model.specs.TwoRuns.Unused.{takesWord};
+ghost use Rattle.registers.specs.Places.{registerAt};
 ghost use Rattle.blanking.specs.Blanked.{blankWord, blankResets};
 
 // STATUS bits 0-9, RXFIFO_CNT, and 16-25, TXFIFO_CNT.
@@ -10,7 +11,7 @@ const FIFO_COUNTS: u32 = 0x03FF03FF;
 
 // Whether a word written to a place does something. FIFO takes its low byte alone.
 fn takes_word(place: Place) -> bool
-    ensures { λ r. ⌜ r ≡ takesWord place ⌝ }
+    ensures { λ r. ⌜ r ≡ takesWord (registerAt place) ⌝ }
 {
     match place {
         Place::IntEna | Place::IntClr | Place::Clkdiv | Place::Conf0 | Place::Conf1 => true,

@@ -2,7 +2,7 @@
 use mathlib.Core.Path.{_≡_, refl, sym, ap, ap₂, subst, _∙_}
 use Prim.Native.Nat.{ℕ, _%_}
 use native.Mathlib.Nat.{suc-ne-zero}
-use mathlib.Core.Bool.{true, false}
+use mathlib.Core.Bool.{true, false, true≢false, decide}
 use mathlib.Core.List.{List, [], _∷_, _++_, map, flatMap}
 use lib.Dec.{eqb}
 use borrow.Author.Tests.{ne-eqb}
@@ -10,13 +10,11 @@ use lib.ListN.{length, getD}
 use Rattle.model.specs.Numbers.{choose}
 use Rattle.model.specs.Laws.Choose.{choose-false}
 use Rattle.model.specs.State.{Uart}
-use Rattle.model.specs.Registers.{placeOf}
+use Rattle.model.specs.Map.{isFifo, registerOf}
 use Rattle.model.specs.SetUp.{mapOf, new}
 use Rattle.model.specs.Call.{Call, Request}
 use Rattle.model.specs.Run.{step, runBy, run}
-use Rattle.model.specs.Refuses.Conditions.{isFifo}
 use Rattle.model.specs.Refuses.FifoPlace.{first-is-fifo}
-use Rattle.model.specs.Ends.Passes.{apart}
 use Rattle.model.specs.TwoRuns.Alike.{Each, Alike, fifoOffset, hostOf, writesOf, fifoByte, fifoBytesOf, hostGiven, fifoWritten}
 use Rattle.model.specs.TwoRuns.Alike.{itself, mapAnswer, withoutRest, withBytesOf}
 use Rattle.model.specs.TwoRuns.Agree.{Agreeing}
@@ -27,7 +25,7 @@ use Rattle.model.specs.TwoRuns.Unused.{takesWord, SameInUse, step-unused
 -- two calls that are alike, or write any two words to a place that is not FIFO and takes none
 pub data AlikeInUse (offsets : List ℕ) : Request → Request → Type 0 where
   alike : {c d : Request} → Alike (fifoOffset offsets) c d → AlikeInUse offsets c d
-  unusedWord : {now offset v v′ : ℕ} → isFifo (placeOf offsets offset) ≡ false → takesWord (placeOf offsets offset) ≡ false
+  unusedWord : {now offset v v′ : ℕ} → isFifo (registerOf offsets offset) ≡ false → takesWord (registerOf offsets offset) ≡ false
       → AlikeInUse offsets (Call.write now (record { offset = offset; value = v }))
       (Call.write now (record { offset = offset; value = v′ }))
 
@@ -36,7 +34,7 @@ pub data AlikeInUse (offsets : List ℕ) : Request → Request → Type 0 where
 -- two calls that differ in an unused word at most
 data Same (offsets : List ℕ) : Request → Request → Type 0 where
   same : {c : Request} → Same offsets c c
-  unusedWord : {now offset v v′ : ℕ} → isFifo (placeOf offsets offset) ≡ false → takesWord (placeOf offsets offset) ≡ false
+  unusedWord : {now offset v v′ : ℕ} → isFifo (registerOf offsets offset) ≡ false → takesWord (registerOf offsets offset) ≡ false
       → Same offsets (Call.write now (record { offset = offset; value = v }))
       (Call.write now (record { offset = offset; value = v′ }))
 
@@ -61,11 +59,11 @@ host-same offsets Each.nil = refl
 host-same offsets (Each.cons {a = c} Same.same rest) = ap (λ l. hostOf c ++ l) (host-same offsets rest)
 host-same offsets (Each.cons (Same.unusedWord f e) rest) = host-same offsets rest
 
-not-first : (fifo : ℕ) (others : List ℕ) (offset : ℕ) → isFifo (placeOf (fifo ∷ others) offset) ≡ false → eqb offset fifo ≡ false
-unfolding isFifo
+not-first : (fifo : ℕ) (others : List ℕ) (offset : ℕ) → isFifo (registerOf (fifo ∷ others) offset) ≡ false → eqb offset fifo ≡ false
+unfolding decide
 not-first fifo others offset f =
-    ne-eqb offset fifo (λ e. let first : placeOf (fifo ∷ others) fifo ≡ _ = first-is-fifo fifo others in
-    let g : isFifo (placeOf (fifo ∷ others) fifo) ≡ false = rw e at f in apart cc)
+    ne-eqb offset fifo (λ e. true≢false (sym (ap isFifo (first-is-fifo fifo others))
+    ∙ subst (λ o. isFifo (registerOf (fifo ∷ others) o) ≡ false) e f))
 
 module _ (fifo : ℕ) (others : List ℕ) where
   written-same : {es ds : List Request} → Each (Same (fifo ∷ others)) es ds → fifoWritten fifo es ≡ fifoWritten fifo ds
@@ -86,8 +84,8 @@ run-same offsets (Each.cons {a = c} Same.same rest) u k =
     ap (λ l. step c u .answer ∷ l) (run-same offsets rest (step c u .state) (ap (λ m. m .offsets) (step-kept c u) ∙ k))
 run-same offsets (Each.cons {a = c} {b = d} {m = ds} (Same.unusedWord {now = now} {offset = o} {v = v} {v′ = w} f e) rest) u k =
     let one : step c u ≡ step d u =
-    step-unused now o v w u (subst (λ os. isFifo (placeOf os o) ≡ false) (sym k) f)
-    (subst (λ os. takesWord (placeOf os o) ≡ false) (sym k) e) in
+    step-unused now o v w u (subst (λ os. isFifo (registerOf os o) ≡ false) (sym k) f)
+    (subst (λ os. takesWord (registerOf os o) ≡ false) (sym k) e) in
     ap₂ (λ s r. s .answer ∷ r) one (run-same offsets rest (step c u .state) (ap (λ m. m .offsets) (step-kept c u) ∙ k)
     ∙ ap (λ s. run ds (s .state)) one)
 
