@@ -122,7 +122,8 @@ module _ (t : Trace) (n : Name) (ns : List ℕ) (last : ℕ) (bs out : List ℕ)
   blanks-none e f b = subst (λ (k : Kind). Blanks k t out at after r) (kind-none (t .ready) n ns last bs e f) b
 
 -- a line that is left out
-pub blanks-left-out : (t : Trace) (out : List ℕ) (at : ℕ) (after : List ℕ) (r : Blanked) → Put (leftOutText (t .number)) out at after (r .at)
+pub blanks-left-out : (t : Trace) (out : List ℕ) (at : ℕ) (after : List ℕ) (r : Blanked)
+    → Put (leftOutText (t .number)) out at after (r .at)
     → r .trace ≡ oneLeftOut t → Blanks Kind.leftOut t out at after r
 unfolding textOf carried
 blanks-left-out t out at after r p q = record { text = p; trace = q }

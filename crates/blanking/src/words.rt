@@ -25,11 +25,8 @@ fn takes_word(place: Place) -> bool
 pub fn blank_word(offsets: [u32; 16], offset: u32, value: u32) -> u32
     ensures { λ r. ⌜ r ≡ blankWord offsets offset value ⌝ }
 {
-    if takes_word(place_of(offsets, offset)) {
-        value
-    } else {
-        0
-    }
+    let place = place_of(offsets, offset);
+    if takes_word(place) { value } else { 0 }
 }
 
 // The reset words, those that set-up does not use replaced by 0.

@@ -15,14 +15,20 @@ returns c =
 
 blank-line-requires : tie.Need-blank-line-requires
 blank-line-requires c κs =
-    omega (arith, kept-room (c .before .before .before .before .before .keep-up .ensures) (c .before .before .before .before .if1 .taken) (c .before .before .before .if2 .left))
+    omega (
+      arith,
+      kept-room (c .before .before .before .before .before .keep-up .ensures)
+          (c .before .before .before .before .if1 .taken) (c .before .before .before .if2 .left),
+    )
 
 returns-2 : tie.Need-returns-2
 returns-2 c =
     let line = c .before .before .before .before .before .before .before .before .before .before .before .has-line .ensures in
     let next = c .before .before .before .blank-line .ensures in
     let n = c .before .before .before .before .before .before .within .ensures .1 in
-    Turn.blanked (kept-same _ _ _ _ line (c .before .before .before .before .before .before .before .before .before .keep-up .ensures)) (sym line ∙ c .before .before .before .before .before .before .before .before .if1 .taken) (c .before .before .before .before .before .before .before .if2 .left)
+    Turn.blanked (kept-same _ _ _ _ line (c .before .before .before .before .before .before .before .before .before .keep-up
+    .ensures)) (sym line ∙ c .before .before .before .before .before .before .before .before .if1 .taken)
+    (c .before .before .before .before .before .before .before .if2 .left)
     (rw n at (next .0)) (next .1 ∙ rw n)
 
 returns-3 : tie.Need-returns-3

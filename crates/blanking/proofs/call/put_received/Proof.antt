@@ -16,7 +16,8 @@ returns c =
     puts-both _ _ _ _ _ _ _ _ (c .before .before .before .before .before .before .before .before .before .before .before .put-two .ensures)
     (puts-both (32 ∷ []) _ _ _ _ _ _ _ (λ _. c .before .before .before .before .before .before .put .ensures)
     (λ _. put-same _ _ _ _ _ _
-    (ap hexText (zeros-for (start .args .bytes .now) (start .args .count) (count .result) (count .ensures .1))) (c .before .before .put-zeros .ensures)))
+    (ap hexText (zeros-for (start .args .bytes .now) (start .args .count) (count .result) (count .ensures .1)))
+    (c .before .before .put-zeros .ensures)))
 
 pub put-received-spec : {M : Type 1} → statement M
 put-received-spec =

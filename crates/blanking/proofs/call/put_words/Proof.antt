@@ -26,7 +26,8 @@ returns-3 : tie.Need-returns-3
 unfolding entryWords callWords blankedEntry blanked blankWritten entryOf
 returns-3 c =
     let a = c .before .before .before .before .before .before .before .before .before .before .args in
-    of-name (a .map) (a .t5) (a .last) (a .bytes .now) (a .name) _ (c .before .before .before .before .before .before .enum-told3 .given .1) _ _ _ _
+    of-name (a .map) (a .t5) (a .last) (a .bytes .now) (a .name) _
+    (c .before .before .before .before .before .before .enum-told3 .given .1) _ _ _ _
     (puts-same _ _ _ _ _ _
     (write-same _ _ _ _ _ _ (c .before .before .before .before .low2 .ensures) (c .before .before .before .low3 .ensures))
     (c .before .before .put-write .ensures))

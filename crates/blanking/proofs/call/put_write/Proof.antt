@@ -9,7 +9,8 @@ returns : tie.Need-returns
 returns c =
     let w = c .before .before .before .before .before .before .before .before .before .before .blanked-write .ensures in
     puts-same _ _ _ _ _ _ (three-same _ _ _ _ _ _ (w .0) (w .1) (w .2))
-    (puts-both _ _ _ _ _ _ _ _ (c .before .before .before .before .before .before .before .put-two .ensures) (c .before .before .put-number .ensures))
+    (puts-both _ _ _ _ _ _ _ _ (c .before .before .before .before .before .before .before .put-two .ensures)
+    (c .before .before .put-number .ensures))
 
 pub put-write-spec : {M : Type 1} → statement M
 put-write-spec =

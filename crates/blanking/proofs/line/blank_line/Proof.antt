@@ -17,7 +17,8 @@ returns-2 c =
     let read = c .before .before .before .read-line .ensures in
     let line = sym (c .enum-told .given .1) ∙ read .0 in
     line-blanks (a .from) _ (a .long) (a .s .now) _ _ _ _ _ (c .before .before .before .before .before .before .before .counted .ensures)
-    (kind-read _ (a .long) (a .s .now) _ _ _ _ (c .before .before .before .before .before .before .if1 .left) zeros-room line (read .1 .0) (read .1 .1))
+    (kind-read _ (a .long) (a .s .now) _ _ _ _ (c .before .before .before .before .before .before .if1 .left) zeros-room line
+    (read .1 .0) (read .1 .1))
     (blanks-nothing _ _ _ _ refl refl)
 
 returns-3 : tie.Need-returns-3
@@ -25,17 +26,22 @@ returns-3 c =
     let a = c .before .before .before .before .before .before .before .before .before .before .before .before .before .before .args in
     let read = c .before .before .before .before .before .before .before .read-line .ensures in
     let line = sym (c .before .before .before .before .enum-told2 .given .1) ∙ read .0 in
-    line-blanks (a .from) _ (a .long) (a .s .now) _ _ _ _ _ (c .before .before .before .before .before .before .before .before .before .before .before .counted .ensures)
-    (kind-read _ (a .long) (a .s .now) _ _ _ _ (c .before .before .before .before .before .before .before .before .before .before .if1 .left) zeros-room line (read .1 .0) (read .1 .1))
+    line-blanks (a .from) _ (a .long) (a .s .now) _ _ _ _ _ (c .before .before .before .before .before .before .before .before
+    .before .before .before .counted .ensures)
+    (kind-read _ (a .long) (a .s .now) _ _ _ _ (c .before .before .before .before .before .before .before .before .before .before
+    .if1 .left) zeros-room line (read .1 .0) (read .1 .1))
     (c .before .before .leave-out2 .ensures)
 
 returns-4 : tie.Need-returns-4
 returns-4 c =
-    let a = c .before .before .before .before .before .before .before .before .before .before .before .before .before .before .before .before .args in
+    let a = c .before .before .before .before .before .before .before .before .before .before .before .before .before .before
+    .before .before .args in
     let read = c .before .before .before .before .before .before .before .before .before .read-line .ensures in
     let line = sym (c .before .before .before .before .before .before .read .given .1) ∙ read .0 in
-    line-blanks (a .from) _ (a .long) (a .s .now) _ _ _ _ _ (c .before .before .before .before .before .before .before .before .before .before .before .before .before .counted .ensures)
-    (kind-read _ (a .long) (a .s .now) _ _ _ _ (c .before .before .before .before .before .before .before .before .before .before .before .before .if1 .left) zeros-room line (read .1 .0) (read .1 .1))
+    line-blanks (a .from) _ (a .long) (a .s .now) _ _ _ _ _ (c .before .before .before .before .before .before .before .before
+    .before .before .before .before .before .counted .ensures)
+    (kind-read _ (a .long) (a .s .now) _ _ _ _ (c .before .before .before .before .before .before .before .before .before .before
+    .before .before .if1 .left) zeros-room line (read .1 .0) (read .1 .1))
     (c .before .before .call .ensures)
 
 pub blank-line-spec : {M : Type 1} → statement M

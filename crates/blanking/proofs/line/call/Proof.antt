@@ -17,7 +17,8 @@ put-call-requires c κs =
 returns : tie.Need-returns
 returns c =
     let a = c .before .before .before .before .before .before .before .before .before .before .before .args in
-    let set = sym (c .before .before .before .before .before .before .before .is-set-up .ensures) ∙ c .before .before .before .before .before .before .if1 .taken in
+    let set = sym (c .before .before .before .before .before .before .before .is-set-up .ensures) ∙ c .before .before .before
+    .before .before .before .if1 .taken in
     blanks-set-up (a .trace) (a .name) (a .all) (a .last) (a .bytes .now) _ _ _ _ set (c .before .before .before .before .put-call .ensures)
     (c .set-map .ensures ∙ map-same (a .trace) _ _ (c .before .sixteen .ensures))
 
@@ -33,14 +34,18 @@ put-call-requires-2 c κs =
 returns-2 : tie.Need-returns-2
 returns-2 c =
     let a = c .before .before .before .before .before .before .before .before .before .before .args in
-    let set = sym (c .before .before .before .before .before .before .is-set-up .ensures) ∙ c .before .before .before .before .before .if1 .left in
-    blanks-call (a .trace) (a .name) (a .all) (a .last) (a .bytes .now) _ _ _ _ set (c .before .before .before .before .if2 .taken) (c .before .before .put-call2 .ensures) refl
+    let set = sym (c .before .before .before .before .before .before .is-set-up .ensures) ∙ c .before .before .before .before
+    .before .if1 .left in
+    blanks-call (a .trace) (a .name) (a .all) (a .last) (a .bytes .now) _ _ _ _ set
+    (c .before .before .before .before .if2 .taken) (c .before .before .put-call2 .ensures) refl
 
 returns-3 : tie.Need-returns-3
 returns-3 c =
     let a = c .before .before .before .before .before .before .before .before .before .before .args in
-    let set = sym (c .before .before .before .before .before .before .is-set-up .ensures) ∙ c .before .before .before .before .before .if1 .left in
-    blanks-none (a .trace) (a .name) (a .all) (a .last) (a .bytes .now) _ _ _ _ set (c .before .before .before .before .if2 .left) (c .before .before .leave-out .ensures)
+    let set = sym (c .before .before .before .before .before .before .is-set-up .ensures) ∙ c .before .before .before .before
+    .before .if1 .left in
+    blanks-none (a .trace) (a .name) (a .all) (a .last) (a .bytes .now) _ _ _ _ set (c .before .before .before .before .if2 .left)
+    (c .before .before .leave-out .ensures)
 
 pub call-spec : {M : Type 1} → statement M
 call-spec =
