@@ -1,4 +1,5 @@
--- Corners of document 01 that the other laws do not say of `step`: what a reset drops and what it keeps, which calls arm nothing, what CONF0
+-- Corners of document 01 that the other laws do not say of `step`: what a reset drops and what it keeps, which calls arm nothing, what
+-- CONF0
 -- with TXFIFO_RST leaves in flight, and a due timeout beside a byte on the line. Assumes nothing.
 use mathlib.Core.Path.{_≡_, refl, ap, _∙_}
 use Prim.Native.Nat.{ℕ}

@@ -11,7 +11,8 @@ use Rattle.blanking.proofs.words.takes_word.Tie as tie
 returns : tie.Need-returns
 unfolding registerAt
 returns c =
-    place-keys (λ p. true ≡ takesWord (registerAt p)) 3 (4 ∷ 5 ∷ 8 ∷ 9 ∷ []) (c .before .args .place) (refl, (refl, (refl, (refl, (refl, tt)))))
+    place-keys (λ p. true ≡ takesWord (registerAt p)) 3 (4 ∷ 5 ∷ 8 ∷ 9 ∷ []) (c .before .args .place)
+    (refl, (refl, (refl, (refl, (refl, tt)))))
     (c .match .keys1)
 
 returns-2 : tie.Need-returns-2
