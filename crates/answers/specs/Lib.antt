@@ -1,0 +1,4 @@
+pub mod Notices
+pub mod Reports
+pub mod Replies
+pub mod Faults
