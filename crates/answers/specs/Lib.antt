@@ -2,3 +2,4 @@ pub mod Notices
 pub mod Reports
 pub mod Replies
 pub mod Faults
+pub mod Lengths

@@ -1,10 +1,11 @@
 -- The text of a dated call's report, which ends its line. Assumes nothing.
 use mathlib.Core.Bool.{Bool, true, false}
 use mathlib.Core.List.{List, _++_}
-use Prim.Native.Nat.{ℕ}
+use Prim.Native.Nat.{ℕ, min}
 use lib.ListN.{take}
 use Rattle.text.specs.Ascii.{ascii}
 use Rattle.text.specs.Decimal.{decimal}
+use Rattle.model.specs.Replies.{noticePlaces}
 use Rattle.model.specs.declared.Date.{Date}
 use Rattle.model.specs.declared.Report.{Report}
 use Rattle.answers.specs.Notices.{noticesText}
@@ -24,6 +25,6 @@ reportText r =
     ++ wakeText (r .wake)
     ++ (ascii " overflows=" ++ decimal (r .overflows))
     ++ ascii " notices="
-    ++ noticesText (take (r .noted) (r .notices))
+    ++ noticesText (take (min (r .noted) noticePlaces) (r .notices))
     ++ (ascii " passes=" ++ decimal (r .passes))
     ++ ascii "\n"

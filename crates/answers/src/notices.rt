@@ -5,6 +5,7 @@ use model::Unsupported;
 use text::output::put;
 use text::spelling::put_decimal;
 ghost use mathlib.Core.List.{_++_};
+ghost use Prim.Native.Nat.{min};
 ghost use lib.ListN.{take};
 ghost use Rattle.text.specs.Ascii.{ascii};
 ghost use Rattle.text.specs.Output.{Put};
@@ -66,8 +67,8 @@ fn put_next(out: &mut [u8], at: usize, what: Unsupported) -> usize
 
 // Puts the first `noted` of them with a comma between, or `-` for none.
 pub fn put_notices(out: &mut [u8], at: usize, notices: [Notice; 8], noted: usize) -> usize
-    requires { ⌜ Room (noticesText (take noted notices)) (now out) at ⌝ }
-    ensures { λ r. ⌜ Put (noticesText (take noted notices)) (now (out .entry)) at (now (out .exit)) r ⌝ }
+    requires { ⌜ Room (noticesText (take (min noted 8) notices)) (now out) at ⌝ }
+    ensures { λ r. ⌜ Put (noticesText (take (min noted 8) notices)) (now (out .entry)) at (now (out .exit)) r ⌝ }
 {
     if noted == 0 {
         return put(out, at, b"-");

@@ -1,0 +1,5 @@
+pub mod Requests
+pub mod Sessions
+pub mod HandOuts
+pub mod Lines
+pub mod Answers
