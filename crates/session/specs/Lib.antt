@@ -3,3 +3,4 @@ pub mod Sessions
 pub mod HandOuts
 pub mod Lines
 pub mod Answers
+pub mod Taken

@@ -21,7 +21,7 @@ use Rattle.trace.specs.declared.names.Name.the-variants.{Setup, Read, Write, Re
 use Rattle.trace.specs.declared.names.Name.the-variants.{TakeWritten, HasLeft, HostPending}
 use Rattle.model.specs.State.{Uart}
 use Rattle.answers.specs.Faults.{faultText, longText}
-use Rattle.session.specs.Requests.{commandOf, Next, carriedOut}
+use Rattle.session.specs.Requests.{Command, setUp, call, commandOf, Next, carriedOut}
 
 -- a text alone changes nothing
 abbrev pub says : List ℕ → Option (Uart ℕ ℕ) → Next
@@ -111,3 +111,32 @@ first-other TakeTx ns last bytes fault e = refl
 first-other TakeWritten ns last bytes fault e = refl
 first-other HasLeft ns last bytes fault e = refl
 first-other HostPending ns last bytes fault e = refl
+
+-- a UART is set up, so that no fault is answered
+pub carried-any : (c : Command) (f g : List ℕ) (u : Uart ℕ ℕ) → carriedOut c f (some u) ≡ carriedOut c g (some u)
+carried-any (setUp o w) f g u = refl
+carried-any (call c) f g u = refl
+
+-- the line that was read
+module _ (input : Input) (line bytes : List ℕ) (device : Option (Uart ℕ ℕ)) where
+  pub too-long : input .long ≡ true → says longText device ≡ answered input line bytes device
+  too-long e =
+      sym (ap (λ (b : Bool). pick b (says longText device) (readAs (lineIn input line) (bytesAfter (lineIn input line) bytes) device
+      (lineOf (length bytes) (lineIn input line)))) e)
+
+  pub bytes-kept : input .long ≡ true → bytes ≡ bytesIn input line bytes
+  bytes-kept e = sym (ap (λ (b : Bool). pick b bytes (bytesAfter (lineIn input line) bytes)) e)
+
+  module _ (short : input .long ≡ false) {n : ℕ} (count : n ≡ min (input .len) (length line)) where
+    pub read-as : {read l : Line} → read ≡ lineOf (length bytes) (take n line) → read ≡ l
+        → readAs (take n line) (bytesAfter (take n line) bytes) device l ≡ answered input line bytes device
+    read-as {read} {l} e told =
+        ap (readAs (take n line) (bytesAfter (take n line) bytes) device) (sym told ∙ e)
+        ∙ ap (λ (k : ℕ). readAs (take k line) (bytesAfter (take k line) bytes) device (lineOf (length bytes) (take k line))) count
+        ∙ sym (ap (λ (b : Bool). pick b (says longText device) (readAs (lineIn input line) (bytesAfter (lineIn input line) bytes) device
+        (lineOf (length bytes) (lineIn input line)))) short)
+
+    pub bytes-as : bytesAfter (take n line) bytes ≡ bytesIn input line bytes
+    bytes-as =
+        ap (λ (k : ℕ). bytesAfter (take k line) bytes) count
+        ∙ sym (ap (λ (b : Bool). pick b bytes (bytesAfter (lineIn input line) bytes)) short)

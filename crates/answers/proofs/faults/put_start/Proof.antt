@@ -11,7 +11,7 @@ use Rattle.answers.proofs.faults.put_start.Statement.{statement}
 use Rattle.answers.proofs.faults.put_start.Tie as tie
 
 abbrev Inv-loop : tie.InvT-loop
-Inv-loop out₀ at s start end place₀ i₀ t9 out place i = 
+Inv-loop out₀ at s start end place₀ i₀ t9 out place i =
     (start ≤ i) × (i - start ≤ end - start) × (i - start ≤ 40) × (length out ≡ length out₀)
     × Puts (map shown (take (i - start) (drop start s))) out₀ at out place
 

@@ -12,7 +12,7 @@ use Rattle.answers.proofs.notices.put_notices.Statement.{statement}
 use Rattle.answers.proofs.notices.put_notices.Tie as tie
 
 abbrev Inv-loop : tie.InvT-loop
-Inv-loop out₀ at noted notices place₀ i₀ out place i = 
+Inv-loop out₀ at noted notices place₀ i₀ out place i =
     (1 ≤ i) × (i ≤ 8) × (i ≤ noted) × (length out ≡ length out₀) × Puts (laterTexts i notices) out₀ place₀ out place
 
 abbrev μ-loop : tie.MeasureT-loop

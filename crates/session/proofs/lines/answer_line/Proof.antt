@@ -1,138 +1,103 @@
+-- `lines::answer_line` meets its contract: what was read is answered. Assumes nothing.
+use mathlib.Core.Path.{refl, ap, ap₂, sym, _∙_}
+use mathlib.Core.Option.{none, some}
+use mathlib.Core.List.{List, []}
+use Prim.Native.Nat.{ℕ}
 use native.Mathlib.Omega.{arith}
 use borrow.Author.Needs.{needs}
+use lib.ListN.{take}
+use Rattle.text.specs.Chains.{Room, put-nothing}
+use Rattle.trace.specs.Lines.{bytesAfter}
+use Rattle.uart.specs.Whole.{meaning}
+use Rattle.answers.specs.Faults.{longText}
+use Rattle.session.specs.Requests.{commandOf, carriedOut}
+use Rattle.session.specs.Sessions.{standsFor}
+use Rattle.session.specs.Lines.{says, noUart, numbersIn, carried-any, too-long, bytes-kept, read-as, bytes-as}
+use Rattle.session.specs.Answers.{moved, gives-as, is-ready, not-ready}
 use Rattle.session.proofs.lines.answer_line.Statement.{statement}
 use Rattle.session.proofs.lines.answer_line.Tie as tie
-use Rattle.session.proofs.lines.answer_line.Reads as reads
-use Rattle.session.proofs.lines.answer_line.Lts as lts
-use Rattle.answers.proofs.faults.put_long.Reads as put-long-reads
-use Rattle.session.proofs.Session.with_output.Reads as with-output-reads
-use Rattle.session.proofs.lines.first_call.Reads as first-call-reads
-use Rattle.session.proofs.lines.wrong.Reads as wrong-reads
-use Rattle.session.proofs.requests.carry_out.Reads as carry-out-reads
-use Rattle.text.proofs.parts.within.Reads as within-reads
-use Rattle.trace.proofs.line.read_line.Reads as read-line-reads
 
--- src/lines.rt:91:13
-put-long-requires : tie.Need-put-long-requires
-put-long-requires c κs = search needs
-
--- src/lines.rt:92:9
-with-output-requires : tie.Need-with-output-requires
-with-output-requires c κs = search needs
-
--- src/lines.rt:92:9
-same-length : tie.Need-same-length
-same-length c = search needs
-
--- src/lines.rt:92:9
 returns : tie.Need-returns
-returns c = search needs
+returns c =
+    let a = c .before .before .before .before .before .before .before .before .before .args in
+    let d = standsFor (a .session) in
+    let long = c .before .before .before .before .before .if1 .taken in (
+      gives-as (too-long (a .input) (a .line .now) (a .bytes .now) d long)
+          (moved (c .before .before .before .put-long .ensures) (says longText d) (a .session) refl refl (c .before .before .before .before .before .before .before .before .before .pre .0) (c .with-output .ensures)),
+      bytes-kept (a .input) (a .line .now) (a .bytes .now) d long,
+    )
 
--- src/lines.rt:94:9
-within-requires : tie.Need-within-requires
-within-requires c κs = search needs
-
--- src/lines.rt:95:9
-slice-aggregate-s : tie.Need-slice-aggregate-s
-slice-aggregate-s c = search needs
-
--- src/lines.rt:97:9
-read-line-requires : tie.Need-read-line-requires
-read-line-requires c κs = search needs
-
--- src/lines.rt:99:26
-enum-told : tie.Need-enum-told
-enum-told c = search needs
-
--- src/lines.rt:100:21
-enum-known-read : tie.Need-enum-known-read
-enum-known-read c = search needs
-
--- src/lines.rt:100:31
-wrong-requires : tie.Need-wrong-requires
-wrong-requires c κs = search needs
-
--- src/lines.rt:101:20
-enum-known-read-2 : tie.Need-enum-known-read-2
-enum-known-read-2 c = search needs
-
--- src/lines.rt:103:17
-carry-out-requires : tie.Need-carry-out-requires
-carry-out-requires c κs = search needs
-
--- src/lines.rt:105:17
-first-call-requires : tie.Need-first-call-requires
-first-call-requires c κs = search needs
-
--- src/lines.rt:77:1
-same-length-2 : tie.Need-same-length-2
-same-length-2 c = search needs
-
--- src/lines.rt:77:1
 returns-2 : tie.Need-returns-2
-returns-2 c = search needs
+returns-2 c =
+    let a = c .before .before .before .before .before .before .before .before .before .before .before .before .before .args in
+    let d = standsFor (a .session) in
+    let short = c .before .before .before .before .before .before .before .before .before .if1 .left in
+    let count = c .before .before .before .before .before .before .before .before .within .ensures .1 in
+    let s = take (c .before .before .before .before .before .before .before .before .within .result) (a .line .now) in
+    let got = c .before .before .before .before .read-line .ensures in
+    let same = read-as (a .input) (a .line .now) (a .bytes .now) d short count (got .0) (c .enum-told .given .1) in
+    let kept = got .1 .1 ∙ bytes-as (a .input) (a .line .now) (a .bytes .now) d short count in
+    let room : Room [] (a .out .now) (a .session .at) = record { fits = omega (arith, c .before .before .before .before .before .before .before .before .before .before .before .before .before .pre .1) } in
+    (gives-as same (moved (put-nothing (a .out .now) (a .session .at) room) (says [] d) (a .session) refl refl (c .before .before .before .before .before .before .before .before .before .before .before .before .before .pre .0) refl), kept)
 
--- src/lines.rt:77:1
-same-length-3 : tie.Need-same-length-3
-same-length-3 c = search needs
-
--- src/lines.rt:77:1
-same-length-4 : tie.Need-same-length-4
-same-length-4 c = search needs
-
--- src/lines.rt:77:1
 returns-3 : tie.Need-returns-3
-returns-3 c = search needs
+returns-3 c =
+    let a = c .before .before .before .before .before .before .before .before .before .before .before .before .before .before .before .before .before .before .args in
+    let d = standsFor (a .session) in
+    let short = c .before .before .before .before .before .before .before .before .before .before .before .before .before .before .if1 .left in
+    let count = c .before .before .before .before .before .before .before .before .before .before .before .before .before .within .ensures .1 in
+    let s = take (c .before .before .before .before .before .before .before .before .before .before .before .before .before .within .result) (a .line .now) in
+    let got = c .before .before .before .before .before .before .before .before .before .read-line .ensures in
+    let same = read-as (a .input) (a .line .now) (a .bytes .now) d short count (got .0) (c .before .before .before .before .before .read .given .1) in
+    let kept = got .1 .1 ∙ bytes-as (a .input) (a .line .now) (a .bytes .now) d short count in
+    (gives-as same (c .before .before .wrong .ensures), kept)
 
--- src/lines.rt:77:1
-same-length-5 : tie.Need-same-length-5
-same-length-5 c = search needs
-
--- src/lines.rt:77:1
-same-length-6 : tie.Need-same-length-6
-same-length-6 c = search needs
-
--- src/lines.rt:77:1
 returns-4 : tie.Need-returns-4
-returns-4 c = search needs
+returns-4 c =
+    let a = c .before .before .before .before .before .before .before .before .before .before .before .before .before .before .before .before .before .before .before .before .args in
+    let d = standsFor (a .session) in
+    let short = c .before .before .before .before .before .before .before .before .before .before .before .before .before .before .before .before .if1 .left in
+    let count = c .before .before .before .before .before .before .before .before .before .before .before .before .before .before .before .within .ensures .1 in
+    let s = take (c .before .before .before .before .before .before .before .before .before .before .before .before .before .before .before .within .result) (a .line .now) in
+    let got = c .before .before .before .before .before .before .before .before .before .before .before .read-line .ensures in
+    let same = read-as (a .input) (a .line .now) (a .bytes .now) d short count (got .0) (c .before .before .before .before .before .before .before .read2 .given .1) in
+    let kept = got .1 .1 ∙ bytes-as (a .input) (a .line .now) (a .bytes .now) d short count in
+    let name = c .before .before .before .before .before .before .before .read2 .given .0 .0 in
+    let last = c .before .before .before .before .before .before .before .read2 .given .0 .1 .0 in
+    let cmd = commandOf name (numbersIn s) last (bytesAfter s (a .bytes .now)) in
+    let u = meaning (a .session .uart) in (
+      gives-as (ap₂ (λ (ns : List ℕ) (bs : List ℕ). carriedOut (commandOf name ns last bs) [] (some u)) (got .1 .0) (got .1 .1)
+          ∙ carried-any cmd [] (noUart s) u
+          ∙ ap (carriedOut cmd (noUart s)) (sym (is-ready (a .session) (c .before .before .before .before .before .if2 .taken)))
+          ∙ same)
+          (c .before .before .carry-out .ensures),
+      kept,
+    )
 
--- src/lines.rt:77:1
-same-length-7 : tie.Need-same-length-7
-same-length-7 c = search needs
-
--- src/lines.rt:77:1
-same-length-8 : tie.Need-same-length-8
-same-length-8 c = search needs
-
--- src/lines.rt:77:1
 returns-5 : tie.Need-returns-5
-returns-5 c = search needs
+returns-5 c =
+    let a = c .before .before .before .before .before .before .before .before .before .before .before .before .before .before .before .before .before .before .before .args in
+    let d = standsFor (a .session) in
+    let short = c .before .before .before .before .before .before .before .before .before .before .before .before .before .before .before .if1 .left in
+    let count = c .before .before .before .before .before .before .before .before .before .before .before .before .before .before .within .ensures .1 in
+    let s = take (c .before .before .before .before .before .before .before .before .before .before .before .before .before .before .within .result) (a .line .now) in
+    let got = c .before .before .before .before .before .before .before .before .before .before .read-line .ensures in
+    let same = read-as (a .input) (a .line .now) (a .bytes .now) d short count (got .0) (c .before .before .before .before .before .before .read2 .given .1) in
+    let kept = got .1 .1 ∙ bytes-as (a .input) (a .line .now) (a .bytes .now) d short count in
+    let name = c .before .before .before .before .before .before .read2 .given .0 .0 in
+    let last = c .before .before .before .before .before .before .read2 .given .0 .1 .0 in
+    let cmd = commandOf name (numbersIn s) last (bytesAfter s (a .bytes .now)) in (
+      gives-as (ap (λ (ns : List ℕ). carriedOut (commandOf name ns last (bytesAfter s (a .bytes .now))) (noUart s) none) (got .1 .0)
+          ∙ ap (carriedOut cmd (noUart s)) (sym (not-ready (a .session) (c .before .before .before .before .if2 .left)))
+          ∙ same)
+          (c .before .before .first-call .ensures last (bytesAfter s (a .bytes .now))),
+      kept,
+    )
 
 pub answer-line-spec : {M : Type 1} → statement M
 answer-line-spec =
-    tie.close
-    (tie.spec
-    put-long-requires
-    with-output-requires
-    same-length
-    returns
-    within-requires
-    slice-aggregate-s
-    read-line-requires
-    enum-told
-    enum-known-read
-    wrong-requires
-    enum-known-read-2
-    carry-out-requires
-    first-call-requires
-    same-length-2
-    returns-2
-    same-length-3
-    same-length-4
-    returns-3
-    same-length-5
-    same-length-6
-    returns-4
-    same-length-7
-    same-length-8
-    returns-5)
+    tie.close (tie.spec (λ c κs. search needs) (λ c κs. search needs) (λ c. search needs) returns
+    (λ c κs. search needs) (λ c. search needs) (λ c κs. search needs) (λ c. search needs) (λ c. search needs)
+    (λ c κs. search needs) (λ c. search needs) (λ c κs. search needs) (λ c κs. search needs) (λ c. search needs)
+    returns-2 (λ c. search needs) (λ c. search needs) returns-3 (λ c. search needs) (λ c. search needs) returns-4
+    (λ c. search needs) (λ c. search needs) returns-5)

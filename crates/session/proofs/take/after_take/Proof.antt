@@ -1,81 +1,53 @@
+-- `take::after_take` meets its contract. Assumes nothing.
+use mathlib.Core.Path.{sym}
+use mathlib.Core.Bool.{Bool}
+use mathlib.Core.List.{_++_}
+use lib.ListN.{take, length-take}
 use native.Mathlib.Omega.{arith}
 use borrow.Author.Needs.{needs}
+use Rattle.text.specs.Chains.{put-of}
+use Rattle.answers.specs.Replies.{handOutText}
+use Rattle.answers.specs.Reports.{reportText}
+use Rattle.answers.specs.Lengths.{refusal-short, taken-short}
+use Rattle.session.specs.HandOuts.{handOutOf, takenLine}
+use Rattle.session.specs.Answers.{used}
 use Rattle.session.proofs.take.after_take.Statement.{statement}
 use Rattle.session.proofs.take.after_take.Tie as tie
-use Rattle.session.proofs.take.after_take.Reads as reads
-use Rattle.session.proofs.take.after_take.Lts as lts
-use Rattle.answers.proofs.refusals.put_refusal.Reads as put-refusal-reads
-use Rattle.answers.proofs.replies.put_taken.Reads as put-taken-reads
-use Rattle.session.proofs.in_use.Reads as in-use-reads
-use Rattle.session.proofs.take.same_marks.Reads as same-marks-reads
-use Rattle.text.proofs.parts.within.Reads as within-reads
 
--- src/take.rt:70:24
-enum-known-reply : tie.Need-enum-known-reply
-enum-known-reply c = search needs
-
--- src/take.rt:70:49
 put-refusal-requires : tie.Need-put-refusal-requires
-put-refusal-requires c κs = search needs
+put-refusal-requires c κs =
+    record { fits = omega (arith, c .before .before .before .before .before .before .before .before .pre .0, refusal-short (c .before .before .reply .given .0 .0)) }
 
--- src/take.rt:70:36
-in-use-requires : tie.Need-in-use-requires
-in-use-requires c κs = search needs
-
--- src/take.rt:71:22
-enum-known-reply-2 : tie.Need-enum-known-reply-2
-enum-known-reply-2 c = search needs
-
--- src/take.rt:72:17
-within-requires : tie.Need-within-requires
-within-requires c κs = search needs
-
--- src/take.rt:73:17
-same-marks-requires : tie.Need-same-marks-requires
-same-marks-requires c κs = search needs
-
--- src/take.rt:74:45
-slice-aggregate-put-taken : tie.Need-slice-aggregate-put-taken
-slice-aggregate-put-taken c = search needs
-
--- src/take.rt:74:26
 put-taken-requires : tie.Need-put-taken-requires
-put-taken-requires c κs = search needs
+put-taken-requires c κs =
+    let a = c .before .before .before .before .before .before .before .before .before .before .before .args in
+    let n = c .before .before .before .within .result in
+    record {
+      fits = omega (
+        arith,
+        c .before .before .before .before .before .before .before .before .before .before .before .pre .0,
+        c .before .before .before .before .before .before .before .before .before .before .before .pre .1,
+        taken-short (take n (a .lent .now)) (c .before .before .same-marks .result) (a .after .report),
+        length-take n (a .lent .now),
+      );
+    }
 
--- src/take.rt:74:13
-in-use-requires-2 : tie.Need-in-use-requires-2
-in-use-requires-2 c κs = search needs
-
--- src/take.rt:60:1
-same-length : tie.Need-same-length
-same-length c = search needs
-
--- src/take.rt:60:1
 returns : tie.Need-returns
-returns c = search needs
+returns c =
+    used (put-of (takenLine (c .before .before .before .before .before .before .before .before .before .before .before .before .args .after .report) (c .before .before .before .before .before .before .before .before .before .before .before .before .args .lent .now)) (c .before .before .before .before .before .before .reply .given .1) (c .before .before .before .put-refusal .ensures)) (c .in-use .ensures)
 
--- src/take.rt:60:1
-same-length-2 : tie.Need-same-length-2
-same-length-2 c = search needs
-
--- src/take.rt:60:1
 returns-2 : tie.Need-returns-2
-returns-2 c = search needs
+returns-2 c =
+    let a = c .before .before .before .before .before .before .before .before .before .before .before .before .before .before .before .args in
+    let n = c .before .before .before .before .before .before .before .within .result in
+    let end = reportText (a .after .report) in
+    used (put-of (takenLine (a .after .report) (a .lent .now)) (c .before .before .before .before .before .before .before .before .before .reply2 .given .1)
+    (put-of (handOutOf end (a .lent .now)) (sym (c .before .before .before .before .before .before .before .within .ensures .1))
+    (put-of (λ (kept : Bool). handOutText (take n (a .lent .now)) kept ++ end) (sym (c .before .before .before .before .before .before .same-marks .ensures)) (c .before .before .before .put-taken .ensures))))
+    (c .in-use2 .ensures)
 
 pub after-take-spec : {M : Type 1} → statement M
 after-take-spec =
-    tie.close
-    (tie.spec
-    enum-known-reply
-    put-refusal-requires
-    in-use-requires
-    enum-known-reply-2
-    within-requires
-    same-marks-requires
-    slice-aggregate-put-taken
-    put-taken-requires
-    in-use-requires-2
-    same-length
-    returns
-    same-length-2
-    returns-2)
+    tie.close (tie.spec (λ c. search needs) put-refusal-requires (λ c κs. search needs) (λ c. search needs)
+    (λ c κs. search needs) (λ c κs. search needs) (λ c. search needs) put-taken-requires (λ c κs. search needs)
+    (λ c. search needs) returns (λ c. search needs) returns-2)

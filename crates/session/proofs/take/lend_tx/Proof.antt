@@ -1,32 +1,13 @@
-use native.Mathlib.Omega.{arith}
+-- `take::lend_tx` meets its contract. Assumes nothing.
 use borrow.Author.Needs.{needs}
+use Rattle.session.specs.Taken.{tx-gives}
 use Rattle.session.proofs.take.lend_tx.Statement.{statement}
 use Rattle.session.proofs.take.lend_tx.Tie as tie
-use Rattle.session.proofs.take.lend_tx.Reads as reads
-use Rattle.session.proofs.take.lend_tx.Lts as lts
-use Rattle.session.proofs.take.after_take.Reads as after-take-reads
-use Rattle.uart.proofs.Uart.take_tx.Reads as take-tx-reads
 
--- src/take.rt:105:9
-take-tx-requires : tie.Need-take-tx-requires
-take-tx-requires c κs = search needs
-
--- src/take.rt:106:5
-after-take-requires : tie.Need-after-take-requires
-after-take-requires c κs = search needs
-
--- src/take.rt:98:1
-same-length : tie.Need-same-length
-same-length c = search needs
-
--- src/take.rt:98:1
-same-length-2 : tie.Need-same-length-2
-same-length-2 c = search needs
-
--- src/take.rt:98:1
 returns : tie.Need-returns
-returns c = search needs
+returns c =
+    tx-gives (c .before .before .before .before .before .before .before .before .before .before .before .pre .1 .1 .0) (c .before .before .before .before .before .before .before .before .before .before .before .args .cycle) (c .before .before .before .before .before .before .before .take-tx .ensures) (c .before .before .after-take .ensures)
 
 pub lend-tx-spec : {M : Type 1} → statement M
 lend-tx-spec =
-    tie.close (tie.spec take-tx-requires after-take-requires same-length same-length-2 returns)
+    tie.close (tie.spec (λ c κs. search needs) (λ c κs. search needs) (λ c. search needs) (λ c. search needs) returns)
