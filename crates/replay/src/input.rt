@@ -71,6 +71,7 @@ fn answer(
     requires { ⌜ Wide (now out) (session .at) ⌝ }
     ensures { λ r. ⌜ Gives (answered input (now (line .entry)) (now (bytes .entry)) (standsFor session)) (now (out .entry)) (session .at)
         (now (out .exit)) r ⌝ }
+    ensures { λ _. ⌜ length (now (out .exit)) ≡ length (now (out .entry)) ⌝ }
 {
     answer_line(session, input, line, bytes, out)
 }
