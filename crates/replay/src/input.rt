@@ -1,14 +1,21 @@
 // Standard input, line by line, in constant memory.
-use crate::lines::answer_line;
 use crate::output::Output;
-use crate::session;
-use crate::session::Session;
+use session::Session;
+use session::begin as begin_session;
+use session::lines::answer_line;
 use streams::input::read_more;
 use text::input::Input;
 use text::input::begin;
 use text::input::has_line;
 use text::input::next_line;
+ghost use mathlib.Core.Path.{_≡_};
+ghost use mathlib.Core.Bool.{false};
+ghost use lib.ListN.{length};
 ghost use Rattle.uart.specs.Whole.{Good};
+ghost use Rattle.session.specs.Sessions.{standsFor, Wide, Gives};
+ghost use Rattle.session.specs.Lines.{answered};
+ghost use Rattle.text.specs.Input.{hasLine};
+ghost use Rattle.text.specs.Pick.{pick};
 
 // A proved loop has to end, so it counts its turns down from a number that no run uses up.
 pub fn run() {
@@ -17,32 +24,35 @@ pub fn run() {
     let mut bytes = [0u8; 8192];
     let mut out = [0u8; 65536];
     let mut input = begin();
-    let mut session = session::begin();
+    let mut session = begin_session();
+    let mut failed = false;
     let mut turns = u64::MAX;
     while turns > 0 && input.more {
-        input = read_more(input, session.failed, &mut chunk, b"replay: standard input");
+        input = read_more(input, failed, &mut chunk, b"replay: standard input");
         input = next_line(input, &chunk, &mut line);
         let output = Output {
             at: session.at,
-            failed: session.failed,
+            failed,
         };
         let kept = output.keep_up(input, &out);
         session.at = kept.at;
-        session.failed = kept.failed;
-        if is_answered(input, kept.failed) {
+        failed = kept.failed;
+        if is_answered(input, failed) {
             session = answer(session, input, &line, &mut bytes, &mut out);
         }
         turns -= 1;
     }
     let output = Output {
         at: session.at,
-        failed: session.failed,
+        failed,
     };
     output.flush(&out);
 }
 
 // A line that stands there is answered, but for one after a write that failed.
-fn is_answered(input: Input, failed: bool) -> bool {
+fn is_answered(input: Input, failed: bool) -> bool
+    ensures { λ r. ⌜ r ≡ pick failed false (hasLine input) ⌝ }
+{
     if failed {
         return false;
     }
@@ -58,7 +68,10 @@ fn answer(
     out: &mut [u8; 65536],
 ) -> Session
     requires { ⌜ Good (session .uart) ⌝ }
-    ensures { λ r. ⌜ Good (r .uart) ⌝ }
+    requires { ⌜ Wide (now out) (session .at) ⌝ }
+    ensures { λ r. ⌜ Gives (answered input (now (line .entry)) (now (bytes .entry)) (standsFor session)) (now (out .entry)) (session .at)
+        (now (out .exit)) r ⌝ }
+    ensures { λ _. ⌜ length (now (out .exit)) ≡ length (now (out .entry)) ⌝ }
 {
     answer_line(session, input, line, bytes, out)
 }

@@ -1,14 +1,7 @@
-// Answers the calls of the replay format (docs/REPLAY.md) on standard input, a line for each, on standard output.
-mod answers;
-mod calls;
-mod faults;
+// Answers the calls of the replay format (docs/REPLAY.md) on standard input, a line for each, on standard output. It reads and
+// writes; what is answered is the crate `session`'s to say.
 mod input;
-mod lines;
-mod notices;
 mod output;
-mod session;
-mod set_up;
-mod take;
 mod usage;
 
 fn main() {

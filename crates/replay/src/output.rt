@@ -3,9 +3,11 @@ use libc::STDOUT_FILENO;
 use text::input::Input;
 use text::input::has_line;
 use text::parts::within;
+ghost use Prim.Native.Nat.{_≤_};
+ghost use Rattle.replay.specs.Outputs.{Written, KeepsUp};
 
-// It is written once it is filled so far; an answer that then follows fits behind it.
-const FULL: usize = 57344;
+// It is written once it is filled so far; any answer then fits behind it: 17,408 bytes are left of 65,536.
+const FULL: usize = 48128;
 
 // Writes the first `count` bytes of `out`. Where that fails it says so on standard error, and answers false.
 fn write(out: &[u8], count: usize) -> bool {
@@ -25,7 +27,9 @@ pub struct Output {
 
 impl Output {
     // Writes all that was put to it.
-    pub fn flush(self, out: &[u8; 65536]) -> Output {
+    pub fn flush(self, out: &[u8; 65536]) -> Output
+        ensures { λ r. ⌜ Written self r ⌝ }
+    {
         if self.failed {
             return self;
         }
@@ -43,13 +47,15 @@ impl Output {
     }
 
     // The same before the next read, and where it is nearly full.
-    pub fn keep_up(self, input: Input, out: &[u8; 65536]) -> Output {
-        if !has_line(input) {
-            return self.flush(out);
+    pub fn keep_up(self, input: Input, out: &[u8; 65536]) -> Output
+        ensures { λ r. ⌜ KeepsUp input self r ⌝ }
+    {
+        if has_line(input) {
+            if self.at > FULL {
+                return self.flush(out);
+            }
+            return self;
         }
-        if self.at > FULL {
-            return self.flush(out);
-        }
-        self
+        self.flush(out)
     }
 }

@@ -14,3 +14,5 @@ pub mod HexText
 pub mod Decimal
 pub mod ReadBack
 pub mod Examples
+pub mod Ascii
+pub mod Chains

@@ -1,0 +1,5 @@
+pub mod Notices
+pub mod Reports
+pub mod Replies
+pub mod Faults
+pub mod Lengths

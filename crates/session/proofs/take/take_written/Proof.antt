@@ -1,0 +1,29 @@
+-- `take::take_written` meets its contract: the buffer that is lent holds the marks. Assumes nothing.
+use mathlib.Core.Path.{ap}
+use mathlib.Core.Option.{some}
+use mathlib.Core.List.{List, []}
+use Prim.Native.Nat.{ℕ}
+use borrow.Author.Needs.{needs}
+use Rattle.model.specs.Call.{Call}
+use Rattle.uart.specs.Whole.{meaning}
+use Rattle.session.specs.Requests.{calls}
+use Rattle.session.specs.Answers.{gives-as}
+use Rattle.session.specs.Taken.{lent-of, lent-marks, lent-few}
+use Rattle.session.proofs.take.take_written.Statement.{statement}
+use Rattle.session.proofs.take.take_written.Tie as tie
+
+lend-written-requires : tie.Need-lend-written-requires
+lend-written-requires c κs =
+    let m = c .before .before .before .before .marks .ensures .1 in
+    let n = c .before .before .within .ensures .1 in
+    (c .before .before .before .before .before .before .pre .0, (c .before .before .before .before .before .before .pre .1, (lent-marks (c .before .before .before .before .before .before .args .size) m n, lent-few (c .before .before .before .before .before .before .args .size) m n)))
+
+returns : tie.Need-returns
+returns c =
+    gives-as (ap (λ (l : List ℕ). calls (Call.takeWritten l) [] (some (meaning (c .before .before .before .before .before .before .before .before .before .before .args .uart))))
+    (lent-of (c .before .before .before .before .before .before .before .before .before .before .args .size) (c .before .before .before .before .before .before .before .before .marks .ensures .1) (c .before .before .before .before .before .before .within .ensures .1))) (c .before .before .before .lend-written .ensures)
+
+pub take-written-spec : {M : Type 1} → statement M
+take-written-spec =
+    tie.close (tie.spec (λ c κs. search needs) (λ c. search needs) (λ c κs. search needs) (λ c. search needs)
+    (λ c. search needs) lend-written-requires (λ c. search needs) returns)

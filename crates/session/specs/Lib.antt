@@ -1,0 +1,6 @@
+pub mod Requests
+pub mod Sessions
+pub mod HandOuts
+pub mod Lines
+pub mod Answers
+pub mod Taken

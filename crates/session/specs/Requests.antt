@@ -1,0 +1,120 @@
+-- A call that a line names, and its answer by the definition: the text, and the UART after it. Assumes nothing.
+use Prim.Native.Nat.{ℕ, zero, suc, _%_, min}
+use mathlib.Core.Bool.{Bool, true, false}
+use mathlib.Core.Option.{Option, none, some}
+use mathlib.Core.List.{List, [], _∷_, _++_, map}
+use lib.Bits.{bitXor}
+use lib.Dec.{eqb}
+use lib.ListN.{take, drop, getD}
+use Rattle.text.specs.Ascii.{ascii}
+use Rattle.trace.specs.Low.{lowOf}
+use Rattle.trace.specs.declared.names.Name.{Name}
+use Rattle.trace.specs.declared.names.Name.the-variants.{Setup, Read, Write, Receive, Wake, Watch, Reset, PowerDown, Clock, TakeTx}
+use Rattle.trace.specs.declared.names.Name.the-variants.{TakeWritten, HasLeft, HostPending}
+use Rattle.model.specs.State.{Uart}
+use Rattle.model.specs.SetUp.{new, setUpReply}
+use Rattle.model.specs.Call.{Call, Written, Request, Reply, reads, writes, does, takes, left, pends, Answer}
+use Rattle.model.specs.Replies.{asRead, Take}
+use Rattle.model.specs.Run.{step}
+use Rattle.model.specs.declared.Report.{Report}
+use Rattle.model.specs.declared.SetUp.{SetUp}
+use Rattle.model.specs.declared.Taken.{Taken}
+use Rattle.answers.specs.Reports.{reportText}
+use Rattle.answers.specs.Replies.{refusalText, setUpText, readText, writeText, doneText, handOutText, hasLeftText, hostPendingText}
+
+-- ---- the lent buffer of a hand-out
+
+-- the mark at a place: another one at the next
+abbrev pub markAt : ℕ → ℕ
+markAt i = bitXor (i % 256) 90
+
+-- so many marks from a place on
+unfoldable pub marksFrom : ℕ → ℕ → List ℕ
+marksFrom i zero = []
+marksFrom i (suc n) = markAt i ∷ marksFrom (suc i) n
+
+-- a buffer to lend, of at most 8192 bytes
+abbrev pub lentOf : ℕ → List ℕ
+lentOf n = marksFrom 0 (min n 8192)
+
+-- ---- what a line asks for
+
+pub data Command : Type 0 where
+  -- sixteen offsets and sixteen reset words
+  setUp : List ℕ → List ℕ → Command
+  call : Request → Command
+
+-- the numbers of the line, its last word where that is a number, and its bytes
+abbrev pub commandOf : Name → List ℕ → ℕ → List ℕ → Command
+commandOf Setup ns last bytes = setUp (take 16 (map lowOf (drop 0 ns))) (take 16 (map lowOf (drop 16 ns)))
+commandOf Read ns last bytes = call (Call.read (getD ns 0 0) (lowOf (getD ns 1 0)))
+commandOf Write ns last bytes = call (Call.write (getD ns 0 0) (record { offset = lowOf (getD ns 1 0); value = lowOf (getD ns 2 0) }))
+commandOf Receive ns last bytes = call (Call.receive (getD ns 0 0) (getD ns 1 0) (take last bytes))
+commandOf Wake ns last bytes = call (Call.wake (getD ns 0 0))
+commandOf Watch ns last bytes = call (Call.watch (getD ns 0 0) (eqb last 1))
+commandOf Reset ns last bytes = call (Call.reset (getD ns 0 0))
+commandOf PowerDown ns last bytes = call (Call.powerDown (getD ns 0 0))
+commandOf Clock ns last bytes = call (Call.clockChange (getD ns 0 0) (getD ns 1 0))
+commandOf TakeTx ns last bytes = call (Call.takeTx (getD ns 0 0) (lentOf last))
+commandOf TakeWritten ns last bytes = call (Call.takeWritten (lentOf last))
+commandOf HasLeft ns last bytes = call Call.hasLeft
+commandOf HostPending ns last bytes = call Call.hostPending
+
+-- ---- the text of an answer
+
+-- a hand-out, and the end of its line: nothing after the bytes is changed
+abbrev pub handedText : List ℕ → List ℕ → Taken → List ℕ
+handedText end bytes (Taken.Bytes n) = handOutText bytes true ++ end
+handedText end bytes (Taken.Refused q) = refusalText q
+
+-- what ends the line of a hand-out: the report of take_tx; take_written is not dated
+abbrev pub endText : Request → Report → List ℕ
+endText (Call.takeWritten l) report = ascii "\n"
+endText (Call.read n r) report = reportText report
+endText (Call.write n w) report = reportText report
+endText (Call.receive n m bs) report = reportText report
+endText (Call.wake n) report = reportText report
+endText (Call.reset n) report = reportText report
+endText (Call.powerDown n) report = reportText report
+endText (Call.watch n b) report = reportText report
+endText (Call.clockChange n p) report = reportText report
+endText (Call.takeTx n l) report = reportText report
+endText Call.hasLeft report = ascii "\n"
+endText Call.hostPending report = ascii "\n"
+
+abbrev pub replyText : List ℕ → Report → Reply ℕ ℕ ℕ → List ℕ
+replyText end report (reads r) = readText report (asRead r)
+replyText end report (writes r) = writeText report r
+replyText end report (does r) = doneText report r
+replyText end report (takes t) = handedText end (t .front) (t .taken)
+replyText end report (left b) = hasLeftText b
+replyText end report (pends n) = hostPendingText n
+
+abbrev pub answerText : Request → Answer ℕ ℕ ℕ → List ℕ
+answerText c a = replyText (endText c (a .report)) (a .report) (a .reply)
+
+-- ---- what a command gives: its text, and the UART that is set up then
+
+pub record Next : Type 0 where
+  pub text : List ℕ
+  pub device : Option (Uart ℕ ℕ)
+
+-- a new UART; a refused set-up leaves the one before in place
+abbrev pub settled : SetUp → Uart ℕ ℕ → Option (Uart ℕ ℕ) → Option (Uart ℕ ℕ)
+settled SetUp.Ready u before = some u
+settled (SetUp.Refused q) u before = before
+
+abbrev pub setsUp : List ℕ → List ℕ → Option (Uart ℕ ℕ) → Next
+setsUp offsets resets before = record {
+  text = setUpText (setUpReply offsets);
+  device = settled (setUpReply offsets) (new offsets resets) before;
+}
+
+-- the definition's step; a call with no UART set up answers a fault
+abbrev pub calls : Request → List ℕ → Option (Uart ℕ ℕ) → Next
+calls c fault none = record { text = fault; device = none }
+calls c fault (some u) = record { text = answerText c (step c u .answer); device = some (step c u .state) }
+
+abbrev pub carriedOut : Command → List ℕ → Option (Uart ℕ ℕ) → Next
+carriedOut (setUp offsets resets) fault before = setsUp offsets resets before
+carriedOut (call c) fault before = calls c fault before

@@ -1,0 +1,122 @@
+// Each call on a UART that was set up, carried out and answered.
+use crate::Session;
+use crate::in_use;
+use crate::set_up::set_up;
+use crate::take::take_tx;
+use crate::take::take_written;
+use answers::replies::put_done;
+use answers::replies::put_has_left;
+use answers::replies::put_host_pending;
+use answers::replies::put_read;
+use answers::replies::put_write;
+use text::parts::within;
+use trace::low::low;
+use trace::names::Name;
+use uart::AfterDone;
+use uart::AfterRead;
+use uart::AfterWrite;
+use uart::Uart;
+ghost use mathlib.Core.Path.{_≡_};
+ghost use mathlib.Core.Bool.{true};
+ghost use mathlib.Core.Option.{some};
+ghost use mathlib.Core.List.{[]};
+ghost use lib.ListN.{take};
+ghost use Rattle.model.specs.Call.{Call};
+ghost use Rattle.uart.specs.Whole.{Good, meaning};
+ghost use Rattle.answers.specs.Replies.{readText, writeText, doneText};
+ghost use Rattle.session.specs.Requests.{commandOf, calls, carriedOut};
+ghost use Rattle.session.specs.Sessions.{Wide, InUse, Gives};
+
+// The first `count` of the bytes.
+fn front(bytes: &[u8], count: usize) -> &[u8]
+    ensures { λ r. ⌜ now r ≡ take count (now (bytes .entry)) ⌝ }
+{
+    let n = within(count, bytes);
+    &bytes[..n]
+}
+
+fn after_read(after: AfterRead, at: usize, out: &mut [u8]) -> Session
+    requires { ⌜ Wide (now out) at ⌝ }
+    ensures { λ r. ⌜ InUse (readText (after .report) (after .reply)) (after .uart) (now (out .entry)) at (now (out .exit)) r ⌝ }
+{
+    let reply = after.reply;
+    let report = after.report;
+    let next = put_read(out, at, reply, report);
+    let uart = after.uart;
+    in_use(uart, next)
+}
+
+fn after_write(after: AfterWrite, at: usize, out: &mut [u8]) -> Session
+    requires { ⌜ Wide (now out) at ⌝ }
+    ensures { λ r. ⌜ InUse (writeText (after .report) (after .reply)) (after .uart) (now (out .entry)) at (now (out .exit)) r ⌝ }
+{
+    let reply = after.reply;
+    let report = after.report;
+    let next = put_write(out, at, reply, report);
+    let uart = after.uart;
+    in_use(uart, next)
+}
+
+fn after_done(after: AfterDone, at: usize, out: &mut [u8]) -> Session
+    requires { ⌜ Wide (now out) at ⌝ }
+    ensures { λ r. ⌜ InUse (doneText (after .report) (after .reply)) (after .uart) (now (out .entry)) at (now (out .exit)) r ⌝ }
+{
+    let reply = after.reply;
+    let report = after.report;
+    let next = put_done(out, at, reply, report);
+    let uart = after.uart;
+    in_use(uart, next)
+}
+
+fn has_left(uart: Uart, at: usize, out: &mut [u8]) -> Session
+    requires { ⌜ Good uart ⌝ }
+    ensures { λ r. ⌜ Gives (calls Call.hasLeft [] (some (meaning uart))) (now (out .entry)) at (now (out .exit)) r ⌝ }
+{
+    let next = put_has_left(out, at, uart.has_left());
+    in_use(uart, next)
+}
+
+fn host_pending(uart: Uart, at: usize, out: &mut [u8]) -> Session
+    requires { ⌜ Good uart ⌝ }
+    requires { ⌜ Wide (now out) at ⌝ }
+    ensures { λ r. ⌜ Gives (calls Call.hostPending [] (some (meaning uart))) (now (out .entry)) at (now (out .exit)) r ⌝ }
+{
+    let next = put_host_pending(out, at, uart.host_pending());
+    in_use(uart, next)
+}
+
+// Carries out a call, with its numbers in the order of its words.
+pub fn carry_out(
+    session: Session,
+    name: Name,
+    numbers: [u64; 32],
+    last: usize,
+    bytes: &[u8],
+    out: &mut [u8],
+) -> Session
+    requires { ⌜ Good (session .uart) ⌝ }
+    requires { ⌜ session .ready ≡ true ⌝ }
+    requires { ⌜ Wide (now out) (session .at) ⌝ }
+    ensures { λ r. ⌜ Gives (carriedOut (commandOf name numbers last (now (bytes .entry))) [] (some (meaning (session .uart))))
+        (now (out .entry)) (session .at) (now (out .exit)) r ⌝ }
+{
+    let uart = session.uart;
+    let at = session.at;
+    let now = numbers[0];
+    let second = numbers[1];
+    match name {
+        Name::Setup => set_up(session, numbers, out),
+        Name::Read => after_read(uart.read(now, low(second)), at, out),
+        Name::Write => after_write(uart.write(now, low(second), low(numbers[2])), at, out),
+        Name::Receive => after_done(uart.receive(now, second, front(bytes, last)), at, out),
+        Name::Wake => after_done(uart.wake(now), at, out),
+        Name::Watch => after_done(uart.watch(now, last == 1), at, out),
+        Name::Reset => after_done(uart.reset(now), at, out),
+        Name::PowerDown => after_done(uart.power_down(now), at, out),
+        Name::Clock => after_done(uart.clock_change(now, second), at, out),
+        Name::TakeTx => take_tx(uart, now, last, at, out),
+        Name::TakeWritten => take_written(uart, last, at, out),
+        Name::HasLeft => has_left(uart, at, out),
+        Name::HostPending => host_pending(uart, at, out),
+    }
+}
