@@ -128,7 +128,7 @@ alike-same offsets (Alike.fifoWord {now = now} {v = v} {v′ = v′}) = same-wri
 alike-same offsets (Alike.lentToTakeTx {now = now} {lent = l} {lent′ = m} e) = ap (λ k. Call.takeTx now k) (same-blank l m e)
 alike-same offsets (Alike.lentToTakeWritten {lent = l} {lent′ = m} e) = ap Call.takeWritten (same-blank l m e)
 
-blank-same : (offsets : List ℕ) {c d : Request} → AlikeInUse offsets c d → blanked offsets c ≡ blanked offsets d
+pub blank-same : (offsets : List ℕ) {c d : Request} → AlikeInUse offsets c d → blanked offsets c ≡ blanked offsets d
 blank-same offsets (AlikeInUse.alike a) = alike-same offsets a
 blank-same offsets (AlikeInUse.unusedWord {now = now} {offset = o} {v = v} {v′ = v′} f e) = same-write offsets now o v v′ e
 
