@@ -7,11 +7,11 @@ use mathlib.Core.Bool.{Bool, true, false}
 use mathlib.Core.List.{List, [], _∷_, map}
 use lib.Bits.{bitAnd, and-step, and-zero-r}
 use lib.ListN.{length, getD}
-use Rattle.model.specs.Numbers.{choose, without}
+use Rattle.model.specs.Numbers.{choose}
 use Rattle.model.specs.Laws.Choose.{choose-false}
 use Rattle.model.specs.Registers.{placeOf, placeAmong}
 use Rattle.model.specs.Call.{Call, Written, Request}
-use Rattle.model.specs.SetUp.{wordsAmong, fifoCounts, new}
+use Rattle.model.specs.SetUp.{wordsAmong, new}
 use Rattle.model.specs.Run.{run}
 use Rattle.model.specs.Refuses.Conditions.{isFifo}
 use Rattle.model.specs.Refuses.FifoPlace.{first-is-fifo, fifo-is-first}
