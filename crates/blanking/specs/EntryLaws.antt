@@ -1,6 +1,5 @@
 -- Laws of the text of a call: how it is put piece by piece, and how long it can be. Assumes nothing.
 use mathlib.Core.Path.{_≡_, refl, ap, ap₂, sym, subst, _∙_}
-use mathlib.Core.Bool.{Bool, true, false}
 use mathlib.Core.List.{List, [], _∷_, _++_, map, append-nil, append-assoc}
 use mathlib.Core.Logic.{⊎-elim}
 use Prim.Native.Nat.{ℕ, zero, suc, _+_, _-_, _*_, _/_, _<_, _≤_, min}
@@ -10,16 +9,15 @@ use native.Mathlib.Omega.{arith}
 use lib.Dec.{ltb}
 use lib.ListN.{length, getD, take, drop, replicate, length-append, length-map, length-replicate, length-take}
 use Rattle.text.specs.Pick.{side}
-use Rattle.text.specs.Decimal.{decimalUpTo, decimal, digits-more, digits-last}
-use Rattle.text.specs.HexText.{hexPairs, hexText, pairs-length}
+use Rattle.text.specs.Decimal.{decimalUpTo, digits-more, digits-last}
+use Rattle.text.specs.HexText.{hexText, pairs-length}
 use Rattle.trace.specs.Low.{lowOf}
 use Rattle.trace.specs.Names.{letters}
 use Rattle.trace.specs.declared.names.Name.{Name}
 use Rattle.trace.specs.declared.names.Name.the-variants.{Setup, Read, Write, Receive, Wake, Watch, Reset, PowerDown, Clock, TakeTx}
 use Rattle.trace.specs.declared.names.Name.the-variants.{TakeWritten, HasLeft, HostPending}
-use Rattle.model.specs.Call.{Call, Request}
 use Rattle.blanking.specs.Blanked.{blankByte, blankWord, blankWritten, blankResets, blanked}
-use Rattle.blanking.specs.Entries.{Entry, entryOf, blankedEntry, number, numbers, bitNumber, callWords, entryWords, callName}
+use Rattle.blanking.specs.Entries.{entryOf, blankedEntry, number, numbers, bitNumber, callWords, entryWords, callName}
 use Rattle.blanking.specs.Entries.{entryName, entryText}
 use Rattle.blanking.specs.Puts.{Puts}
 

@@ -1,12 +1,11 @@
 -- What a line leaves, and that its text has room. Assumes nothing.
 use mathlib.Core.Path.{_≡_, refl, ap, ap₂, sym, subst, subst₂, _∙_}
 use mathlib.Core.Bool.{Bool, true, false}
-use mathlib.Core.List.{List, [], _∷_, _++_, map}
+use mathlib.Core.List.{List, [], map}
 use Prim.Native.Nat.{ℕ, _+_, _≤_}
 use native.Mathlib.Omega.{arith}
 use lib.ListN.{length, take, drop, replicate, length-append, length-replicate}
 use Rattle.text.specs.Output.{Put}
-use Rattle.text.specs.Decimal.{decimal}
 use Rattle.trace.specs.Low.{lowOf}
 use Rattle.trace.specs.Stored.{stored}
 use Rattle.trace.specs.Lines.{lineOf, numbersOf, bytesAfter}
@@ -16,7 +15,7 @@ use Rattle.trace.specs.declared.names.Name.the-variants.{Setup, Read, Write, Re
 use Rattle.trace.specs.declared.names.Name.the-variants.{TakeWritten, HasLeft, HostPending}
 use Rattle.model.specs.SetUp.{setUpReply}
 use Rattle.model.specs.declared.SetUp.{SetUp}
-use Rattle.blanking.specs.Entries.{Entry, entryOf, blankedEntry, entryText}
+use Rattle.blanking.specs.Entries.{entryOf, blankedEntry, entryText}
 use Rattle.blanking.specs.EntryLaws.{number-few, text-few}
 use Rattle.blanking.specs.Puts.{put-nothing}
 use Rattle.blanking.specs.Lines.{readKind, hostRoom, kindOf, counted, blankedText, traceAfter}

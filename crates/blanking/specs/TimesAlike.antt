@@ -7,11 +7,11 @@ use mathlib.Core.Bool.{Bool, true, false}
 use mathlib.Core.List.{List, [], _∷_, map}
 use lib.Bits.{bitAnd, and-step, and-zero-r}
 use lib.ListN.{length, getD}
-use Rattle.model.specs.Numbers.{choose, without}
+use Rattle.model.specs.Numbers.{choose}
 use Rattle.model.specs.Laws.Choose.{choose-false}
 use Rattle.model.specs.Map.{isFifo, registerOf, registerAmong}
 use Rattle.model.specs.Call.{Call, Written, Request}
-use Rattle.model.specs.SetUp.{wordsAmong, fifoCounts, new}
+use Rattle.model.specs.SetUp.{wordsAmong, new}
 use Rattle.model.specs.Run.{run}
 use Rattle.model.specs.Refuses.FifoPlace.{first-is-fifo, fifo-is-first}
 use Rattle.model.specs.TwoRuns.Alike.{Each, Alike, fifoOffset, withoutRest}
@@ -127,7 +127,7 @@ alike-same offsets (Alike.fifoWord {now = now} {v = v} {v′ = v′}) = same-wri
 alike-same offsets (Alike.lentToTakeTx {now = now} {lent = l} {lent′ = m} e) = ap (λ k. Call.takeTx now k) (same-blank l m e)
 alike-same offsets (Alike.lentToTakeWritten {lent = l} {lent′ = m} e) = ap Call.takeWritten (same-blank l m e)
 
-blank-same : (offsets : List ℕ) {c d : Request} → AlikeInUse offsets c d → blanked offsets c ≡ blanked offsets d
+pub blank-same : (offsets : List ℕ) {c d : Request} → AlikeInUse offsets c d → blanked offsets c ≡ blanked offsets d
 blank-same offsets (AlikeInUse.alike a) = alike-same offsets a
 blank-same offsets (AlikeInUse.unusedWord {now = now} {offset = o} {v = v} {v′ = v′} f e) = same-write offsets now o v v′ e
 

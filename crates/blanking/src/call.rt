@@ -13,7 +13,7 @@ ghost use mathlib.Core.Path.{_≡_};
 ghost use mathlib.Core.List.{_∷_, _++_, map};
 ghost use Prim.Native.Nat.{_+_, _≤_};
 ghost use lib.Dec.{ltb};
-ghost use lib.ListN.{length, getD, take, drop, replicate};
+ghost use lib.ListN.{length, take, drop, replicate};
 ghost use Rattle.text.specs.Output.{Put};
 ghost use Rattle.text.specs.HexText.{hexText};
 ghost use Rattle.trace.specs.Low.{lowOf};

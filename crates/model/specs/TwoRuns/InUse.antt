@@ -7,7 +7,6 @@ use mathlib.Core.List.{List, [], _∷_, _++_, map, flatMap}
 use lib.Dec.{eqb}
 use borrow.Author.Tests.{ne-eqb}
 use lib.ListN.{length, getD}
-use Rattle.model.specs.Numbers.{choose}
 use Rattle.model.specs.Laws.Choose.{choose-false}
 use Rattle.model.specs.State.{Uart}
 use Rattle.model.specs.Map.{isFifo, registerOf}
