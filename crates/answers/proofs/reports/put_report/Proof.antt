@@ -26,7 +26,8 @@ returns c =
     let far = c .before .before .before .before .before .before .before .before .before .before .before .before in
     let top = far .before .before .before .before .before .before .before .before .before .before in
     and-then (and-then (and-then (and-then
-    (and-then (and-then (λ _. top .before .before .before .before .before .before .before .before .before .put-level .ensures) (top .before .before .before .before .before .put-wake .ensures))
+    (and-then (and-then (λ _. top .before .before .before .before .before .before .before .before .before .put-level .ensures)
+    (top .before .before .before .before .before .put-wake .ensures))
     (top .put-field .ensures))
     (λ _. far .before .before .before .before .before .put .ensures))
     (λ _. far .put-notices .ensures)) (c .before .before .before .before .before .before .before .put-field2 .ensures))
