@@ -94,7 +94,8 @@ module _ (s : List ℕ) (start i : ℕ) (after : start ≤ i) where
         → map shown (take (i - start) (drop start s)) ++ ascii ".." ≡ shownText (take (end - start) (drop start s))
     shown-cut h k l =
         let forty : i - start ≡ 40 = omega arith in
-        let long : 40 < length (take (end - start) (drop start s)) = omega (arith, length-take (end - start) (drop start s), length-drop start s) in
+        let long : 40 < length (take (end - start) (drop start s)) =
+        omega (arith, length-take (end - start) (drop start s), length-drop start s) in
         ap (λ (n : ℕ). map shown (take n (drop start s)) ++ ascii "..") forty
         ∙ ap (λ (l : List ℕ). map shown l ++ ascii "..") (sym (take-take 40 (end - start) (drop start s) (omega arith)))
         ∙ shown-part (take (end - start) (drop start s)) long

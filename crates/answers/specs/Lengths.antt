@@ -31,8 +31,8 @@ use Rattle.trace.specs.declared.faults.Reason.the-variants.{NoBytes, NoUart}
 use Rattle.trace.specs.declared.faults.Fault.{Fault}
 use Rattle.answers.specs.Notices.{featureText, noticeText, nextTexts, noticesText}
 use Rattle.answers.specs.Reports.{levelText, wakeText, reportText}
-use Rattle.answers.specs.Replies.{refusalText, setUpText, readText, writeText, doneText, restText, handOutText, takenText, writtenText}
-use Rattle.answers.specs.Replies.{hostPendingText}
+use Rattle.answers.specs.Replies.{refusalText, setUpText, readText, writeText, doneText, restText, handOutText, takenText}
+use Rattle.answers.specs.Replies.{writtenText, hostPendingText}
 use Rattle.answers.specs.Faults.{reasonText, shown, shownText, faultText}
 
 -- ---- the parts

@@ -63,7 +63,13 @@ module _ (input : Input) (o r : Output) where
   pub not-full : hasLine input ≡ true → o .at ≤ full → r ≡ o → KeepsUp input o r
   not-full h l e =
       let t : ltb full (o .at) ≡ false = le-ltb full (o .at) l in
-      record { reads = λ f. opposite h f; fills = λ _ f. opposite f t; waits = λ _ _. e; room = λ _. omega (arith, ap (λ (x : Output). x .at) e) }
+      record {
+        reads = λ f. opposite h f;
+        fills = λ _ f. opposite f t;
+        waits = λ _ _. e;
+        room = λ _. omega
+            (arith, ap (λ (x : Output). x .at) e);
+      }
 
 -- what is answered, is after no failure
 pub no-failure : (failed line : Bool) → pick failed false line ≡ true → failed ≡ false

@@ -70,10 +70,12 @@ module _ {text before : List ℕ} {at : ℕ} {after : List ℕ} {place : ℕ} (p
   }
 
   -- the session as it was, but for the output
-  pub moved : (next : Next) (s : Session) {r : Session} → text ≡ next .text → standsFor s ≡ next .device → Good (s .uart) → r ≡ movedTo place s
-      → Gives next before at after r
+  pub moved : (next : Next) (s : Session) {r : Session} → text ≡ next .text → standsFor s ≡ next .device → Good (s .uart)
+      → r ≡ movedTo place s → Gives next before at after r
   moved next s {r} t d g e = record {
-    put = subst (λ (x : Session). Put (next .text) before at after (x .at)) (sym e) (subst (λ (l : List ℕ). Put l before at after place) t p);
+    put =
+        subst (λ (x : Session). Put (next .text) before at after (x .at)) (sym e)
+        (subst (λ (l : List ℕ). Put l before at after place) t p);
     device = ap standsFor e ∙ d;
     good = subst (λ (x : Session). Good (x .uart)) (sym e) g;
   }

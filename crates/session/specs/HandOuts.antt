@@ -126,7 +126,8 @@ unfolding takeWritten takeWrittenWork undated
 written-handed lent u = unless-handed lent _ (takeWrittenWork lent) u (gave _)
 
 -- the bytes stand at the front, and what is after them was not changed
-handed-line : (end : List ℕ) (n : ℕ) (t : Take ℕ ℕ) → Handed (marksFrom 0 n) t → lineOf end (contents t) (t .taken) ≡ handedText end (t .front) (t .taken)
+handed-line : (end : List ℕ) (n : ℕ) (t : Take ℕ ℕ) → Handed (marksFrom 0 n) t
+    → lineOf end (contents t) (t .taken) ≡ handedText end (t .front) (t .taken)
 unfolding filled notTaken contents
 handed-line end n t (gave w) =
     let lent = marksFrom 0 n in
@@ -147,12 +148,14 @@ handed-line end n t (gave w) =
 handed-line end n t (kept q) = refl
 
 module _ (n : ℕ) (u : Uart ℕ ℕ) (end : List ℕ) where
-  pub tx-line : (now : ℕ) (lent : List ℕ) → lent ≡ marksFrom 0 n → lineOf end (contents (takeTx now lent u .reply)) (takeTx now lent u .reply .taken)
+  pub tx-line : (now : ℕ) (lent : List ℕ) → lent ≡ marksFrom 0 n
+      → lineOf end (contents (takeTx now lent u .reply)) (takeTx now lent u .reply .taken)
       ≡ handedText end (takeTx now lent u .reply .front) (takeTx now lent u .reply .taken)
   tx-line now lent e =
       handed-line end n _ (subst (λ (l : List ℕ). Handed l (takeTx now lent u .reply)) e (tx-handed now lent u))
 
-  pub written-line : (lent : List ℕ) → lent ≡ marksFrom 0 n → lineOf end (contents (takeWritten lent u .reply)) (takeWritten lent u .reply .taken)
+  pub written-line : (lent : List ℕ) → lent ≡ marksFrom 0 n
+      → lineOf end (contents (takeWritten lent u .reply)) (takeWritten lent u .reply .taken)
       ≡ handedText end (takeWritten lent u .reply .front) (takeWritten lent u .reply .taken)
   written-line lent e =
       handed-line end n _ (subst (λ (l : List ℕ). Handed l (takeWritten lent u .reply)) e (written-handed lent u))

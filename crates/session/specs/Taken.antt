@@ -24,7 +24,8 @@ use Rattle.session.specs.Answers.{gives}
 module _ {u u′ : Uart} {lent out : List ℕ} {reply : Taken} {report : Report} (marks : lent ≡ marksFrom 0 (length lent))
     {before : List ℕ} {at : ℕ} {after : List ℕ} {r : Session} where
   pub tx-gives : (cycle : ℕ) → Took (takeTx cycle lent) u u′ reply report out
-      → InUse (takenLine report out reply) u′ before at after r → Gives (calls (Call.takeTx cycle lent) [] (some (meaning u))) before at after r
+      → InUse (takenLine report out reply) u′ before at after r
+      → Gives (calls (Call.takeTx cycle lent) [] (some (meaning u))) before at after r
   unfolding step stepBy
   tx-gives cycle t i =
       let o = takeTx cycle lent (meaning u) in

@@ -100,7 +100,8 @@ fn lend_tx(uart: Uart, cycle: u64, lent: &mut [u8], at: usize, out: &mut [u8]) -
     requires { ⌜ Wide (now out) at ⌝ }
     requires { ⌜ now lent ≡ marksFrom 0 (length (now lent)) ⌝ }
     requires { ⌜ length (now lent) ≤ 8192 ⌝ }
-    ensures { λ r. ⌜ Gives (calls (Call.takeTx cycle (now (lent .entry))) [] (some (meaning uart))) (now (out .entry)) at (now (out .exit)) r ⌝ }
+    ensures { λ r. ⌜ Gives (calls (Call.takeTx cycle (now (lent .entry))) [] (some (meaning uart))) (now (out .entry)) at
+        (now (out .exit)) r ⌝ }
 {
     let after = uart.take_tx(cycle, lent);
     after_take(after, lent, at, out)
@@ -111,7 +112,8 @@ fn lend_written(uart: Uart, lent: &mut [u8], at: usize, out: &mut [u8]) -> Sessi
     requires { ⌜ Wide (now out) at ⌝ }
     requires { ⌜ now lent ≡ marksFrom 0 (length (now lent)) ⌝ }
     requires { ⌜ length (now lent) ≤ 8192 ⌝ }
-    ensures { λ r. ⌜ Gives (calls (Call.takeWritten (now (lent .entry))) [] (some (meaning uart))) (now (out .entry)) at (now (out .exit)) r ⌝ }
+    ensures { λ r. ⌜ Gives (calls (Call.takeWritten (now (lent .entry))) [] (some (meaning uart))) (now (out .entry)) at
+        (now (out .exit)) r ⌝ }
 {
     let after = uart.take_written(lent);
     after_written(after, lent, at, out)

@@ -6,9 +6,12 @@ use Rattle.answers.proofs.faults.put_fault.Tie as tie
 
 returns : tie.Need-returns
 returns c =
-    and-then (and-then (and-then (and-then (λ _. c .before .before .before .before .before .before .before .before .before .before .before .before .before .before .before .before .before .before .before .before .put .ensures) (λ _. c .before .before .before .before .before .before .before .before .before .before .before .before .before .before .before .before .put-reason .ensures))
-    (λ _. c .before .before .before .before .before .before .before .before .before .before .before .put2 .ensures)) (c .before .before .before .before .before .before .before .put-start .ensures)) (λ _. c .before .before .put3 .ensures)
-    (c .before .before .before .before .before .before .before .before .before .before .before .before .before .before .before .before .before .before .before .before .before .before .before .before .before .pre)
+    let far = c .before .before .before .before .before .before .before .before .before .before .before .before in
+    and-then (and-then (and-then (and-then (λ _. far .before .before .before .before .before .before .before .before .put .ensures)
+    (λ _. far .before .before .before .before .put-reason .ensures))
+    (λ _. c .before .before .before .before .before .before .before .before .before .before .before .put2 .ensures))
+    (c .before .before .before .before .before .before .before .put-start .ensures)) (λ _. c .before .before .put3 .ensures)
+    (far .before .before .before .before .before .before .before .before .before .before .before .before .before .pre)
 
 pub put-fault-spec : {M : Type 1} → statement M
 put-fault-spec =

@@ -38,22 +38,25 @@ returns c =
 
 returns-2 : tie.Need-returns-2 Inv-loop μ-loop
 returns-2 c =
-    let a = c .before .before .before .before .before .before .before .before .before .before .before .args in
-    let w = c .before .before .before .before .before .before .before .before .loop in
+    let far = c .before .before .before .before .before .before .before .before in
+    let a = far .before .before .before .args in
+    let w = far .loop in
     puts-of (λ (l : List ℕ). l)
     (sym (shown-cut (a .s .now) (a .start) (w .i) (w .inv .0) (a .end) (w .inv .1) (w .inv .2) (omega arith) (omega arith) (omega arith)))
     (and-then (w .inv .4) (λ _. c .before .before .put .ensures))
 
 loop-again : tie.Need-loop-again Inv-loop μ-loop
 loop-again c =
-    let a = c .before .before .before .before .before .before .before .before .before .before .before .before .before .args in
-    let w = c .before .before .before .before .before .before .before .before .before .before .loop in (
+    let far = c .before .before .before .before .before .before .before .before .before .before in
+    let a = far .before .before .before .args in
+    let w = far .loop in (
       search needs,
       omega arith,
       omega arith,
       search needs,
       puts-of (λ (l : List ℕ). l) (sym (shown-on (a .s .now) (a .start) (w .i) (w .inv .0) (omega arith)))
-          (and-then (w .inv .4) (λ _. put-of (λ (b : ℕ). b ∷ []) (sym (c .before .before .before .before .before .printable .ensures)) (c .before .before .put2 .ensures))),
+          (and-then (w .inv .4) (λ _. put-of (λ (b : ℕ). b ∷ []) (sym (c .before .before .before .before .before .printable .ensures))
+          (c .before .before .put2 .ensures))),
     )
 
 returns-3 : tie.Need-returns-3 Inv-loop μ-loop

@@ -15,11 +15,13 @@ returns-2 c =
 
 returns-3 : tie.Need-returns-3
 returns-3 c =
-    puts-of noticeText (c .before .before .before .before .before .before .what .given .1) (c .before .before .put-source .ensures)
+    let far = c .before .before .before .before .before in
+    puts-of noticeText (far .before .what .given .1) (c .before .before .put-source .ensures)
 
 returns-4 : tie.Need-returns-4
 returns-4 c =
-    puts-of noticeText (c .before .before .before .before .before .before .what2 .given .1) (c .before .before .put-source2 .ensures)
+    let far = c .before .before .before .before .before in
+    puts-of noticeText (far .before .what2 .given .1) (c .before .before .put-source2 .ensures)
 
 returns-5 : tie.Need-returns-5
 returns-5 c =

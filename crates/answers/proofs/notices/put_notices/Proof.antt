@@ -21,24 +21,34 @@ abbrev μ-loop : tie.MeasureT-loop
 returns : tie.Need-returns Inv-loop μ-loop
 unfolding noticesText
 returns c =
-    put-of (λ (k : ℕ). noticesText (take (min k 8) (c .before .before .before .before .before .before .before .args .t3))) (c .before .before .before .before .before .if1 .taken) (c .before .before .put .ensures)
+    let far = c .before .before .before .before .before in
+    put-of (λ (k : ℕ). noticesText (take (min k 8) (far .before .before .args .t3))) (far .if1 .taken) (c .before .before .put .ensures)
 
 loop-holds : tie.Need-loop-holds Inv-loop μ-loop
 unfolding nextTexts
-loop-holds c =
-    (omega arith, omega arith, omega arith, refl, put-nothing (c .before .before .put-notice .last .0) (c .before .before .put-notice .result))
+loop-holds c = (
+  omega arith,
+  omega arith,
+  omega arith,
+  refl,
+  put-nothing (c .before .before .put-notice .last .0)
+      (c .before .before .put-notice .result),
+)
 
 returns-2 : tie.Need-returns-2 Inv-loop μ-loop
 returns-2 c =
-    let ns = c .before .before .before .before .before .before .before .before .before .before .args .t3 in
+    let far = c .before .before .before .before .before .before .before in
+    let ns = far .before .before .before .args .t3 in
     let w = c .before .before .loop in
-    let count : w .i ≡ min (c .before .before .before .before .before .before .before .before .before .before .args .noted) 8 = omega arith in
+    let count : w .i ≡ min (far .before .before .before .args .noted) 8 = omega arith in
     let all = later-all ns (w .i) unused (omega arith) (omega arith) ∙ ap (λ (k : ℕ). noticesText (take k ns)) count in
-    puts-of (λ (l : List ℕ). l) (sym all) (and-then (c .before .before .before .before .before .put-notice .ensures) (w .inv .4)) (c .before .before .before .before .before .before .before .before .before .before .pre)
+    puts-of (λ (l : List ℕ). l) (sym all) (and-then (c .before .before .before .before .before .put-notice .ensures) (w .inv .4))
+    (far .before .before .before .pre)
 
 loop-again : tie.Need-loop-again Inv-loop μ-loop
 loop-again c =
-    let ns = c .before .before .before .before .before .before .before .before .before .before .before .before .before .before .before .args .t3 in
+    let far = c .before .before .before .before .before .before .before .before .before .before .before .before in
+    let ns = far .before .before .before .args .t3 in
     let w = c .before .before .before .before .before .before .before .loop in (
       search needs,
       search needs,
@@ -50,11 +60,13 @@ loop-again c =
 
 returns-3 : tie.Need-returns-3 Inv-loop μ-loop
 returns-3 c =
-    let ns = c .before .before .before .before .before .before .before .before .before .args .t3 in
+    let far = c .before .before .before .before .before .before in
+    let ns = far .before .before .before .args .t3 in
     let w = c .before .loop in
-    let count : w .i ≡ min (c .before .before .before .before .before .before .before .before .before .args .noted) 8 = omega arith in
+    let count : w .i ≡ min (far .before .before .before .args .noted) 8 = omega arith in
     let all = later-all ns (w .i) unused (omega arith) (omega arith) ∙ ap (λ (k : ℕ). noticesText (take k ns)) count in
-    puts-of (λ (l : List ℕ). l) (sym all) (and-then (c .before .before .before .before .put-notice .ensures) (w .inv .4)) (c .before .before .before .before .before .before .before .before .before .pre)
+    puts-of (λ (l : List ℕ). l) (sym all) (and-then (c .before .before .before .before .put-notice .ensures) (w .inv .4))
+    (far .before .before .before .pre)
 
 pub put-notices-spec : {M : Type 1} → statement M
 put-notices-spec =

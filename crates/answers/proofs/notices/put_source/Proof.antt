@@ -6,7 +6,9 @@ use Rattle.answers.proofs.notices.put_source.Tie as tie
 
 returns : tie.Need-returns
 returns c =
-    and-then (and-then (λ _. c .before .before .before .before .before .before .before .before .before .before .before .put .ensures) (λ _. c .before .before .before .before .before .before .before .put-decimal .ensures)) (λ _. c .before .before .put2 .ensures)
+    let far = c .before .before .before .before .before .before .before .before in
+    and-then (and-then (λ _. far .before .before .before .put .ensures)
+    (λ _. c .before .before .before .before .before .before .before .put-decimal .ensures)) (λ _. c .before .before .put2 .ensures)
 
 pub put-source-spec : {M : Type 1} → statement M
 put-source-spec =

@@ -8,8 +8,10 @@ use Rattle.answers.proofs.refusals.put_refusal.Tie as tie
 
 returns : tie.Need-returns
 returns c =
-    and-then (λ _. put-of decimal (sym (c .before .before .before .before .before .before .before .before .number-of .ensures)) (c .before .before .before .before .before .before .before .put-decimal .ensures)) (λ _. c .before .before .put .ensures)
-    (c .before .before .before .before .before .before .before .before .before .before .before .pre)
+    let far = c .before .before .before .before .before .before .before .before in
+    and-then (λ _. put-of decimal (sym (far .number-of .ensures))
+    (c .before .before .before .before .before .before .before .put-decimal .ensures)) (λ _. c .before .before .put .ensures)
+    (far .before .before .before .pre)
 
 pub put-refusal-spec : {M : Type 1} → statement M
 put-refusal-spec =

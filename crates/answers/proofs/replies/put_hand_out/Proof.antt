@@ -7,12 +7,16 @@ use Rattle.answers.proofs.replies.put_hand_out.Tie as tie
 
 returns : tie.Need-returns
 returns c =
-    and-then (and-then (λ _. c .before .before .before .before .before .before .before .before .before .before .before .before .put .ensures) (λ _. c .before .before .before .before .before .before .before .before .put-bytes .ensures))
+    let far = c .before .before .before .before .before .before .before .before .before in
+    and-then (and-then (λ _. far .before .before .before .put .ensures)
+    (λ _. c .before .before .before .before .before .before .before .before .put-bytes .ensures))
     (λ _. put-of restText (c .before .before .before .before .before .if1 .taken) (c .before .before .put2 .ensures))
 
 returns-2 : tie.Need-returns-2
 returns-2 c =
-    and-then (and-then (λ _. c .before .before .before .before .before .before .before .before .before .before .before .before .put .ensures) (λ _. c .before .before .before .before .before .before .before .before .put-bytes .ensures))
+    let far = c .before .before .before .before .before .before .before .before .before in
+    and-then (and-then (λ _. far .before .before .before .put .ensures)
+    (λ _. c .before .before .before .before .before .before .before .before .put-bytes .ensures))
     (λ _. put-of restText (c .before .before .before .before .before .if1 .left) (c .before .before .put3 .ensures))
 
 pub put-hand-out-spec : {M : Type 1} → statement M

@@ -6,7 +6,10 @@ use Rattle.answers.proofs.replies.put_host_pending.Tie as tie
 
 returns : tie.Need-returns
 returns c =
-    and-then (and-then (λ _. c .before .before .before .before .before .before .before .before .before .before .before .put .ensures) (λ _. c .before .before .before .before .before .before .before .put-decimal .ensures)) (λ _. c .before .before .put2 .ensures) (c .before .before .before .before .before .before .before .before .before .before .before .before .before .before .before .pre)
+    let far = c .before .before .before .before .before .before .before .before .before .before .before .before in
+    and-then (and-then (λ _. c .before .before .before .before .before .before .before .before .before .before .before .put .ensures)
+    (λ _. c .before .before .before .before .before .before .before .put-decimal .ensures)) (λ _. c .before .before .put2 .ensures)
+    (far .before .before .before .pre)
 
 pub put-host-pending-spec : {M : Type 1} → statement M
 put-host-pending-spec =

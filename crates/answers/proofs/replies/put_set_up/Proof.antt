@@ -6,7 +6,8 @@ use Rattle.answers.proofs.replies.put_set_up.Statement.{statement}
 use Rattle.answers.proofs.replies.put_set_up.Tie as tie
 
 put-refusal-requires : tie.Need-put-refusal-requires
-put-refusal-requires c κs = room-of setUpText (c .before .before .reply .given .1) (c .before .before .before .before .before .pre)
+put-refusal-requires c κs =
+    room-of setUpText (c .before .before .reply .given .1) (c .before .before .before .before .before .pre)
 
 returns : tie.Need-returns
 returns c =

@@ -10,7 +10,9 @@ put-report-requires c κs =
 
 returns : tie.Need-returns
 returns c =
-    and-then (c .before .before .before .before .before .before .put-hand-out .ensures) (λ _. c .before .before .put-report .ensures) (c .before .before .before .before .before .before .before .before .before .before .pre)
+    let far = c .before .before .before .before .before .before .before in
+    and-then (c .before .before .before .before .before .before .put-hand-out .ensures) (λ _. c .before .before .put-report .ensures)
+    (far .before .before .before .pre)
 
 pub put-taken-spec : {M : Type 1} → statement M
 put-taken-spec =

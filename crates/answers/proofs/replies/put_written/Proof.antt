@@ -6,7 +6,9 @@ use Rattle.answers.proofs.replies.put_written.Tie as tie
 
 returns : tie.Need-returns
 returns c =
-    and-then (c .before .before .before .before .before .before .before .put-hand-out .ensures) (λ _. c .before .before .put .ensures) (c .before .before .before .before .before .before .before .before .before .before .before .pre)
+    let far = c .before .before .before .before .before .before .before .before in
+    and-then (c .before .before .before .before .before .before .before .put-hand-out .ensures) (λ _. c .before .before .put .ensures)
+    (far .before .before .before .pre)
 
 pub put-written-spec : {M : Type 1} → statement M
 put-written-spec =

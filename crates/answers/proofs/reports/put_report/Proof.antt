@@ -11,16 +11,28 @@ use Rattle.answers.proofs.reports.put_report.Tie as tie
 put-notices-requires : tie.Need-put-notices-requires
 unfolding reportText
 put-notices-requires c κs =
-    room-after (and-then (and-then (and-then (λ _. c .before .before .before .before .before .before .before .before .before .before .before .before .before .before .before .before .before .before .put-level .ensures) (c .before .before .before .before .before .before .before .before .before .before .before .before .before .before .put-wake .ensures))
-    (c .before .before .before .before .before .before .before .before .before .put-field .ensures)) (λ _. c .before .before .before .before .put .ensures))
-    (room-first (ascii " passes=" ++ decimal (c .before .before .before .before .before .before .before .before .before .before .before .before .before .before .before .before .before .before .before .before .before .args .report .passes)) (room-first (ascii "\n") (c .before .before .before .before .before .before .before .before .before .before .before .before .before .before .before .before .before .before .before .before .before .pre)))
+    let far = c .before .before .before .before .before .before .before .before .before .before .before .before in
+    room-after (and-then (and-then (and-then (λ _. far .before .before .before .before .before .before .put-level .ensures)
+    (far .before .before .put-wake .ensures))
+    (c .before .before .before .before .before .before .before .before .before .put-field .ensures))
+    (λ _. c .before .before .before .before .put .ensures))
+    (room-first (ascii " passes=" ++ decimal
+    (far .before .before .before .before .before .before .before .before .before .args .report .passes)) (room-first (ascii "\n")
+    (far .before .before .before .before .before .before .before .before .before .pre)))
 
 returns : tie.Need-returns
 unfolding reportText
 returns c =
-    and-then (and-then (and-then (and-then (and-then (and-then (λ _. c .before .before .before .before .before .before .before .before .before .before .before .before .before .before .before .before .before .before .before .before .before .before .before .before .before .before .before .before .before .before .before .put-level .ensures) (c .before .before .before .before .before .before .before .before .before .before .before .before .before .before .before .before .before .before .before .before .before .before .before .before .before .before .before .put-wake .ensures))
-    (c .before .before .before .before .before .before .before .before .before .before .before .before .before .before .before .before .before .before .before .before .before .before .put-field .ensures)) (λ _. c .before .before .before .before .before .before .before .before .before .before .before .before .before .before .before .before .before .put .ensures))
-    (λ _. c .before .before .before .before .before .before .before .before .before .before .before .before .put-notices .ensures)) (c .before .before .before .before .before .before .before .put-field2 .ensures)) (λ _. c .before .before .put2 .ensures) (c .before .before .before .before .before .before .before .before .before .before .before .before .before .before .before .before .before .before .before .before .before .before .before .before .before .before .before .before .before .before .before .before .before .before .pre)
+    let far = c .before .before .before .before .before .before .before .before .before .before .before .before in
+    let top = far .before .before .before .before .before .before .before .before .before .before in
+    and-then (and-then (and-then (and-then
+    (and-then (and-then (λ _. top .before .before .before .before .before .before .before .before .before .put-level .ensures)
+    (top .before .before .before .before .before .put-wake .ensures))
+    (top .put-field .ensures))
+    (λ _. far .before .before .before .before .before .put .ensures))
+    (λ _. far .put-notices .ensures)) (c .before .before .before .before .before .before .before .put-field2 .ensures))
+    (λ _. c .before .before .put2 .ensures)
+    (top .before .before .before .before .before .before .before .before .before .before .before .before .pre)
 
 pub put-report-spec : {M : Type 1} → statement M
 put-report-spec =

@@ -12,7 +12,7 @@ use Rattle.replay.proofs.input.run.Statement.{statement}
 use Rattle.replay.proofs.input.run.Tie as tie
 
 abbrev Inv-loop : tie.InvT-loop
-Inv-loop chunk₀ line₀ bytes₀ out₀ input₀ session₀ failed₀ turns₀ t12 chunk line bytes out input session failed turns = 
+Inv-loop chunk₀ line₀ bytes₀ out₀ input₀ session₀ failed₀ turns₀ t12 chunk line bytes out input session failed turns =
     Good (session .uart) × (length out ≡ 65536)
 
 abbrev μ-loop : tie.MeasureT-loop
@@ -20,8 +20,10 @@ abbrev μ-loop : tie.MeasureT-loop
 
 answer-requires : tie.Need-answer-requires Inv-loop μ-loop
 answer-requires c κs =
-    let room = c .before .before .before .before .before .keep-up .ensures .room (no-failure _ _ (sym (c .before .before .before .before .is-answered .ensures) ∙ c .before .before .before .if2 .taken)) in
-    let i = c .before .before .before .before .before .before .before .before .before .before .before .before .before .before .before .loop .inv in
+    let room = c .before .before .before .before .before .keep-up .ensures .room (no-failure _ _
+    (sym (c .before .before .before .before .is-answered .ensures) ∙ c .before .before .before .if2 .taken)) in
+    let far = c .before .before .before .before .before .before .before .before in
+    let i = far .before .before .before .before .before .before .before .loop .inv in
     (i .0, omega (arith, room, i .1))
 
 loop-again : tie.Need-loop-again Inv-loop μ-loop

@@ -19,17 +19,20 @@ use Rattle.session.proofs.lines.answer_line.Tie as tie
 
 returns : tie.Need-returns
 returns c =
-    let a = c .before .before .before .before .before .before .before .before .before .args in
+    let far = c .before .before .before .before .before .before in
+    let a = far .before .before .before .args in
     let d = standsFor (a .session) in
     let long = c .before .before .before .before .before .if1 .taken in (
       gives-as (too-long (a .input) (a .line .now) (a .bytes .now) d long)
-          (moved (c .before .before .before .put-long .ensures) (says longText d) (a .session) refl refl (c .before .before .before .before .before .before .before .before .before .pre .0) (c .with-output .ensures)),
+          (moved (c .before .before .before .put-long .ensures) (says longText d) (a .session) refl refl
+          (far .before .before .before .pre .0) (c .with-output .ensures)),
       bytes-kept (a .input) (a .line .now) (a .bytes .now) d long,
     )
 
 returns-2 : tie.Need-returns-2
 returns-2 c =
-    let a = c .before .before .before .before .before .before .before .before .before .before .before .before .before .args in
+    let far = c .before .before .before .before .before .before .before .before .before .before in
+    let a = far .before .before .before .args in
     let d = standsFor (a .session) in
     let short = c .before .before .before .before .before .before .before .before .before .if1 .left in
     let count = c .before .before .before .before .before .before .before .before .within .ensures .1 in
@@ -37,30 +40,37 @@ returns-2 c =
     let got = c .before .before .before .before .read-line .ensures in
     let same = read-as (a .input) (a .line .now) (a .bytes .now) d short count (got .0) (c .enum-told .given .1) in
     let kept = got .1 .1 ∙ bytes-as (a .input) (a .line .now) (a .bytes .now) d short count in
-    let room : Room [] (a .out .now) (a .session .at) = record { fits = omega (arith, c .before .before .before .before .before .before .before .before .before .before .before .before .before .pre .1) } in
-    (gives-as same (moved (put-nothing (a .out .now) (a .session .at) room) (says [] d) (a .session) refl refl (c .before .before .before .before .before .before .before .before .before .before .before .before .before .pre .0) refl), kept)
+    let room : Room [] (a .out .now) (a .session .at) = record { fits = omega (arith, far .before .before .before .pre .1) } in (
+      gives-as same (moved (put-nothing (a .out .now) (a .session .at) room) (says [] d) (a .session) refl refl
+          (far .before .before .before .pre .0) refl),
+      kept,
+    )
 
 returns-3 : tie.Need-returns-3
 returns-3 c =
-    let a = c .before .before .before .before .before .before .before .before .before .before .before .before .before .before .before .before .before .before .args in
+    let far = c .before .before .before .before .before .before .before .before .before .before .before .before in
+    let a = far .before .before .before .before .before .before .args in
     let d = standsFor (a .session) in
-    let short = c .before .before .before .before .before .before .before .before .before .before .before .before .before .before .if1 .left in
-    let count = c .before .before .before .before .before .before .before .before .before .before .before .before .before .within .ensures .1 in
-    let s = take (c .before .before .before .before .before .before .before .before .before .before .before .before .before .within .result) (a .line .now) in
+    let short = far .before .before .if1 .left in
+    let count = far .before .within .ensures .1 in
+    let s = take (far .before .within .result) (a .line .now) in
     let got = c .before .before .before .before .before .before .before .before .before .read-line .ensures in
-    let same = read-as (a .input) (a .line .now) (a .bytes .now) d short count (got .0) (c .before .before .before .before .before .read .given .1) in
+    let same = read-as (a .input) (a .line .now) (a .bytes .now) d short count (got .0)
+    (c .before .before .before .before .before .read .given .1) in
     let kept = got .1 .1 ∙ bytes-as (a .input) (a .line .now) (a .bytes .now) d short count in
     (gives-as same (c .before .before .wrong .ensures), kept)
 
 returns-4 : tie.Need-returns-4
 returns-4 c =
-    let a = c .before .before .before .before .before .before .before .before .before .before .before .before .before .before .before .before .before .before .before .before .args in
+    let far = c .before .before .before .before .before .before .before .before .before .before .before .before in
+    let a = far .before .before .before .before .before .before .before .before .args in
     let d = standsFor (a .session) in
-    let short = c .before .before .before .before .before .before .before .before .before .before .before .before .before .before .before .before .if1 .left in
-    let count = c .before .before .before .before .before .before .before .before .before .before .before .before .before .before .before .within .ensures .1 in
-    let s = take (c .before .before .before .before .before .before .before .before .before .before .before .before .before .before .before .within .result) (a .line .now) in
+    let short = far .before .before .before .before .if1 .left in
+    let count = far .before .before .before .within .ensures .1 in
+    let s = take (far .before .before .before .within .result) (a .line .now) in
     let got = c .before .before .before .before .before .before .before .before .before .before .before .read-line .ensures in
-    let same = read-as (a .input) (a .line .now) (a .bytes .now) d short count (got .0) (c .before .before .before .before .before .before .before .read2 .given .1) in
+    let same = read-as (a .input) (a .line .now) (a .bytes .now) d short count (got .0)
+    (c .before .before .before .before .before .before .before .read2 .given .1) in
     let kept = got .1 .1 ∙ bytes-as (a .input) (a .line .now) (a .bytes .now) d short count in
     let name = c .before .before .before .before .before .before .before .read2 .given .0 .0 in
     let last = c .before .before .before .before .before .before .before .read2 .given .0 .1 .0 in
@@ -76,13 +86,15 @@ returns-4 c =
 
 returns-5 : tie.Need-returns-5
 returns-5 c =
-    let a = c .before .before .before .before .before .before .before .before .before .before .before .before .before .before .before .before .before .before .before .args in
+    let far = c .before .before .before .before .before .before .before .before .before .before .before .before in
+    let a = far .before .before .before .before .before .before .before .args in
     let d = standsFor (a .session) in
-    let short = c .before .before .before .before .before .before .before .before .before .before .before .before .before .before .before .if1 .left in
-    let count = c .before .before .before .before .before .before .before .before .before .before .before .before .before .before .within .ensures .1 in
-    let s = take (c .before .before .before .before .before .before .before .before .before .before .before .before .before .before .within .result) (a .line .now) in
+    let short = far .before .before .before .if1 .left in
+    let count = far .before .before .within .ensures .1 in
+    let s = take (far .before .before .within .result) (a .line .now) in
     let got = c .before .before .before .before .before .before .before .before .before .before .read-line .ensures in
-    let same = read-as (a .input) (a .line .now) (a .bytes .now) d short count (got .0) (c .before .before .before .before .before .before .read2 .given .1) in
+    let same = read-as (a .input) (a .line .now) (a .bytes .now) d short count (got .0)
+    (c .before .before .before .before .before .before .read2 .given .1) in
     let kept = got .1 .1 ∙ bytes-as (a .input) (a .line .now) (a .bytes .now) d short count in
     let name = c .before .before .before .before .before .before .read2 .given .0 .0 in
     let last = c .before .before .before .before .before .before .read2 .given .0 .1 .0 in

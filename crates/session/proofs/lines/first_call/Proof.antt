@@ -18,21 +18,27 @@ use Rattle.session.proofs.lines.first_call.Tie as tie
 
 returns : tie.Need-returns
 returns c =
+    let far = c .before .before .before .before .before in
     λ last bytes.
-    let a = c .before .before .before .before .before .before .before .before .args in
+    let a = far .before .before .before .args in
     let s = a .s .now in
-    gives-as (ap (carriedOut (commandOf Name.Setup (a .numbers) last bytes) (noUart s)) (not-ready (a .session) (c .before .before .before .before .before .before .before .before .pre .1 .0))
-    ∙ first-setup (a .name) (a .numbers) last bytes (noUart s) _ (sym (c .before .before .before .before .before .is-setup .ensures) ∙ c .before .before .before .before .if1 .taken))
+    gives-as (ap (carriedOut (commandOf Name.Setup (a .numbers) last bytes) (noUart s)) (not-ready (a .session)
+    (far .before .before .before .pre .1 .0))
+    ∙ first-setup (a .name) (a .numbers) last bytes (noUart s) _ (sym (far .is-setup .ensures) ∙
+    c .before .before .before .before .if1 .taken))
     (c .before .before .set-up .ensures)
 
 returns-2 : tie.Need-returns-2
 returns-2 c =
+    let far = c .before .before .before .before .before .before in
     λ last bytes.
-    let a = c .before .before .before .before .before .before .before .before .before .args in
+    let a = far .before .before .before .args in
     let s = a .s .now in
-    gives-as (ap (λ (w : Word). says (faultText s (fault Reason.NoUart w)) (standsFor (a .session))) (c .before .before .before .before .next-word .ensures .next)
-    ∙ ap (says (noUart s)) (not-ready (a .session) (c .before .before .before .before .before .before .before .before .before .pre .1 .0))
-    ∙ first-other (a .name) (a .numbers) last bytes (noUart s) (sym (c .before .before .before .before .before .before .is-setup .ensures) ∙ c .before .before .before .before .before .if1 .left))
+    gives-as (ap (λ (w : Word). says (faultText s (fault Reason.NoUart w)) (standsFor (a .session)))
+    (c .before .before .before .before .next-word .ensures .next)
+    ∙ ap (says (noUart s)) (not-ready (a .session) (far .before .before .before .pre .1 .0))
+    ∙ first-other (a .name) (a .numbers) last bytes (noUart s) (sym (far .is-setup .ensures) ∙
+    c .before .before .before .before .before .if1 .left))
     (c .before .before .wrong .ensures)
 
 pub first-call-spec : {M : Type 1} → statement M

@@ -14,8 +14,9 @@ put-fault-requires c κs =
 
 returns : tie.Need-returns
 returns c =
-    let a = c .before .before .before .before .before .before .before .args in
-    moved (c .before .before .before .put-fault .ensures) _ (a .session) refl refl (c .before .before .before .before .before .before .before .pre .0) (c .with-output .ensures)
+    let far = c .before .before .before .before .before in
+    let a = far .before .before .args in
+    moved (c .before .before .before .put-fault .ensures) _ (a .session) refl refl (far .before .before .pre .0) (c .with-output .ensures)
 
 pub wrong-spec : {M : Type 1} → statement M
 wrong-spec =

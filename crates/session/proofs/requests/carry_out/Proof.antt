@@ -19,93 +19,138 @@ use Rattle.session.proofs.requests.carry_out.Tie as tie
 
 returns : tie.Need-returns
 returns c =
-    let a = c .before .before .before .before .before .before .before .before .before .args in
-    gives-as (ap (setsUp (take 16 (map lowOf (drop 0 (a .t3)))) (take 16 (map lowOf (drop 16 (a .t3))))) (is-ready (a .session) (c .before .before .before .before .before .before .before .before .before .pre .1 .0))
-    ∙ sym (ap (λ (n : Name). carriedOut (commandOf n (a .t3) (a .last) (a .bytes .now)) [] (some (meaning (a .session .uart)))) (c .before .before .before .before .enum-told .given .1)))
+    let far = c .before .before .before .before .before .before in
+    let a = far .before .before .before .args in
+    gives-as (ap (setsUp (take 16 (map lowOf (drop 0 (a .t3)))) (take 16 (map lowOf (drop 16 (a .t3))))) (is-ready (a .session)
+    (far .before .before .before .pre .1 .0))
+    ∙ sym (ap (λ (n : Name). carriedOut (commandOf n (a .t3) (a .last) (a .bytes .now)) [] (some (meaning (a .session .uart))))
+    (c .before .before .before .before .enum-told .given .1)))
     (c .before .before .set-up .ensures)
 
 returns-2 : tie.Need-returns-2
 unfolding step stepBy writing
 returns-2 c =
-    let a = c .before .before .before .before .before .before .before .before .before .before .before .args in
-    gives-as (ap (λ (k : ℕ). calls (Call.read (getD (a .t3) 0 0) k) [] (some (meaning (a .session .uart)))) (c .before .before .before .before .before .low .ensures)
-    ∙ sym (ap (λ (n : Name). carriedOut (commandOf n (a .t3) (a .last) (a .bytes .now)) [] (some (meaning (a .session .uart)))) (c .before .before .before .before .before .before .enum-told2 .given .1)))
-    (gives (c .before .before .before .before .read .ensures) (Call.read (getD (a .t3) 0 0) (c .before .before .before .before .before .low .result)) reads refl (said (c .before .before .before .before .read .ensures) readText) (c .before .before .after-read .ensures))
+    let far = c .before .before .before .before .before .before .before .before in
+    let a = far .before .before .before .args in
+    gives-as (ap (λ (k : ℕ). calls (Call.read (getD (a .t3) 0 0) k) [] (some (meaning (a .session .uart))))
+    (c .before .before .before .before .before .low .ensures)
+    ∙ sym (ap (λ (n : Name). carriedOut (commandOf n (a .t3) (a .last) (a .bytes .now)) [] (some (meaning (a .session .uart))))
+    (c .before .before .before .before .before .before .enum-told2 .given .1)))
+    (gives (c .before .before .before .before .read .ensures) (Call.read (getD (a .t3) 0 0)
+    (c .before .before .before .before .before .low .result)) reads refl (said (c .before .before .before .before .read .ensures)
+    readText) (c .before .before .after-read .ensures))
 
 returns-3 : tie.Need-returns-3
 unfolding step stepBy writing
 returns-3 c =
-    let a = c .before .before .before .before .before .before .before .before .before .before .before .before .args in
-    gives-as (ap₂ (λ (o : ℕ) (v : ℕ). calls (Call.write (getD (a .t3) 0 0) (record { offset = o; value = v })) [] (some (meaning (a .session .uart)))) (c .before .before .before .before .before .before .low2 .ensures) (c .before .before .before .before .before .low3 .ensures)
-    ∙ sym (ap (λ (n : Name). carriedOut (commandOf n (a .t3) (a .last) (a .bytes .now)) [] (some (meaning (a .session .uart)))) (c .before .before .before .before .before .before .before .enum-told3 .given .1)))
-    (gives (c .before .before .before .before .write .ensures) (Call.write (getD (a .t3) 0 0) (record { offset = c .before .before .before .before .before .before .low2 .result; value = c .before .before .before .before .before .low3 .result })) writes refl
+    let far = c .before .before .before .before .before .before .before .before .before in
+    let a = far .before .before .before .args in
+    gives-as (ap₂ (λ (o : ℕ) (v : ℕ). calls (Call.write (getD (a .t3) 0 0) (record { offset = o; value = v })) []
+    (some (meaning (a .session .uart)))) (c .before .before .before .before .before .before .low2 .ensures)
+    (c .before .before .before .before .before .low3 .ensures)
+    ∙ sym (ap (λ (n : Name). carriedOut (commandOf n (a .t3) (a .last) (a .bytes .now)) [] (some (meaning (a .session .uart))))
+    (c .before .before .before .before .before .before .before .enum-told3 .given .1)))
+    (gives (c .before .before .before .before .write .ensures) (Call.write (getD (a .t3) 0 0)
+    (record {
+      offset = c .before .before .before .before .before .before .low2 .result;
+      value =
+          c .before .before .before .before .before .low3 .result;
+    })) writes refl
     (said (c .before .before .before .before .write .ensures) writeText) (c .before .before .after-write .ensures))
 
 returns-4 : tie.Need-returns-4
 unfolding step stepBy writing
 returns-4 c =
-    let a = c .before .before .before .before .before .before .before .before .before .before .before .args in
-    gives-as (ap (λ (l : List ℕ). calls (Call.receive (getD (a .t3) 0 0) (getD (a .t3) 1 0) l) [] (some (meaning (a .session .uart)))) (c .before .before .before .before .before .front .ensures)
-    ∙ sym (ap (λ (n : Name). carriedOut (commandOf n (a .t3) (a .last) (a .bytes .now)) [] (some (meaning (a .session .uart)))) (c .before .before .before .before .before .before .enum-told4 .given .1)))
-    (gives (c .before .before .before .before .receive .ensures) (Call.receive (getD (a .t3) 0 0) (getD (a .t3) 1 0) (c .before .before .before .before .before .front .result .now)) does refl (said (c .before .before .before .before .receive .ensures) doneText) (c .before .before .after-done .ensures))
+    let far = c .before .before .before .before .before .before .before .before in
+    let a = far .before .before .before .args in
+    gives-as (ap (λ (l : List ℕ). calls (Call.receive (getD (a .t3) 0 0) (getD (a .t3) 1 0) l) [] (some (meaning (a .session .uart))))
+    (c .before .before .before .before .before .front .ensures)
+    ∙ sym (ap (λ (n : Name). carriedOut (commandOf n (a .t3) (a .last) (a .bytes .now)) [] (some (meaning (a .session .uart))))
+    (c .before .before .before .before .before .before .enum-told4 .given .1)))
+    (gives (c .before .before .before .before .receive .ensures) (Call.receive (getD (a .t3) 0 0) (getD (a .t3) 1 0)
+    (c .before .before .before .before .before .front .result .now)) does refl (said (c .before .before .before .before .receive .ensures)
+    doneText) (c .before .before .after-done .ensures))
 
 returns-5 : tie.Need-returns-5
 unfolding step stepBy writing
 returns-5 c =
-    let a = c .before .before .before .before .before .before .before .before .before .before .args in
-    gives-as (sym (ap (λ (n : Name). carriedOut (commandOf n (a .t3) (a .last) (a .bytes .now)) [] (some (meaning (a .session .uart)))) (c .before .before .before .before .before .enum-told5 .given .1)))
-    (gives (c .before .before .before .before .wake .ensures) (Call.wake (getD (a .t3) 0 0)) does refl (said (c .before .before .before .before .wake .ensures) doneText) (c .before .before .after-done2 .ensures))
+    let far = c .before .before .before .before .before .before .before in
+    let a = far .before .before .before .args in
+    gives-as (sym (ap (λ (n : Name). carriedOut (commandOf n (a .t3) (a .last) (a .bytes .now)) [] (some (meaning (a .session .uart))))
+    (c .before .before .before .before .before .enum-told5 .given .1)))
+    (gives (c .before .before .before .before .wake .ensures) (Call.wake (getD (a .t3) 0 0)) does refl
+    (said (c .before .before .before .before .wake .ensures) doneText) (c .before .before .after-done2 .ensures))
 
 returns-6 : tie.Need-returns-6
 unfolding step stepBy writing
 returns-6 c =
-    let a = c .before .before .before .before .before .before .before .before .before .before .args in
-    gives-as (sym (ap (λ (n : Name). carriedOut (commandOf n (a .t3) (a .last) (a .bytes .now)) [] (some (meaning (a .session .uart)))) (c .before .before .before .before .before .enum-told6 .given .1)))
-    (gives (c .before .before .before .before .watch .ensures) (Call.watch (getD (a .t3) 0 0) (eqb (a .last) 1)) does refl (said (c .before .before .before .before .watch .ensures) doneText) (c .before .before .after-done3 .ensures))
+    let far = c .before .before .before .before .before .before .before in
+    let a = far .before .before .before .args in
+    gives-as (sym (ap (λ (n : Name). carriedOut (commandOf n (a .t3) (a .last) (a .bytes .now)) [] (some (meaning (a .session .uart))))
+    (c .before .before .before .before .before .enum-told6 .given .1)))
+    (gives (c .before .before .before .before .watch .ensures) (Call.watch (getD (a .t3) 0 0) (eqb (a .last) 1)) does refl
+    (said (c .before .before .before .before .watch .ensures) doneText) (c .before .before .after-done3 .ensures))
 
 returns-7 : tie.Need-returns-7
 unfolding step stepBy writing
 returns-7 c =
-    let a = c .before .before .before .before .before .before .before .before .before .before .args in
-    gives-as (sym (ap (λ (n : Name). carriedOut (commandOf n (a .t3) (a .last) (a .bytes .now)) [] (some (meaning (a .session .uart)))) (c .before .before .before .before .before .enum-told7 .given .1)))
-    (gives (c .before .before .before .before .reset .ensures) (Call.reset (getD (a .t3) 0 0)) does refl (said (c .before .before .before .before .reset .ensures) doneText) (c .before .before .after-done4 .ensures))
+    let far = c .before .before .before .before .before .before .before in
+    let a = far .before .before .before .args in
+    gives-as (sym (ap (λ (n : Name). carriedOut (commandOf n (a .t3) (a .last) (a .bytes .now)) [] (some (meaning (a .session .uart))))
+    (c .before .before .before .before .before .enum-told7 .given .1)))
+    (gives (c .before .before .before .before .reset .ensures) (Call.reset (getD (a .t3) 0 0)) does refl
+    (said (c .before .before .before .before .reset .ensures) doneText) (c .before .before .after-done4 .ensures))
 
 returns-8 : tie.Need-returns-8
 unfolding step stepBy writing
 returns-8 c =
-    let a = c .before .before .before .before .before .before .before .before .before .before .args in
-    gives-as (sym (ap (λ (n : Name). carriedOut (commandOf n (a .t3) (a .last) (a .bytes .now)) [] (some (meaning (a .session .uart)))) (c .before .before .before .before .before .enum-told8 .given .1)))
-    (gives (c .before .before .before .before .power-down .ensures) (Call.powerDown (getD (a .t3) 0 0)) does refl (said (c .before .before .before .before .power-down .ensures) doneText) (c .before .before .after-done5 .ensures))
+    let far = c .before .before .before .before .before .before .before in
+    let a = far .before .before .before .args in
+    gives-as (sym (ap (λ (n : Name). carriedOut (commandOf n (a .t3) (a .last) (a .bytes .now)) [] (some (meaning (a .session .uart))))
+    (c .before .before .before .before .before .enum-told8 .given .1)))
+    (gives (c .before .before .before .before .power-down .ensures) (Call.powerDown (getD (a .t3) 0 0)) does refl
+    (said (c .before .before .before .before .power-down .ensures) doneText) (c .before .before .after-done5 .ensures))
 
 returns-9 : tie.Need-returns-9
 unfolding step stepBy writing
 returns-9 c =
-    let a = c .before .before .before .before .before .before .before .before .before .before .args in
-    gives-as (sym (ap (λ (n : Name). carriedOut (commandOf n (a .t3) (a .last) (a .bytes .now)) [] (some (meaning (a .session .uart)))) (c .before .before .before .before .before .enum-told9 .given .1)))
-    (gives (c .before .before .before .before .clock-change .ensures) (Call.clockChange (getD (a .t3) 0 0) (getD (a .t3) 1 0)) does refl (said (c .before .before .before .before .clock-change .ensures) doneText) (c .before .before .after-done6 .ensures))
+    let far = c .before .before .before .before .before .before .before in
+    let a = far .before .before .before .args in
+    gives-as (sym (ap (λ (n : Name). carriedOut (commandOf n (a .t3) (a .last) (a .bytes .now)) [] (some (meaning (a .session .uart))))
+    (c .before .before .before .before .before .enum-told9 .given .1)))
+    (gives (c .before .before .before .before .clock-change .ensures) (Call.clockChange (getD (a .t3) 0 0) (getD (a .t3) 1 0)) does refl
+    (said (c .before .before .before .before .clock-change .ensures) doneText) (c .before .before .after-done6 .ensures))
 
 returns-10 : tie.Need-returns-10
 returns-10 c =
-    let a = c .before .before .before .before .before .before .before .before .before .args in
-    gives-as (sym (ap (λ (n : Name). carriedOut (commandOf n (a .t3) (a .last) (a .bytes .now)) [] (some (meaning (a .session .uart)))) (c .before .before .before .before .enum-told10 .given .1)))
+    let far = c .before .before .before .before .before .before in
+    let a = far .before .before .before .args in
+    gives-as (sym (ap (λ (n : Name). carriedOut (commandOf n (a .t3) (a .last) (a .bytes .now)) [] (some (meaning (a .session .uart))))
+    (c .before .before .before .before .enum-told10 .given .1)))
     (c .before .before .take-tx .ensures)
 
 returns-11 : tie.Need-returns-11
 returns-11 c =
-    let a = c .before .before .before .before .before .before .before .before .before .args in
-    gives-as (sym (ap (λ (n : Name). carriedOut (commandOf n (a .t3) (a .last) (a .bytes .now)) [] (some (meaning (a .session .uart)))) (c .before .before .before .before .enum-told11 .given .1)))
+    let far = c .before .before .before .before .before .before in
+    let a = far .before .before .before .args in
+    gives-as (sym (ap (λ (n : Name). carriedOut (commandOf n (a .t3) (a .last) (a .bytes .now)) [] (some (meaning (a .session .uart))))
+    (c .before .before .before .before .enum-told11 .given .1)))
     (c .before .before .take-written .ensures)
 
 returns-12 : tie.Need-returns-12
 returns-12 c =
-    let a = c .before .before .before .before .before .before .before .before .before .args in
-    gives-as (sym (ap (λ (n : Name). carriedOut (commandOf n (a .t3) (a .last) (a .bytes .now)) [] (some (meaning (a .session .uart)))) (c .before .before .before .before .enum-told12 .given .1)))
+    let far = c .before .before .before .before .before .before in
+    let a = far .before .before .before .args in
+    gives-as (sym (ap (λ (n : Name). carriedOut (commandOf n (a .t3) (a .last) (a .bytes .now)) [] (some (meaning (a .session .uart))))
+    (c .before .before .before .before .enum-told12 .given .1)))
     (c .before .before .has-left .ensures)
 
 returns-13 : tie.Need-returns-13
 returns-13 c =
-    let a = c .before .before .before .before .before .before .before .before .before .args in
-    gives-as (sym (ap (λ (n : Name). carriedOut (commandOf n (a .t3) (a .last) (a .bytes .now)) [] (some (meaning (a .session .uart)))) (c .before .before .before .before .enum-told13 .given .1)))
+    let far = c .before .before .before .before .before .before in
+    let a = far .before .before .before .args in
+    gives-as (sym (ap (λ (n : Name). carriedOut (commandOf n (a .t3) (a .last) (a .bytes .now)) [] (some (meaning (a .session .uart))))
+    (c .before .before .before .before .enum-told13 .given .1)))
     (c .before .before .host-pending .ensures)
 
 pub carry-out-spec : {M : Type 1} → statement M

@@ -6,7 +6,9 @@ use Rattle.session.proofs.requests.has_left.Tie as tie
 
 returns : tie.Need-returns
 returns c =
-    left-gives _ (c .before .before .before .before .before .before .before .pre) (c .in-use .ensures) (c .before .before .before .before .has-left .ensures) (c .before .before .before .put-has-left .ensures)
+    let far = c .before .before .before .before .before in
+    left-gives _ (far .before .before .pre) (c .in-use .ensures) (c .before .before .before .before .has-left .ensures)
+    (c .before .before .before .put-has-left .ensures)
 
 pub has-left-spec : {M : Type 1} → statement M
 has-left-spec =

@@ -12,7 +12,9 @@ put-host-pending-requires c κs =
 
 returns : tie.Need-returns
 returns c =
-    pending-gives _ (c .before .before .before .before .before .before .before .pre .0) (c .in-use .ensures) (c .before .before .before .before .host-pending .ensures) (c .before .before .before .put-host-pending .ensures)
+    let far = c .before .before .before .before .before in
+    pending-gives _ (far .before .before .pre .0) (c .in-use .ensures) (c .before .before .before .before .host-pending .ensures)
+    (c .before .before .before .put-host-pending .ensures)
 
 pub host-pending-spec : {M : Type 1} → statement M
 host-pending-spec =

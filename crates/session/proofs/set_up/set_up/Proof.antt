@@ -17,15 +17,21 @@ put-set-up-requires c κs =
 
 returns : tie.Need-returns
 returns c =
-    let d = standsFor (c .before .before .before .before .before .before .before .before .before .before .before .before .args .session) in
-    gives-as (ap₂ (λ (o : List ℕ) (w : List ℕ). setsUp o w d) (c .before .before .before .before .before .before .before .before .before .before .sixteen .ensures) (c .before .before .before .before .before .before .before .before .before .sixteen2 .ensures))
-    (set-up-ready (c .before .before .before .before .before .before .before .before .new .ensures) (c .before .before .before .before .before .before .put-set-up .ensures) d (c .before .before .enum-told .given .1) (c .in-use .ensures))
+    let far = c .before .before .before .before .before .before .before .before .before in
+    let d = standsFor (far .before .before .before .args .session) in
+    gives-as (ap₂ (λ (o : List ℕ) (w : List ℕ). setsUp o w d) (far .before .sixteen .ensures) (far .sixteen2 .ensures))
+    (set-up-ready (c .before .before .before .before .before .before .before .before .new .ensures)
+    (c .before .before .before .before .before .before .put-set-up .ensures) d (c .before .before .enum-told .given .1)
+    (c .in-use .ensures))
 
 returns-2 : tie.Need-returns-2
 returns-2 c =
-    let d = standsFor (c .before .before .before .before .before .before .before .before .before .before .before .args .session) in
-    gives-as (ap₂ (λ (o : List ℕ) (w : List ℕ). setsUp o w d) (c .before .before .before .before .before .before .before .before .before .sixteen .ensures) (c .before .before .before .before .before .before .before .before .sixteen2 .ensures))
-    (set-up-refused (c .before .before .before .before .before .before .before .new .ensures) (c .before .before .before .before .before .put-set-up .ensures) (c .before .before .before .before .before .before .before .before .before .before .before .args .session) _ (c .before .enum-told2 .given .1) (c .before .before .before .before .before .before .before .before .before .before .before .pre .0)
+    let far = c .before .before .before .before .before .before .before .before in
+    let d = standsFor (far .before .before .before .args .session) in
+    gives-as (ap₂ (λ (o : List ℕ) (w : List ℕ). setsUp o w d) (far .before .sixteen .ensures) (far .sixteen2 .ensures))
+    (set-up-refused (c .before .before .before .before .before .before .before .new .ensures)
+    (c .before .before .before .before .before .put-set-up .ensures) (far .before .before .before .args .session) _
+    (c .before .enum-told2 .given .1) (far .before .before .before .pre .0)
     (c .with-output .ensures))
 
 pub set-up-spec : {M : Type 1} → statement M

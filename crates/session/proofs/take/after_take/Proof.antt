@@ -16,7 +16,8 @@ use Rattle.session.proofs.take.after_take.Tie as tie
 
 put-refusal-requires : tie.Need-put-refusal-requires
 put-refusal-requires c κs =
-    record { fits = omega (arith, c .before .before .before .before .before .before .before .before .pre .0, refusal-short (c .before .before .reply .given .0 .0)) }
+    let far = c .before .before .before .before .before in
+    record { fits = omega (arith, far .before .before .before .pre .0, refusal-short (c .before .before .reply .given .0 .0)) }
 
 put-taken-requires : tie.Need-put-taken-requires
 put-taken-requires c κs =
@@ -34,16 +35,22 @@ put-taken-requires c κs =
 
 returns : tie.Need-returns
 returns c =
-    used (put-of (takenLine (c .before .before .before .before .before .before .before .before .before .before .before .before .args .after .report) (c .before .before .before .before .before .before .before .before .before .before .before .before .args .lent .now)) (c .before .before .before .before .before .before .reply .given .1) (c .before .before .before .put-refusal .ensures)) (c .in-use .ensures)
+    let far = c .before .before .before .before .before .before .before .before .before in
+    used (put-of (takenLine (far .before .before .before .args .after .report) (far .before .before .before .args .lent .now))
+    (c .before .before .before .before .before .before .reply .given .1) (c .before .before .before .put-refusal .ensures))
+    (c .in-use .ensures)
 
 returns-2 : tie.Need-returns-2
 returns-2 c =
-    let a = c .before .before .before .before .before .before .before .before .before .before .before .before .before .before .before .args in
+    let far = c .before .before .before .before .before .before .before .before .before .before .before .before in
+    let a = far .before .before .before .args in
     let n = c .before .before .before .before .before .before .before .within .result in
     let end = reportText (a .after .report) in
-    used (put-of (takenLine (a .after .report) (a .lent .now)) (c .before .before .before .before .before .before .before .before .before .reply2 .given .1)
+    used (put-of (takenLine (a .after .report) (a .lent .now))
+    (c .before .before .before .before .before .before .before .before .before .reply2 .given .1)
     (put-of (handOutOf end (a .lent .now)) (sym (c .before .before .before .before .before .before .before .within .ensures .1))
-    (put-of (λ (kept : Bool). handOutText (take n (a .lent .now)) kept ++ end) (sym (c .before .before .before .before .before .before .same-marks .ensures)) (c .before .before .before .put-taken .ensures))))
+    (put-of (λ (kept : Bool). handOutText (take n (a .lent .now)) kept ++ end)
+    (sym (c .before .before .before .before .before .before .same-marks .ensures)) (c .before .before .before .put-taken .ensures))))
     (c .in-use2 .ensures)
 
 pub after-take-spec : {M : Type 1} → statement M

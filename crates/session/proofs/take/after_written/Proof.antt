@@ -16,7 +16,8 @@ use Rattle.session.proofs.take.after_written.Tie as tie
 
 put-refusal-requires : tie.Need-put-refusal-requires
 put-refusal-requires c κs =
-    record { fits = omega (arith, c .before .before .before .before .before .before .before .pre .0, refusal-short (c .before .before .reply .given .0 .0)) }
+    let far = c .before .before .before .before .before in
+    record { fits = omega (arith, far .before .before .pre .0, refusal-short (c .before .before .reply .given .0 .0)) }
 
 put-written-requires : tie.Need-put-written-requires
 put-written-requires c κs =
@@ -34,16 +35,21 @@ put-written-requires c κs =
 
 returns : tie.Need-returns
 returns c =
-    used (put-of (writtenLine (c .before .before .before .before .before .before .before .before .before .before .before .args .lent .now)) (c .before .before .before .before .before .before .reply .given .1) (c .before .before .before .put-refusal .ensures)) (c .in-use .ensures)
+    let far = c .before .before .before .before .before .before .before .before in
+    used (put-of (writtenLine (far .before .before .before .args .lent .now))
+    (c .before .before .before .before .before .before .reply .given .1) (c .before .before .before .put-refusal .ensures))
+    (c .in-use .ensures)
 
 returns-2 : tie.Need-returns-2
 returns-2 c =
-    let a = c .before .before .before .before .before .before .before .before .before .before .before .before .before .before .args in
+    let far = c .before .before .before .before .before .before .before .before .before .before .before in
+    let a = far .before .before .before .args in
     let n = c .before .before .before .before .before .before .before .within .result in
     let end = ascii "\n" in
     used (put-of (writtenLine (a .lent .now)) (c .before .before .before .before .before .before .before .before .before .reply2 .given .1)
     (put-of (handOutOf end (a .lent .now)) (sym (c .before .before .before .before .before .before .before .within .ensures .1))
-    (put-of (λ (kept : Bool). handOutText (take n (a .lent .now)) kept ++ end) (sym (c .before .before .before .before .before .before .same-marks .ensures)) (c .before .before .before .put-written .ensures))))
+    (put-of (λ (kept : Bool). handOutText (take n (a .lent .now)) kept ++ end)
+    (sym (c .before .before .before .before .before .before .same-marks .ensures)) (c .before .before .before .put-written .ensures))))
     (c .in-use2 .ensures)
 
 pub after-written-spec : {M : Type 1} → statement M

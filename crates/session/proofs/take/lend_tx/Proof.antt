@@ -6,7 +6,9 @@ use Rattle.session.proofs.take.lend_tx.Tie as tie
 
 returns : tie.Need-returns
 returns c =
-    tx-gives (c .before .before .before .before .before .before .before .before .before .before .before .pre .1 .1 .0) (c .before .before .before .before .before .before .before .before .before .before .before .args .cycle) (c .before .before .before .before .before .before .before .take-tx .ensures) (c .before .before .after-take .ensures)
+    let far = c .before .before .before .before .before .before .before .before in
+    tx-gives (far .before .before .before .pre .1 .1 .0) (far .before .before .before .args .cycle)
+    (c .before .before .before .before .before .before .before .take-tx .ensures) (c .before .before .after-take .ensures)
 
 pub lend-tx-spec : {M : Type 1} → statement M
 lend-tx-spec =

@@ -6,7 +6,9 @@ use Rattle.session.proofs.take.lend_written.Tie as tie
 
 returns : tie.Need-returns
 returns c =
-    written-gives (c .before .before .before .before .before .before .before .before .before .before .before .pre .1 .1 .0) (c .before .before .before .before .before .before .before .take-written .ensures) (c .before .before .after-written .ensures)
+    let far = c .before .before .before .before .before .before .before .before in
+    written-gives (far .before .before .before .pre .1 .1 .0)
+    (c .before .before .before .before .before .before .before .take-written .ensures) (c .before .before .after-written .ensures)
 
 pub lend-written-spec : {M : Type 1} → statement M
 lend-written-spec =

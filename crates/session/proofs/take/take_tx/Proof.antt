@@ -14,14 +14,18 @@ use Rattle.session.proofs.take.take_tx.Tie as tie
 
 lend-tx-requires : tie.Need-lend-tx-requires
 lend-tx-requires c κs =
+    let far = c .before .before .before .before .before in
     let m = c .before .before .before .before .marks .ensures .1 in
     let n = c .before .before .within .ensures .1 in
-    (c .before .before .before .before .before .before .pre .0, (c .before .before .before .before .before .before .pre .1, (lent-marks (c .before .before .before .before .before .before .args .size) m n, lent-few (c .before .before .before .before .before .before .args .size) m n)))
+    (far .before .pre .0, (far .before .pre .1, (lent-marks (far .before .args .size) m n, lent-few (far .before .args .size) m n)))
 
 returns : tie.Need-returns
 returns c =
-    gives-as (ap (λ (l : List ℕ). calls (Call.takeTx (c .before .before .before .before .before .before .before .before .before .before .args .cycle) l) [] (some (meaning (c .before .before .before .before .before .before .before .before .before .before .args .uart))))
-    (lent-of (c .before .before .before .before .before .before .before .before .before .before .args .size) (c .before .before .before .before .before .before .before .before .marks .ensures .1) (c .before .before .before .before .before .before .within .ensures .1))) (c .before .before .before .lend-tx .ensures)
+    let far = c .before .before .before .before .before .before .before in
+    gives-as (ap (λ (l : List ℕ). calls (Call.takeTx (far .before .before .before .args .cycle) l) []
+    (some (meaning (far .before .before .before .args .uart))))
+    (lent-of (far .before .before .before .args .size) (far .before .marks .ensures .1)
+    (c .before .before .before .before .before .before .within .ensures .1))) (c .before .before .before .lend-tx .ensures)
 
 pub take-tx-spec : {M : Type 1} → statement M
 take-tx-spec =

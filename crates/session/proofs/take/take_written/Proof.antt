@@ -14,14 +14,17 @@ use Rattle.session.proofs.take.take_written.Tie as tie
 
 lend-written-requires : tie.Need-lend-written-requires
 lend-written-requires c κs =
+    let far = c .before .before .before .before .before in
     let m = c .before .before .before .before .marks .ensures .1 in
     let n = c .before .before .within .ensures .1 in
-    (c .before .before .before .before .before .before .pre .0, (c .before .before .before .before .before .before .pre .1, (lent-marks (c .before .before .before .before .before .before .args .size) m n, lent-few (c .before .before .before .before .before .before .args .size) m n)))
+    (far .before .pre .0, (far .before .pre .1, (lent-marks (far .before .args .size) m n, lent-few (far .before .args .size) m n)))
 
 returns : tie.Need-returns
 returns c =
-    gives-as (ap (λ (l : List ℕ). calls (Call.takeWritten l) [] (some (meaning (c .before .before .before .before .before .before .before .before .before .before .args .uart))))
-    (lent-of (c .before .before .before .before .before .before .before .before .before .before .args .size) (c .before .before .before .before .before .before .before .before .marks .ensures .1) (c .before .before .before .before .before .before .within .ensures .1))) (c .before .before .before .lend-written .ensures)
+    let far = c .before .before .before .before .before .before .before in
+    gives-as (ap (λ (l : List ℕ). calls (Call.takeWritten l) [] (some (meaning (far .before .before .before .args .uart))))
+    (lent-of (far .before .before .before .args .size) (far .before .marks .ensures .1)
+    (c .before .before .before .before .before .before .within .ensures .1))) (c .before .before .before .lend-written .ensures)
 
 pub take-written-spec : {M : Type 1} → statement M
 take-written-spec =

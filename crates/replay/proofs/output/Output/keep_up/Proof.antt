@@ -8,7 +8,8 @@ use Rattle.replay.proofs.output.Output.keep_up.Tie as tie
 
 returns : tie.Need-returns
 returns c =
-    nearly-full _ _ _ (sym (c .before .before .before .before .has-line .ensures) ∙ c .before .before .before .if1 .taken) (c .before .if2 .taken) (c .flush .ensures)
+    nearly-full _ _ _ (sym (c .before .before .before .before .has-line .ensures) ∙ c .before .before .before .if1 .taken)
+    (c .before .if2 .taken) (c .flush .ensures)
 
 returns-2 : tie.Need-returns-2
 returns-2 c =
