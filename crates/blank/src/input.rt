@@ -1,12 +1,12 @@
 // Standard input, line by line, in constant memory.
-use crate::output::Output;
-use crate::output::flush;
-use crate::output::keep_up;
 use crate::output::tell_left_out;
 use blanking::line;
 use blanking::line::Trace;
 use blanking::line::blank_line;
 use streams::input::read_more;
+use streams::output::Output;
+use streams::output::flush;
+use streams::output::keep_up;
 use text::input::Input;
 use text::input::begin;
 use text::input::has_line;
@@ -16,8 +16,10 @@ ghost use mathlib.Core.Path.{_≡_};
 ghost use Prim.Native.Nat.{_+_, _≤_};
 ghost use lib.ListN.{length};
 ghost use Rattle.blanking.specs.LineLaws.{longest};
-ghost use Rattle.blank.specs.Outputs.{full};
-ghost use Rattle.blank.specs.Turns.{started, Turn};
+ghost use Rattle.blank.specs.Turns.{full, started, Turn};
+
+// The output is written once it is filled so far; the text of a line then fits behind it.
+const FULL: usize = 45056;
 
 // The trace so far, and what is put out of it.
 pub struct Session {
@@ -44,7 +46,7 @@ fn blank_next(session: Session, input: Input, buffer: &[u8], out: &mut [u8]) -> 
 {
     let trace = session.trace;
     let has = has_line(input);
-    let kept = keep_up(session.output, has, out);
+    let kept = keep_up(session.output, has, FULL, out, b"blank: standard output");
     if has {
         if kept.failed {
             return Session {
@@ -78,7 +80,7 @@ fn turn(session: Session, input: Input, buffer: &[u8; 16384], out: &mut [u8; 655
 
 // Writes what is left, and tells of lines that were left out.
 fn finish(session: Session, out: &[u8; 65536]) {
-    flush(session.output, out);
+    flush(session.output, out, b"blank: standard output");
     tell_left_out(session.trace.left_out);
 }
 

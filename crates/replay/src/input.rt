@@ -1,9 +1,11 @@
 // Standard input, line by line, in constant memory.
-use crate::output::Output;
 use session::Session;
 use session::begin as begin_session;
 use session::lines::answer_line;
 use streams::input::read_more;
+use streams::output::Output;
+use streams::output::flush;
+use streams::output::keep_up;
 use text::input::Input;
 use text::input::begin;
 use text::input::has_line;
@@ -16,6 +18,9 @@ ghost use Rattle.session.specs.Sessions.{standsFor, Wide, Gives};
 ghost use Rattle.session.specs.Lines.{answered};
 ghost use Rattle.text.specs.Input.{hasLine};
 ghost use Rattle.text.specs.Pick.{pick};
+
+// The output is written once it is filled so far; any answer then fits behind it: 17,408 bytes are left of 65,536.
+const FULL: usize = 48128;
 
 // A proved loop has to end, so it counts its turns down from a number that no run uses up.
 pub fn run() {
@@ -34,7 +39,13 @@ pub fn run() {
             at: session.at,
             failed,
         };
-        let kept = output.keep_up(input, &out);
+        let kept = keep_up(
+            output,
+            has_line(input),
+            FULL,
+            &out,
+            b"replay: standard output",
+        );
         session.at = kept.at;
         failed = kept.failed;
         if is_answered(input, failed) {
@@ -46,7 +57,7 @@ pub fn run() {
         at: session.at,
         failed,
     };
-    output.flush(&out);
+    flush(output, &out, b"replay: standard output");
 }
 
 // A line that stands there is answered, but for one after a write that failed.

@@ -1,2 +1,3 @@
-// Standard input, a chunk at a time, for the programs that read a trace.
+// Standard input, a chunk at a time, and standard output, for the programs that read a trace.
 pub mod input;
+pub mod output;

@@ -1,8 +1,8 @@
 -- `output::keep_up` meets its contract. Assumes nothing.
-use Rattle.blank.specs.Outputs.{KeepsUp}
+use Rattle.streams.specs.Outputs.{KeepsUp}
 use borrow.Author.Needs.{needs}
-use Rattle.blank.proofs.output.keep_up.Statement.{statement}
-use Rattle.blank.proofs.output.keep_up.Tie as tie
+use Rattle.streams.proofs.output.keep_up.Statement.{statement}
+use Rattle.streams.proofs.output.keep_up.Tie as tie
 
 returns : tie.Need-returns
 returns c = KeepsUp.filled (c .before .if2 .taken) (c .flush .ensures)

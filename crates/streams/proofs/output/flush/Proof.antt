@@ -1,8 +1,8 @@
 -- `output::flush` meets its contract. Assumes nothing.
-use Rattle.blank.specs.Outputs.{Flushed}
+use Rattle.streams.specs.Outputs.{Flushed}
 use borrow.Author.Needs.{needs}
-use Rattle.blank.proofs.output.flush.Statement.{statement}
-use Rattle.blank.proofs.output.flush.Tie as tie
+use Rattle.streams.proofs.output.flush.Statement.{statement}
+use Rattle.streams.proofs.output.flush.Tie as tie
 
 returns : tie.Need-returns
 returns c = Flushed.ended (c .if1 .taken)
