@@ -30,6 +30,7 @@ lineIn line i = take (min (i .len) (length line)) line
 pub data Turn (s : Session) (i : Input) (line out : List ℕ) : List ℕ → Session → Type 0 where
   passed : {k : Output} → KeepsUp (hasLine i) full (s .output) k → (hasLine i ≡ false) ⊎ (k .failed ≡ true)
       → Turn s i line out out (record { trace = s .trace; output = k })
-  blanked : {k : Output} {after : List ℕ} {at : ℕ} {t : Trace} → KeepsUp (hasLine i) full (s .output) k → hasLine i ≡ true → k .failed ≡ false
+  blanked : {k : Output} {after : List ℕ} {at : ℕ} {t : Trace} → KeepsUp (hasLine i) full (s .output) k → hasLine i ≡ true
+      → k .failed ≡ false
       → Put (blankedText (s .trace) (i .long) (lineIn line i)) out (k .at) after at → t ≡ traceAfter (s .trace) (i .long) (lineIn line i)
       → Turn s i line out after (record { trace = t; output = record { at = at; failed = false } })
