@@ -85,7 +85,7 @@ fn finish(session: Session, out: &[u8; 65536]) {
 }
 
 // A proved loop has to end, so it counts its turns down from a number that no run uses up.
-pub fn run() {
+pub(crate) fn run() {
     let mut chunk = io::large_buffer();
     let mut buffer = [0u8; 16384];
     let mut out = [0u8; 65536];

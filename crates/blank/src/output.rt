@@ -2,7 +2,7 @@
 use libc::STDERR_FILENO;
 
 // Says how many lines were no calls, where there were any.
-pub fn tell_left_out(count: u64) {
+pub(crate) fn tell_left_out(count: u64) {
     if count > 0 {
         io::write_all(
             STDERR_FILENO,

@@ -4,7 +4,7 @@ use libc::STDERR_FILENO;
 use libc::STDOUT_FILENO;
 
 // `--help` alone asks for it; any other argument is a mistake.
-pub fn show(usage: &[u8]) {
+pub(crate) fn show(usage: &[u8]) {
     let mut word = [0u8; 16];
     let n = os::arg(1, &mut word);
     if os::arg_count() > 2 {

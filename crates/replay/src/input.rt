@@ -23,7 +23,7 @@ ghost use Rattle.text.specs.Pick.{pick};
 const FULL: usize = 48128;
 
 // A proved loop has to end, so it counts its turns down from a number that no run uses up.
-pub fn run() {
+pub(crate) fn run() {
     let mut chunk = io::large_buffer();
     let mut line = [0u8; 16384];
     let mut bytes = [0u8; 8192];

@@ -19,7 +19,7 @@ fn bit_row(name: &[u8], own: bool, others: bool) {
 }
 
 // All ones; its own bits alone; all but its own bits.
-pub fn all_ones() {
+pub(crate) fn all_ones() {
     let w: u32 = 0xFFFF_FFFF;
     row(
         b"PARITY_EN",
@@ -90,7 +90,7 @@ pub fn all_ones() {
 }
 
 // The bit alone, and all bits but it.
-pub fn single_bits() {
+pub(crate) fn single_bits() {
     bit_row(
         b"RXFIFO_RST",
         registers::fields::rxfifo_rst(0x2_0000),

@@ -11,7 +11,7 @@ fn period(p: u64) {
     show::text(b"\n");
 }
 
-pub fn periods() {
+pub(crate) fn periods() {
     show::text(b"crystal, power-on =");
     show::number(Clock::XTAL_PERIOD);
     show::number(Clock::POWER_ON.apb_period);
@@ -52,7 +52,7 @@ fn called(due: Date, at: u64) {
 }
 
 // The earliest is kept; the largest subcycle is cycle 2^59; a call at or after the date clears it.
-pub fn deadlines() {
+pub(crate) fn deadlines() {
     armed(Date::None, Date::None);
     armed(Date::At(520), Date::None);
     armed(Date::None, Date::At(16640));

@@ -25,7 +25,7 @@ fn slots(cap: usize, c: Cursor)
     show::text(b"\n");
 }
 
-pub fn cursors() {
+pub(crate) fn cursors() {
     cursor(b"new", Cursor::new());
     slots(128, Cursor { start: 0, count: 0 });
     slots(
@@ -123,7 +123,7 @@ pub fn cursors() {
 }
 
 // Five bytes in eight slots, over the end of the slots, and copied out to the front of a buffer.
-pub fn copies() {
+pub(crate) fn copies() {
     let mut slots = [b'-'; 8];
     let held = Cursor { start: 6, count: 1 };
     let longer = queue::copy::append(held, 8, &mut slots, b"abcd");

@@ -83,7 +83,7 @@ fn settings_at(w: Words) {
 }
 
 // P1 and P2, and document 01's other stop codes.
-pub fn marked() {
+pub(crate) fn marked() {
     half_bits(0);
     half_bits(0x1C);
     half_bits(0x2C);
@@ -95,7 +95,7 @@ pub fn marked() {
 }
 
 // A divider of 0; the smallest and the largest times, by the crystal and by APB.
-pub fn edges() {
+pub(crate) fn edges() {
     let b = bench();
     times_at(with_times(b, 0, 0x1C, 0x0230_0000, 0x000A_0012), 8);
     times_at(with_times(b, 0x0010_0000, 0, 0x0010_0000, 0x0001_0000), 1);

@@ -51,7 +51,7 @@ fn sum(w: Words) -> u64 {
     low + wide(w.idle_conf) + wide(w.rs485_conf) + wide(w.at_cmd_char) + wide(w.mem_conf)
 }
 
-pub fn places() {
+pub(crate) fn places() {
     place(b"FIFO", Place::Fifo);
     place(b"INT_RAW", Place::IntRaw);
     place(b"INT_ST", Place::IntSt);
