@@ -91,8 +91,8 @@ pub fn put_taken(out: &mut [u8], at: usize, bytes: &[u8], kept: bool, report: Re
     requires { ⌜ Room (takenText (now bytes) kept report) (now out) at ⌝ }
     ensures { λ r. ⌜ Put (takenText (now (bytes .entry)) kept report) (now (out .entry)) at (now (out .exit)) r ⌝ }
 {
-    let result = put_hand_out(out, at, bytes, kept);
-    put_report(out, result, report)
+    let handed = put_hand_out(out, at, bytes, kept);
+    put_report(out, handed, report)
 }
 
 // The hand-out of take_written, which is not dated.

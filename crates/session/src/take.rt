@@ -119,7 +119,7 @@ fn lend_written(uart: Uart, lent: &mut [u8], at: usize, out: &mut [u8]) -> Sessi
     after_written(after, lent, at, out)
 }
 
-pub fn take_tx(uart: Uart, cycle: u64, size: usize, at: usize, out: &mut [u8]) -> Session
+pub(crate) fn take_tx(uart: Uart, cycle: u64, size: usize, at: usize, out: &mut [u8]) -> Session
     requires { ⌜ Good uart ⌝ }
     requires { ⌜ Wide (now out) at ⌝ }
     ensures { λ r. ⌜ Gives (calls (Call.takeTx cycle (lentOf size)) [] (some (meaning uart))) (now (out .entry)) at (now (out .exit)) r ⌝ }
@@ -129,12 +129,12 @@ pub fn take_tx(uart: Uart, cycle: u64, size: usize, at: usize, out: &mut [u8]) -
     lend_tx(uart, cycle, &mut lent[..n], at, out)
 }
 
-pub fn take_written(uart: Uart, size: usize, at: usize, out: &mut [u8]) -> Session
+pub(crate) fn take_written(uart: Uart, size: usize, at: usize, out: &mut [u8]) -> Session
     requires { ⌜ Good uart ⌝ }
     requires { ⌜ Wide (now out) at ⌝ }
     ensures { λ r. ⌜ Gives (calls (Call.takeWritten (lentOf size)) [] (some (meaning uart))) (now (out .entry)) at (now (out .exit)) r ⌝ }
 {
     let mut lent = marks();
-    let n = within(size, &lent);
-    lend_written(uart, &mut lent[..n], at, out)
+    let m = within(size, &lent);
+    lend_written(uart, &mut lent[..m], at, out)
 }
