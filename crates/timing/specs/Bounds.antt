@@ -1,4 +1,4 @@
--- The largest times at document 01's limits, which the layers above rest on: no product of line timing passes 64 bits.
+-- The largest times at document 01's limits: no product of line timing passes 64 bits.
 -- Assumes nothing.
 use Prim.Native.Nat.{ℕ, zero, suc, _*_, _≤_}
 use native.Mathlib.Nat.{mul-le-mul}
