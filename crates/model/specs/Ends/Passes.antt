@@ -149,6 +149,11 @@ pub timeOut-closes : (s : Settings) (held : ℕ) (l : Line) → timeOut s held l
 unfolding timeOut raiseIf noteSource
 timeOut-closes s held l = choose-ind (λ (x : Line). x .«idle_since» ≡ None) _ (λ _. refl) (λ _. refl)
 
+-- neither a timeout nor a landing moves the date when the line is free
+pub timeOut-free : (s : Settings) (held : ℕ) (l : Line) → timeOut s held l .«line_free_at» ≡ l .«line_free_at»
+unfolding timeOut raiseIf noteSource
+timeOut-free s held l = choose-ind (λ (x : Line). x .«line_free_at» ≡ l .«line_free_at») _ (λ _. refl) (λ _. refl)
+
 pub land-free : (s : Settings) (f : Fate) (fr : Frame) (l : Line) → land s f fr l .«line_free_at» ≡ l .«line_free_at»
 unfolding land Line.opened raiseIf noteSource
 land-free s Stored fr l = refl

@@ -23,10 +23,10 @@ use Rattle.model.specs.Settle.{lineFree, passOn, pass}
 use Rattle.model.specs.Limits.{All, cons, nil, runDates, runCounts, Fits, isHeard, Within}
 use Rattle.model.specs.Laws.Choose.{choose-ind, choose-true, choose-false}
 use Rattle.model.specs.Laws.Lists.{all-head}
-use Rattle.model.specs.Ends.Passes.{apart, After, LineQuiet, Takes, PassLaw, pass-law}
+use Rattle.model.specs.Ends.Passes.{apart, After, LineQuiet, Takes, PassLaw, timeOut-closes, timeOut-free, land-free, pass-law}
 use Rattle.model.specs.Ends.Through.{Through, ends, goes, through, through-quiet}
 use Rattle.model.specs.Keeps.Settling.{depart-within, pass-within}
-use Rattle.model.specs.MeetsManual.Reception.{datedBytes, first-dated, none-dated, timeOut-free, land-free, Due, due-append}
+use Rattle.model.specs.MeetsManual.Reception.{datedBytes, first-dated, none-dated, Due, due-append}
 use Rattle.model.specs.MeetsManual.Reception.{not-yet, all-by}
 use Rattle.model.specs.declared.Date.{Date}
 use Rattle.model.specs.declared.Date.the-variants.{None, At}
@@ -85,10 +85,6 @@ unfolding timeoutBefore afterDate dueBy
 none-before s date at None le h = refl
 none-before s date at (At i) le h = choose-false _ _
     (lt-leb _ at (omega (arith, leb-false (after i (s .«timeout_time»)) (earlier date at) h)))
-
-closed : (s : Settings) (held : ℕ) (l : Line) → timeOut s held l .«idle_since» ≡ None
-unfolding timeOut raiseIf noteSource
-closed s held l = choose-ind (λ (x : Line). x .«idle_since» ≡ None) _ (λ _. refl) (λ _. refl)
 
 -- a byte that was heard lands with the clock on: the idle line opens, whatever becomes of the byte
 heard-opens : (s : Settings) (held : ℕ) (f : Frame) (l : Line) → f .heard ≡ true → s .«rx_sclk_en» ≡ true
@@ -178,7 +174,7 @@ module _ {H W : Type 0} (s : Settings) (date : ℕ) (clock : s .«rx_sclk_en» �
             (sym later
             ∙ sym (ap (λ o. toShow (s .«byte_time») (s .«timeout_time») (timeOut s (length (u .rx)) (lineOf u) .«idle_since»)
             (timeOut s (length (u .rx)) (lineOf u) .«line_free_at») o bs) n
-            ∙ ap₂ (λ d k. reception (s .«byte_time») (s .«timeout_time») d k bs) (closed s (length (u .rx)) (lineOf u))
+            ∙ ap₂ (λ d k. reception (s .«byte_time») (s .«timeout_time») d k bs) (timeOut-closes s (length (u .rx)) (lineOf u))
             (timeOut-free s (length (u .rx)) (lineOf u))));
         heard = no-byte _ n;
       }

@@ -23,7 +23,7 @@ use Rattle.model.specs.Limits.{All, cons, nil, runDates, runCounts, Fits
 use Rattle.model.specs.Laws.Choose.{choose-ind, choose-true, choose-false}
 use Rattle.model.specs.Laws.Lists.{all-head}
 use Rattle.model.specs.Laws.Cases.{pass-cases}
-use Rattle.model.specs.Ends.Passes.{LineQuiet, Takes, PassLaw, pass-law}
+use Rattle.model.specs.Ends.Passes.{LineQuiet, Takes, PassLaw, timeOut-free, land-free, pass-law}
 use Rattle.model.specs.Ends.Through.{Through, ends, goes, through, through-quiet}
 use Rattle.model.specs.Keeps.Settling.{depart-within, pass-within}
 use Rattle.model.specs.declared.Line.{Line}
@@ -89,18 +89,6 @@ unfolding popRun
 popped-counted [] c = c
 popped-counted (r ∷ rs) (cons p c) =
     choose-ind (λ (l : List Run). All (λ n. 1 ≤ n) (runCounts l)) _ (λ _. c) (λ t. cons (omega (arith, leb-false (r .count) 1 t)) c)
-
-pub timeOut-free : (s : Settings) (held : ℕ) (l : Line) → timeOut s held l .«line_free_at» ≡ l .«line_free_at»
-unfolding timeOut raiseIf noteSource
-timeOut-free s held l = choose-ind (λ (x : Line). x .«line_free_at» ≡ l .«line_free_at») _ (λ _. refl) (λ _. refl)
-
-pub land-free : (s : Settings) (f : Fate) (fr : Frame) (l : Line) → land s f fr l .«line_free_at» ≡ l .«line_free_at»
-unfolding land opened raiseIf noteSource
-land-free s Stored fr l = refl
-land-free s Overflowed fr l = refl
-land-free s Cleared fr l = refl
-land-free s ClockOff fr l = refl
-land-free s Unheard fr l = refl
 
 module _ {H W : Type 0} (s : Settings) where
   -- what is to land is what a pass found to land, and then what is still to land

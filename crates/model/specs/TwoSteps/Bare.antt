@@ -12,7 +12,7 @@ use Rattle.model.specs.Events.{Event, departure, timeout, landing, nothi
 use Rattle.model.specs.Line.{raiseIf, noteSource, afterDate, timeoutAt, timeOut, start, fate}
 use Rattle.model.specs.Settle.{Pass, nothingDue, timedOut, landed, inFrame, begun, beforeStart, idle, lineFree, passOn, pass}
 use Rattle.model.specs.Laws.Choose.{choose-ind, choose-true, choose-false, choose-nat}
-use Rattle.model.specs.Ends.Passes.{apart, Takes, pass-law, land-free}
+use Rattle.model.specs.Ends.Passes.{apart, Takes, pass-law, timeOut-free, land-free}
 use Rattle.model.specs.TwoSteps.Later.{Closed, closed-due, start-closed}
 use Rattle.model.specs.declared.Date.the-variants.{None, At}
 use Rattle.model.specs.declared.Source.{Source}
@@ -28,10 +28,6 @@ wiped free = record { «int_raw» = 0; «rx_mistimed» = Source.None; «idle_sin
 
 abbrev pub bare : {H W : Type 0} → Uart H W → Uart H W
 bare u = withLineOf (wiped (lineOf u .«line_free_at»)) u
-
-timeOut-free : (s : Settings) (held : ℕ) (l : Line) → timeOut s held l .«line_free_at» ≡ l .«line_free_at»
-unfolding timeOut raiseIf noteSource
-timeOut-free s held l = choose-ind (λ (x : Line). x .«line_free_at» ≡ l .«line_free_at») _ (λ _. refl) (λ _. refl)
 
 module _ {H W : Type 0} (s : Settings) (date : ℕ) where
   -- ---- a pass from it
