@@ -59,6 +59,22 @@ static void notes(const char *call, struct wondraxu_report report, uint32_t what
     expect(call, "which", report.notices[0].which, 0);
 }
 
+static void left(const char *call, bool want)
+{
+    struct wondraxu_reply reply = wondraxu_uart_has_left(&uart);
+    expect(call, "number", reply.number, WONDRAXU_DONE);
+    expect(call, "holds", reply.holds, want);
+    expect(call, "value", reply.value, 0);
+}
+
+static void pending(const char *call, size_t want)
+{
+    struct wondraxu_reply reply = wondraxu_uart_host_pending(&uart);
+    expect(call, "number", reply.number, WONDRAXU_DONE);
+    expect(call, "holds", reply.holds, true);
+    expect(call, "value", reply.value, want);
+}
+
 /* P3, and then three bytes more, which are taken with the first. */
 static void send_a_row(void)
 {
@@ -69,9 +85,9 @@ static void send_a_row(void)
     answer = sends("write of FIFO at 100", 100, row[0]);
     expect("write of FIFO at 100", "wake", answer.report.wake.set ? answer.report.wake.at : 0, 520);
     reads("P3: read of FSM_STATUS at 519", 519, FSM_STATUS, 0x10);
-    expect("has_left at 519", "has_left", wondraxu_uart_has_left(&uart), false);
+    left("has_left at 519", false);
     reads("P3: read of FSM_STATUS at 520", 520, FSM_STATUS, 0);
-    expect("has_left at 520", "has_left", wondraxu_uart_has_left(&uart), true);
+    left("has_left at 520", true);
     reads("P3: read of INT_RAW at 520", 520, INT_RAW, 0x4002);
     for (size_t i = 1; i < sizeof row; i++)
         sends("write of FIFO at 520", 520, row[i]);
@@ -102,7 +118,7 @@ static void receive_a_row(void)
     notes("P6: read of the empty FIFO", answer.report, WONDRAXU_UART_EMPTY_READ);
     answer = wondraxu_uart_receive(&uart, 1000, 1000, row, sizeof row);
     expect("receive at 1000", "number", answer.reply.number, WONDRAXU_DONE);
-    expect("receive at 1000", "host_pending", wondraxu_uart_host_pending(&uart), sizeof row);
+    pending("host_pending at 1000", sizeof row);
     answer = wondraxu_uart_wake(&uart, 3100);
     /* Five landings, and the pass that finds nothing due. */
     expect("wake at 3100", "passes", answer.report.passes, 6);
@@ -145,14 +161,14 @@ static void refused(void)
     expect("P10: receive of 1,025 bytes", "number", answer.reply.number, WONDRAXU_HOST_FULL);
     answer = wondraxu_uart_receive(&uart, 0, 1000, bytes, 1024);
     expect("P10: receive of 1,024 bytes", "number", answer.reply.number, WONDRAXU_DONE);
-    expect("P10: receive of 1,024 bytes", "host_pending", wondraxu_uart_host_pending(&uart), 1024);
+    pending("P10: host_pending after 1,024 bytes", 1024);
     before = uart;
     answer = wondraxu_uart_receive(&uart, 0, 1000, bytes, 1);
     expect("P10: receive of one byte more", "number", answer.reply.number, WONDRAXU_HOST_FULL);
     answer = wondraxu_uart_read(&uart, UINT64_C(1) << 59, STATUS);
     expect("read at 2^59", "number", answer.reply.number, WONDRAXU_DATE_PAST_END);
     expect("read at 2^59", "holds", answer.reply.holds, false);
-    expect("the refused calls", "host_pending", wondraxu_uart_host_pending(&uart), 1024);
+    pending("host_pending after the refused calls", 1024);
     expect("the refused calls", "last", uart.core.last, before.core.last);
     expect("the refused calls", "host", memcmp(before.slots.host, uart.slots.host, WONDRAXU_HOST) == 0, true);
     printf("refused:  1,025 host bytes answer %d, and nothing changed\n", WONDRAXU_HOST_FULL);
@@ -160,7 +176,7 @@ static void refused(void)
 
 int main(void)
 {
-    expect("wondraxu_abi_1", "version", wondraxu_abi_1(), 1);
+    expect("wondraxu_abi_2", "version", wondraxu_abi_2(), 2);
     send_a_row();
     receive_a_row();
     overflow();

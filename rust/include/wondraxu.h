@@ -18,10 +18,10 @@ extern "C" {
 #endif
 
 /*
- * The version of the structs and calls below; answers 1. The number goes up whenever one of them changes. Every file that
+ * The version of the structs and calls below; answers 2. The number goes up whenever one of them changes. Every file that
  * has this header needs the symbol, so that an archive of another version, whose structs may differ, does not link.
  */
-uint32_t wondraxu_abi_1(void);
+uint32_t wondraxu_abi_2(void);
 #ifdef __GNUC__
 __attribute__((used))
 #endif
@@ -30,7 +30,7 @@ __attribute__((used))
 __attribute__((retain)) /* the linker keeps it too, where it drops what nothing reads */
 #endif
 #endif
-static uint32_t (*const wondraxu_abi)(void) = wondraxu_abi_1;
+static uint32_t (*const wondraxu_abi)(void) = wondraxu_abi_2;
 
 /* How many slots each array has. */
 #define WONDRAXU_FLIGHT 129   /* gone_at, flight: the bytes in flight and their dates */
@@ -141,8 +141,10 @@ struct wondraxu_core {
 
 struct wondraxu_reply {
     uint32_t number; /* an enum wondraxu_number */
-    bool holds;      /* read: there is a value. write: accepted. Every other call: carried out. False of a refusal. */
-    uint64_t value;  /* read: the value. take_tx, take_written: how many bytes. Every other call, and a refusal: 0. */
+    bool holds;      /* read: there is a value. write: accepted. has_left: a byte has left. Every other call: carried out.
+                      * False of a refusal. */
+    uint64_t value;  /* read: the value. take_tx, take_written, host_pending: how many bytes. Every other call, and a
+                      * refusal: 0. */
 };
 
 struct wondraxu_notice {
@@ -248,22 +250,27 @@ struct wondraxu_answer wondraxu_take_tx(struct wondraxu_core core, const uint64_
                                         uint64_t cycle, uint8_t *out, size_t length);
 
 /* All that was written, the bytes that left and those in flight, to the front of out: value says how many. Undated. Requires
- * the state, its two pointers and the buffer out. Number 8 alone. */
-struct wondraxu_answer wondraxu_take_written(struct wondraxu_core core, const uint8_t *flight, const uint8_t *tx, uint8_t *out,
-                                             size_t length);
+ * the state, the pointers and the buffer out. Number 8 alone. */
+struct wondraxu_answer wondraxu_take_written(struct wondraxu_core core, const uint64_t *gone_at, const uint8_t *flight,
+                                             const uint8_t *tx, const uint8_t *host, const uint64_t *run_at,
+                                             const uint64_t *run_len, const uint8_t *rx, uint8_t *out, size_t length);
 
-/* Whether each departure asks for a wake. Requires the state and its two pointers. */
-struct wondraxu_answer wondraxu_watch(struct wondraxu_core core, const uint64_t *gone_at, const uint64_t *run_at,
-                                      uint64_t cycle, bool on);
+/* Whether each departure asks for a wake. Requires the state and the pointers. */
+struct wondraxu_answer wondraxu_watch(struct wondraxu_core core, const uint64_t *gone_at, const uint8_t *flight,
+                                      const uint8_t *tx, const uint8_t *host, const uint64_t *run_at,
+                                      const uint64_t *run_len, const uint8_t *rx, uint64_t cycle, bool on);
 
-/* Nothing moves after this cycle until a reset. Requires the state. */
-struct wondraxu_answer wondraxu_power_down(struct wondraxu_core core, uint64_t cycle);
+/* Nothing moves after this cycle until a reset. Requires the state and the pointers. */
+struct wondraxu_answer wondraxu_power_down(struct wondraxu_core core, const uint64_t *gone_at, const uint8_t *flight,
+                                           const uint8_t *tx, const uint8_t *host, const uint64_t *run_at,
+                                           const uint64_t *run_len, const uint8_t *rx, uint64_t cycle);
 
-/* Whether a byte has left that no call has taken. Undated; never refused. Requires the state. */
-bool wondraxu_has_left(struct wondraxu_core core);
+/* Whether a byte has left that no call has taken: holds says it. Undated; the number is 0. Requires the state. */
+struct wondraxu_reply wondraxu_has_left(struct wondraxu_core core);
 
-/* The host bytes that have not landed: those that wait, and the one on the line. Undated; never refused. Requires the state. */
-size_t wondraxu_host_pending(struct wondraxu_core core);
+/* The host bytes that have not landed, those that wait and the one on the line: value says how many. Undated; the number is
+ * 0. Requires the state. */
+struct wondraxu_reply wondraxu_host_pending(struct wondraxu_core core);
 
 /*
  * One UART. wondraxu_uart_new sets it up, and only the functions below write it: then THE STATE and THE POINTERS always hold,
@@ -345,25 +352,31 @@ static inline struct wondraxu_answer wondraxu_uart_take_tx(struct wondraxu_uart 
 
 static inline struct wondraxu_answer wondraxu_uart_take_written(struct wondraxu_uart *u, uint8_t *out, size_t length)
 {
-    return wondraxu_uart_kept(u, wondraxu_take_written(u->core, u->slots.flight, u->slots.tx, out, length));
+    const struct wondraxu_slots *s = &u->slots;
+    return wondraxu_uart_kept(u, wondraxu_take_written(u->core, s->gone_at, s->flight, s->tx, s->host, s->run_at, s->run_len,
+                                                       s->rx, out, length));
 }
 
 static inline struct wondraxu_answer wondraxu_uart_watch(struct wondraxu_uart *u, uint64_t now, bool watched)
 {
-    return wondraxu_uart_kept(u, wondraxu_watch(u->core, u->slots.gone_at, u->slots.run_at, now, watched));
+    const struct wondraxu_slots *s = &u->slots;
+    return wondraxu_uart_kept(u, wondraxu_watch(u->core, s->gone_at, s->flight, s->tx, s->host, s->run_at, s->run_len,
+                                                s->rx, now, watched));
 }
 
 static inline struct wondraxu_answer wondraxu_uart_power_down(struct wondraxu_uart *u, uint64_t now)
 {
-    return wondraxu_uart_kept(u, wondraxu_power_down(u->core, now));
+    const struct wondraxu_slots *s = &u->slots;
+    return wondraxu_uart_kept(u, wondraxu_power_down(u->core, s->gone_at, s->flight, s->tx, s->host, s->run_at, s->run_len,
+                                                     s->rx, now));
 }
 
-static inline bool wondraxu_uart_has_left(const struct wondraxu_uart *u)
+static inline struct wondraxu_reply wondraxu_uart_has_left(const struct wondraxu_uart *u)
 {
     return wondraxu_has_left(u->core);
 }
 
-static inline size_t wondraxu_uart_host_pending(const struct wondraxu_uart *u)
+static inline struct wondraxu_reply wondraxu_uart_host_pending(const struct wondraxu_uart *u)
 {
     return wondraxu_host_pending(u->core);
 }

@@ -9,7 +9,7 @@
 //!   only set-up and these functions write them.
 //! - that the pointers are to as many slots as the call reads: the types of the arrays say it.
 //! - that the `bool`s in what comes back are 0 or 1: the library writes them so.
-use crate::plain::{PlainAnswer, PlainCore, PlainNew, Sixteen, Slots, FLIGHT, HOST, LEFT, RECEIVED, RUNS};
+use crate::plain::{PlainAnswer, PlainCore, PlainNew, PlainReply, Sixteen, Slots, FLIGHT, HOST, LEFT, RECEIVED, RUNS};
 
 type GoneAt = [u64; FLIGHT];
 type Flight = [u8; FLIGHT];
@@ -28,18 +28,18 @@ extern "C" {
     fn wondraxu_clock_change(core: PlainCore, gone_at: &GoneAt, flight: &Flight, tx: &mut Left, host: &Host, run_at: &Runs, run_len: &mut Runs, rx: &mut Received, cycle: u64, period: u64) -> PlainAnswer;
     fn wondraxu_receive(core: PlainCore, gone_at: &GoneAt, flight: &Flight, tx: &mut Left, host: &mut Host, run_at: &mut Runs, run_len: &mut Runs, rx: &mut Received, cycle: u64, at: u64, bytes: *const u8, count: usize) -> PlainAnswer;
     fn wondraxu_take_tx(core: PlainCore, gone_at: &GoneAt, flight: &Flight, tx: &mut Left, host: &Host, run_at: &Runs, run_len: &mut Runs, rx: &mut Received, cycle: u64, out: *mut u8, length: usize) -> PlainAnswer;
-    fn wondraxu_take_written(core: PlainCore, flight: &Flight, tx: &Left, out: *mut u8, length: usize) -> PlainAnswer;
-    fn wondraxu_watch(core: PlainCore, gone_at: &GoneAt, run_at: &Runs, cycle: u64, on: bool) -> PlainAnswer;
-    fn wondraxu_power_down(core: PlainCore, cycle: u64) -> PlainAnswer;
-    fn wondraxu_has_left(core: PlainCore) -> bool;
-    fn wondraxu_host_pending(core: PlainCore) -> usize;
-    fn wondraxu_abi_1() -> u32;
+    fn wondraxu_take_written(core: PlainCore, gone_at: &GoneAt, flight: &Flight, tx: &Left, host: &Host, run_at: &Runs, run_len: &Runs, rx: &Received, out: *mut u8, length: usize) -> PlainAnswer;
+    fn wondraxu_watch(core: PlainCore, gone_at: &GoneAt, flight: &Flight, tx: &Left, host: &Host, run_at: &Runs, run_len: &Runs, rx: &Received, cycle: u64, on: bool) -> PlainAnswer;
+    fn wondraxu_power_down(core: PlainCore, gone_at: &GoneAt, flight: &Flight, tx: &Left, host: &Host, run_at: &Runs, run_len: &Runs, rx: &Received, cycle: u64) -> PlainAnswer;
+    fn wondraxu_has_left(core: PlainCore) -> PlainReply;
+    fn wondraxu_host_pending(core: PlainCore) -> PlainReply;
+    fn wondraxu_abi_2() -> u32;
 }
 
 /// A program needs the library of the version that these declarations are of, or does not link: the structs of another one
 /// may have other places. The number goes up with every change of a struct or a call that crosses (`c/versions`).
 #[used]
-static VERSION: unsafe extern "C" fn() -> u32 = wondraxu_abi_1;
+static VERSION: unsafe extern "C" fn() -> u32 = wondraxu_abi_2;
 
 /// Nothing is required: a repeated offset is refused.
 #[inline]
@@ -166,29 +166,46 @@ pub(crate) fn take_tx(core: &PlainCore, s: &mut Slots, cycle: u64, out: &mut [u8
 #[inline]
 pub(crate) fn take_written(core: &PlainCore, s: &Slots, out: &mut [u8]) -> PlainAnswer {
     // SAFETY: the state is `Uart`'s own; pointer and length are one slice's, lent for the call.
-    unsafe { wondraxu_take_written(*core, &s.flight, &s.tx, out.as_mut_ptr(), out.len()) }
+    unsafe {
+        wondraxu_take_written(
+            *core,
+            &s.gone_at,
+            &s.flight,
+            &s.tx,
+            &s.host,
+            &s.run_at,
+            &s.run_len,
+            &s.rx,
+            out.as_mut_ptr(),
+            out.len(),
+        )
+    }
 }
 
 #[inline]
 pub(crate) fn watch(core: &PlainCore, s: &Slots, cycle: u64, on: bool) -> PlainAnswer {
     // SAFETY: the state is `Uart`'s own, and is only read.
-    unsafe { wondraxu_watch(*core, &s.gone_at, &s.run_at, cycle, on) }
+    unsafe {
+        wondraxu_watch(*core, &s.gone_at, &s.flight, &s.tx, &s.host, &s.run_at, &s.run_len, &s.rx, cycle, on)
+    }
 }
 
 #[inline]
-pub(crate) fn power_down(core: &PlainCore, cycle: u64) -> PlainAnswer {
-    // SAFETY: the core is `Uart`'s own.
-    unsafe { wondraxu_power_down(*core, cycle) }
+pub(crate) fn power_down(core: &PlainCore, s: &Slots, cycle: u64) -> PlainAnswer {
+    // SAFETY: the state is `Uart`'s own, and is only read.
+    unsafe {
+        wondraxu_power_down(*core, &s.gone_at, &s.flight, &s.tx, &s.host, &s.run_at, &s.run_len, &s.rx, cycle)
+    }
 }
 
 #[inline]
-pub(crate) fn has_left(core: &PlainCore) -> bool {
+pub(crate) fn has_left(core: &PlainCore) -> PlainReply {
     // SAFETY: the core is `Uart`'s own.
     unsafe { wondraxu_has_left(*core) }
 }
 
 #[inline]
-pub(crate) fn host_pending(core: &PlainCore) -> usize {
+pub(crate) fn host_pending(core: &PlainCore) -> PlainReply {
     // SAFETY: the core is `Uart`'s own.
     unsafe { wondraxu_host_pending(*core) }
 }

@@ -124,7 +124,7 @@ impl Uart {
     /// A date past the end, or before the last one.
     #[inline]
     pub fn power_down(&mut self, now: u64) -> Answered<()> {
-        let answer = calls::power_down(&self.core, now);
+        let answer = calls::power_down(&self.core, &self.slots, now);
         self.done(&answer, |_| ())
     }
 
@@ -159,17 +159,23 @@ impl Uart {
     }
 
     /// Whether a byte has left that no call has taken.
+    ///
+    /// # Errors
+    /// None: no test refuses it, and its number is always 0.
     #[inline]
-    #[must_use]
-    pub fn has_left(&self) -> bool {
-        calls::has_left(&self.core)
+    pub fn has_left(&self) -> Result<bool, Refusal> {
+        let reply = calls::has_left(&self.core);
+        Refusal::of(reply.number).map(|()| reply.holds)
     }
 
     /// The host bytes that have not landed: those that wait, and the one on the line.
+    ///
+    /// # Errors
+    /// None: no test refuses it, and its number is always 0.
     #[inline]
-    #[must_use]
-    pub fn host_pending(&self) -> usize {
-        calls::host_pending(&self.core)
+    pub fn host_pending(&self) -> Result<usize, Refusal> {
+        let reply = calls::host_pending(&self.core);
+        Refusal::of(reply.number).map(|()| reply.value as usize)
     }
 
     /// The core after the call is kept; after a refusal it is the one before, so nothing is written.

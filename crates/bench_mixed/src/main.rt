@@ -147,8 +147,8 @@ fn carry_out<'a>(
             );
             let next = after.core;
             let reply = after.reply;
-            let pending = calls::queries::host_pending(next) as u64;
-            let left = calls::queries::has_left(next) as u64;
+            let pending = calls::queries::host_pending(next).count as u64;
+            let left = calls::queries::has_left(next).has_left as u64;
             Tally {
                 core: next,
                 notes: notes.add(count_of(reply)).add(pending).add(left),

@@ -4,7 +4,6 @@ pub mod TimesAlike
 pub mod Puts
 pub mod Entries
 pub mod EntryLaws
-pub mod TellsNothing
 pub mod Lines
 pub mod LineLaws
 mod Examples

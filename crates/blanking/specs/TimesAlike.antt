@@ -3,19 +3,19 @@ use mathlib.Core.Path.{_≡_, refl, sym, ap, ap₂, subst, _∙_}
 use Prim.Native.Nat.{ℕ, zero, suc, _/_, _^_, _<_}
 use native.Mathlib.Nat.{suc-ne-zero, suc-inj, pow-suc}
 use native.Mathlib.Omega.{arith}
-use mathlib.Core.Bool.{Bool, true, false}
+use mathlib.Core.Bool.{Bool, true, false, decide}
 use mathlib.Core.List.{List, [], _∷_, map}
 use lib.Bits.{bitAnd, and-step, and-zero-r}
 use lib.ListN.{length, getD}
 use Rattle.model.specs.Numbers.{choose}
 use Rattle.model.specs.Laws.Choose.{choose-false}
-use Rattle.model.specs.Map.{isFifo, registerOf, registerAmong}
+use Rattle.model.specs.Map.{isFifo, registerOf, registerAmong, placeAmong, wordsBy}
 use Rattle.model.specs.Call.{Call, Written, Request}
 use Rattle.model.specs.SetUp.{wordsAmong, new}
 use Rattle.model.specs.Run.{run}
 use Rattle.model.specs.Refuses.FifoPlace.{first-is-fifo, fifo-is-first}
-use Rattle.model.specs.TwoRuns.Alike.{Each, Alike, fifoOffset, withoutRest}
-use Rattle.model.specs.TwoRuns.Agree.{Agreeing}
+use Rattle.model.specs.TwoRuns.Alike.{Each, Alike, fifoOffset}
+use Rattle.model.specs.TwoRuns.Agree.{withoutRest, Agreeing}
 use Rattle.model.specs.TwoRuns.Unused.{takesWord, SameInUse}
 use Rattle.model.specs.TwoRuns.InUse.{AlikeInUse, runs-agree-in-use}
 use Rattle.blanking.specs.Blanked.{blankByte, blankWord, blankWritten, blankResets, blanked, blankedList}
@@ -81,7 +81,7 @@ and-again (suc n) a b h =
 
 -- set-up uses nothing that was replaced
 pub blanked-resets : (ws : List ℕ) → SameInUse ws (blankResets ws)
-unfolding blankResets wordsAmong
+unfolding blankResets wordsAmong wordsBy placeAmong choose decide
 blanked-resets ws = record { words = refl; status = sym (and-again 32 (getD ws 6 0) 0xFC00FC00 (omega arith)); memRxStatus = refl }
 
 -- so by demand 3 a blanked run times as the real one: all answers agree, apart from the byte that a read of FIFO gives and
@@ -138,7 +138,7 @@ alike-blanked offsets (Each.cons a rest) = ap₂ _∷_ (blank-same offsets a) (a
 
 -- and so do the reset words of two set-ups
 pub resets-blanked : (ws ws′ : List ℕ) → SameInUse ws ws′ → blankResets ws ≡ blankResets ws′
-unfolding blankResets wordsAmong
+unfolding blankResets wordsAmong wordsBy placeAmong choose decide
 resets-blanked ws ws′ s =
     let w = s .words in
     rw (

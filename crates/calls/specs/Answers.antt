@@ -8,6 +8,7 @@ use native.Mathlib.Omega.{arith}
 use borrow.Author.Tests.{leb-false}
 use Rattle.model.specs.State
 use Rattle.model.specs.Settle
+use Rattle.model.specs.Events.{total, passesIn, overflowsIn}
 use Rattle.model.specs.Registers.{Access}
 use Rattle.model.specs.Replies
 use Rattle.model.specs.Replies.{noReport, doneNumber}
@@ -16,7 +17,7 @@ use Rattle.model.specs.Tests.{dateEnd, pastEnd, wentBack}
 use Rattle.model.specs.Limits.{Within}
 use Rattle.model.specs.Keeps.Dated.{not-refused}
 use Rattle.model.specs.Calls
-use Rattle.model.specs.Calls.{Outcome, refusing, unless, afterSettling, unsettled, quiet}
+use Rattle.model.specs.Calls.{Outcome, Plan, refusing, unless, afterSettling, outcome, quiet}
 use Rattle.model.specs.declared.Refusal.{Refusal}
 use Rattle.model.specs.declared.Report.{Report}
 use Rattle.model.specs.declared.Done.{Done}
@@ -39,6 +40,16 @@ module _ {X R : Type 0} (view : X → R) (number : X → ℕ) (o : Outcome X ℕ
     pub reports : report ≡ o .report
     pub state : abs c′ a′ ≡ o .state
     pub kept : 1 ≤ number (o .reply) → (c′ ≡ c) × (a′ ≡ a)
+
+-- a dated call and an undated one, and what a dated call does where no test refuses it
+abbrev pub datedCall : {X : Type 0} → ℕ → (State.Uart ℕ ℕ → Plan X ℕ ℕ) → State.Uart ℕ ℕ → Outcome X ℕ ℕ
+datedCall now plan u = outcome (some now) (plan u) u
+
+abbrev pub undatedCall : {X : Type 0} → (State.Uart ℕ ℕ → Plan X ℕ ℕ) → State.Uart ℕ ℕ → Outcome X ℕ ℕ
+undatedCall plan u = outcome none (plan u) u
+
+abbrev pub datedWork : {X : Type 0} → ℕ → (State.Uart ℕ ℕ → Plan X ℕ ℕ) → State.Uart ℕ ℕ → Outcome X ℕ ℕ
+datedWork now plan u = Calls.carried (some now) (plan u) u
 
 -- a call that answers done or a refusal
 abbrev pub DoneWith : (State.Uart ℕ ℕ → Outcome Done ℕ ℕ) → Core → Arrays → Core → Arrays → Done → Report → Type 0
@@ -86,10 +97,11 @@ module _ {X R : Type 0} (view : X → R) where
       }
 
   -- without settling
-  pub unsettled-works : {r : X} {u : State.Uart ℕ ℕ} {c′ : Core} {a′ : Arrays} → Shape c′ a′ → abs c′ a′ ≡ u
-      → Works view (unsettled r u) c′ a′ (view r) (reportOf c′ 0 0 (noted []))
-  unfolding unsettled
-  unsettled-works {r} {u} {c′} {a′} k e = record {
+  pub unsettled-works : {r : X} {u : State.Uart ℕ ℕ} (change : State.Uart ℕ ℕ → State.Uart ℕ ℕ) {c′ : Core} {a′ : Arrays} → Shape c′ a′
+      → abs c′ a′ ≡ change u
+      → Works view (afterSettling (Settle.ended u) (λ s. quiet r (change s))) c′ a′ (view r) (reportOf c′ 0 0 (noted []))
+  unfolding afterSettling quiet passesIn overflowsIn total
+  unsettled-works change {c′} {a′} k e = record {
     shape = k;
     replies = refl;
     reports = report-of 0 0 [] (abs c′ a′) ∙ ap (Replies.report 0 0 []) e;

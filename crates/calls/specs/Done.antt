@@ -8,7 +8,8 @@ use Rattle.model.specs.Settle
 use Rattle.model.specs.Arm.{arm}
 use Rattle.model.specs.Replies.{doneNumber}
 use Rattle.model.specs.Limits.{Within}
-use Rattle.model.specs.Calls.{Outcome, unless, afterSettling, quiet, wakeWork, resetWork, clockWork, receiveWork}
+use Rattle.model.specs.Calls
+use Rattle.model.specs.Calls.{Plan, unless, afterSettling, quiet, wake, reset, clockChange, receive}
 use Rattle.model.specs.declared.Refusal.{Refusal}
 use Rattle.model.specs.declared.Report.{Report}
 use Rattle.model.specs.declared.Done.{Done}
@@ -16,20 +17,21 @@ use Rattle.device.specs.Holds.{Arrays, abs, Ok}
 use Rattle.device.specs.Settles.{Settles}
 use Rattle.device.specs.Arms.{ArmsAny}
 use Rattle.device.specs.declared.Core.{Core}
-use Rattle.calls.specs.Answers.{DoneWith, Works, carried, turned-away, done-armed, doneCore, refusedCore}
+use Rattle.calls.specs.Answers.{datedCall, datedWork, DoneWith, Works, carried, turned-away, done-armed, doneCore, refusedCore}
 use Rattle.calls.specs.declared.answers.DoneCore.{DoneCore}
 
-module _ (call work : State.Uart ℕ ℕ → Outcome Done ℕ ℕ) {tests : Option Refusal} {c : Core} {a : Arrays} (ok : Ok c a)
-    (e : call (abs c a) ≡ unless tests Done.Refused work (abs c a)) where
-  pub done-carried : {c′ : Core} {a′ : Arrays} {reply : Done} {report : Report} → tests ≡ none → Within (call (abs c a) .state)
-      → doneNumber (work (abs c a) .reply) ≡ 0 → Works (λ x. x) (work (abs c a)) c′ a′ reply report → DoneWith call c a c′ a′ reply report
-  done-carried t w z k = carried (λ x. x) doneNumber Done.Refused work c a e t w z k
+module _ (cycle : ℕ) (plan : State.Uart ℕ ℕ → Plan Done ℕ ℕ) {tests : Option Refusal} {c : Core} {a : Arrays} (ok : Ok c a)
+    (e : datedCall cycle plan (abs c a) ≡ unless tests Done.Refused (Calls.carried (some cycle) (plan (abs c a))) (abs c a)) where
+  pub done-carried : {c′ : Core} {a′ : Arrays} {reply : Done} {report : Report} → tests ≡ none
+      → Within (datedCall cycle plan (abs c a) .state) → doneNumber (datedWork cycle plan (abs c a) .reply) ≡ 0
+      → Works (λ x. x) (datedWork cycle plan (abs c a)) c′ a′ reply report → DoneWith (datedCall cycle plan) c a c′ a′ reply report
+  done-carried t w z k = carried (λ x. x) doneNumber Done.Refused _ c a e t w z k
 
   pub done-refused : {q : Refusal} {r : DoneCore} → tests ≡ some q → r ≡ refusedCore c q
-      → DoneWith call c a (r .core) a (r .reply) (r .report)
+      → DoneWith (datedCall cycle plan) c a (r .core) a (r .reply) (r .report)
   done-refused t same =
-      subst (λ (x : DoneCore). DoneWith call c a (x .core) a (x .reply) (x .report)) (sym same)
-      (turned-away (λ x. x) doneNumber Done.Refused work c a e t ok)
+      subst (λ (x : DoneCore). DoneWith (datedCall cycle plan) c a (x .core) a (x .reply) (x .report)) (sym same)
+      (turned-away (λ x. x) doneNumber Done.Refused _ c a e t ok)
 
 -- settled and armed
 pub armed-done : {t : Settle.Settled ℕ ℕ} {c₁ : Core} {a₁ : Arrays} {n o : ℕ} {c₂ : Core} {r : DoneCore} → Settles t c₁ a₁ n o
@@ -42,18 +44,18 @@ armed-done {t} {a₁ = a₁} s arms same =
 -- ---- the number of a call that is carried out is 0
 
 module _ (cycle : ℕ) (u : State.Uart ℕ ℕ) where
-  pub wake-zero : doneNumber (wakeWork cycle u .reply) ≡ 0
-  unfolding wakeWork afterSettling quiet doneNumber
+  pub wake-zero : doneNumber (datedWork cycle (wake cycle) u .reply) ≡ 0
+  unfolding Calls.carried wake afterSettling quiet doneNumber
   wake-zero = refl
 
-  pub reset-zero : doneNumber (resetWork cycle u .reply) ≡ 0
-  unfolding resetWork afterSettling quiet doneNumber
+  pub reset-zero : doneNumber (datedWork cycle (reset cycle) u .reply) ≡ 0
+  unfolding Calls.carried reset afterSettling quiet doneNumber
   reset-zero = refl
 
-  pub clock-zero : (period : ℕ) → doneNumber (clockWork cycle period u .reply) ≡ 0
-  unfolding clockWork afterSettling quiet doneNumber
+  pub clock-zero : (period : ℕ) → doneNumber (datedWork cycle (clockChange cycle period) u .reply) ≡ 0
+  unfolding Calls.carried clockChange afterSettling quiet doneNumber
   clock-zero period = refl
 
-  pub receive-zero : (at : ℕ) (bs : List ℕ) → doneNumber (receiveWork cycle at bs u .reply) ≡ 0
-  unfolding receiveWork afterSettling quiet doneNumber
+  pub receive-zero : (at : ℕ) (bs : List ℕ) → doneNumber (datedWork cycle (receive cycle at bs) u .reply) ≡ 0
+  unfolding Calls.carried receive afterSettling quiet doneNumber
   receive-zero at bs = refl

@@ -7,13 +7,13 @@ use Prim.Native.Nat.{ℕ, _+_, _≤_, _<_}
 use native.Mathlib.Omega.{arith}
 use lib.ListN.{length}
 use Rattle.model.specs.State.{OnTheLine, Uart}
-use Rattle.model.specs.Settle.{Settled, settle, pending, onTheLine}
+use Rattle.model.specs.Settle.{Settled, found, settle, pending, onTheLine}
 use Rattle.model.specs.Limits.{Within}
 use Rattle.model.specs.Tests.{dateEnd, periodLimit}
-use Rattle.model.specs.Calls.{dated, settleAt, clocked, reclocked, clockWork}
+use Rattle.model.specs.Calls.{dated, settleAt, clocked, carried, clockChange}
 use Rattle.model.specs.Keeps.Parts.{through}
 use Rattle.model.specs.Keeps.Dated.{moved-parts}
-use Rattle.calls.specs.Answers.{Works, doneCore}
+use Rattle.calls.specs.Answers.{datedWork, Works, doneCore}
 use Rattle.calls.specs.Changes.{clockedCore, clocked-ok}
 use Rattle.calls.specs.Done.{armed-done}
 use Rattle.calls.specs.declared.answers.DoneCore.{DoneCore}
@@ -44,14 +44,13 @@ few now u w s =
 -- the same of one that moves the last date first
 pub few-at : (now : ℕ) (u : Uart ℕ ℕ) {c : Core} {a : Arrays} {n o : ℕ} → Within u → now < dateEnd → Settles (settleAt now u) c a n o
     → (n ≤ 2052) × (o ≤ 2052)
-unfolding settleAt
 few-at now u w h s = few now (dated now u) (through u (dated now u) (moved-parts now u h) w) s
 
 -- two settlings, the period set between them
 pub twice : (now : ℕ) (u : Uart ℕ ℕ) {c₁ : Core} {a₁ : Arrays} {n₁ o₁ : ℕ} {c₂ : Core} {a₂ : Arrays} {n₂ o₂ : ℕ} (period : ℕ)
     → Settles (settleAt now u) c₁ a₁ n₁ o₁ → Settles (settle now (abs (clockedCore period c₁) a₁)) c₂ a₂ n₂ o₂
-    → Settles (reclocked now period (settleAt now u)) c₂ a₂ (n₁ + n₂) (o₁ + o₂)
-unfolding reclocked clocked
+    → Settles (found (settleAt now u .events) (settle now (clocked period (settleAt now u .state)))) c₂ a₂ (n₁ + n₂) (o₁ + o₂)
+unfolding clocked
 twice now u {c₁ = c₁} {a₁ = a₁} {n₁ = n₁} {o₁ = o₁} {n₂ = n₂} {o₂ = o₂} period first second =
     let t : Settled ℕ ℕ = settleAt now u in
     let again : settle now (abs (clockedCore period c₁) a₁) ≡ settle now (clocked period (t .state)) =
@@ -99,6 +98,6 @@ module _ (now period : ℕ) (low : period ≤ periodLimit) {c₁ : Core} {a₁ :
   pub reclocks : {c : Core} {a : Arrays} {n₁ o₁ : ℕ} {c₂ : Core} {a₂ : Arrays} {n₂ o₂ : ℕ} {c₃ : Core} {r : DoneCore} → Ok c a
       → Settles (settleAt now (abs c a)) c₁ a₁ n₁ o₁ → Settles (settle now (abs from a₁)) c₂ a₂ n₂ o₂
       → ArmsAny c₂ (a₂ .goneAt) (a₂ .runAt) c₃
-      → r ≡ doneCore c₃ (n₁ + n₂) (o₁ + o₂) → Works (λ x. x) (clockWork now period (abs c a)) (r .core) a₂ (r .reply) (r .report)
-  unfolding clockWork
+      → r ≡ doneCore c₃ (n₁ + n₂) (o₁ + o₂) → Works (λ x. x) (datedWork now (clockChange now period) (abs c a)) (r .core) a₂ (r .reply) (r .report)
+  unfolding carried clockChange
   reclocks {c} {a} _ first second arms same = armed-done (twice now (abs c a) period first (second-of second)) arms same

@@ -1,12 +1,12 @@
 -- A wake's work: settled from the cleared Deadline, and armed. Assumes nothing.
 use mathlib.Core.Path.{_≡_, sym, subst}
 use Prim.Native.Nat.{ℕ}
-use Rattle.model.specs.Calls.{settleAt, wakeWork}
+use Rattle.model.specs.Calls.{carried, settleAt, wake}
 use Rattle.device.specs.Holds.{Arrays, abs, Ok}
 use Rattle.device.specs.Settles.{Settles}
 use Rattle.device.specs.Arms.{ArmsAny}
 use Rattle.device.specs.declared.Core.{Core}
-use Rattle.calls.specs.Answers.{Works, doneCore}
+use Rattle.calls.specs.Answers.{datedWork, Works, doneCore}
 use Rattle.calls.specs.Changes.{calledCore, called-ok}
 use Rattle.calls.specs.Done.{armed-done}
 use Rattle.calls.specs.declared.answers.DoneCore.{DoneCore}
@@ -17,6 +17,6 @@ module _ (cycle : ℕ) {c : Core} {a : Arrays} (ok : Ok c a) {from : Core} (call
 
   pub woken : {c₁ : Core} {a₁ : Arrays} {n o : ℕ} {c₂ : Core} {r : DoneCore} → Settles (settleAt cycle (abs from a)) c₁ a₁ n o
       → ArmsAny c₁ (a₁ .goneAt) (a₁ .runAt) c₂ → r ≡ doneCore c₂ n o
-      → Works (λ x. x) (wakeWork cycle (abs c a)) (r .core) a₁ (r .reply) (r .report)
-  unfolding wakeWork
+      → Works (λ x. x) (datedWork cycle (wake cycle) (abs c a)) (r .core) a₁ (r .reply) (r .report)
+  unfolding carried wake
   woken {c₁} {a₁} {n} {o} s arms same = armed-done (subst (λ (x : Core). Settles (settleAt cycle (abs x a)) c₁ a₁ n o) called s) arms same

@@ -9,9 +9,10 @@ use replies::refusals::Verdict;
 ghost use mathlib.Core.Path.{_≡_};
 ghost use Rattle.model.specs.State.{withPoweredDownAt};
 ghost use Rattle.model.specs.Calls.{powerDown};
-ghost use Rattle.device.specs.Holds.{Arrays, Ok};
+ghost use Rattle.device.specs.Holds.{Ok};
+ghost use Rattle.device.specs.Wholes.{lent};
 ghost use Rattle.calls.specs.Changes.{withControlOf};
-ghost use Rattle.calls.specs.Answers.{DoneWith};
+ghost use Rattle.calls.specs.Answers.{datedCall, DoneWith};
 
 fn control_down_at(control: Control, powered_down_at: Date) -> Control
     ensures { λ r. ⌜ r ≡ withPoweredDownAt «powered_down_at» control ⌝ }
@@ -40,9 +41,22 @@ pub fn with_powered_down_at(mut core: Core, powered_down_at: Date) -> Core
     core
 }
 
-// No array of the UART is read, so the answer is the same whatever stands in them.
-pub fn power_down(core: Core, cycle: u64) -> DoneCore
-    ensures { λ r. ⌜ ((a : Arrays) → Ok core a → DoneWith (powerDown cycle) core a (r .core) a (r .reply) (r .report)) ⌝ }
+pub fn power_down<'a>(
+    core: Core,
+    gone_at: &'a [u64; 129],
+    flight: &'a [u8; 129],
+    tx: &'a [u8; 1152],
+    host: &'a [u8; 1024],
+    run_at: &'a [u64; 64],
+    run_len: &'a [u64; 64],
+    rx: &'a [u8; 128],
+    cycle: u64,
+) -> DoneCore
+    requires { ⌜ Ok core (lent «gone_at» flight tx host «run_at» «run_len» rx) ⌝ }
+    ensures { λ r. ⌜ DoneWith (datedCall cycle (powerDown cycle)) core
+        (lent («gone_at» .entry) (flight .entry) (tx .entry) (host .entry) («run_at» .entry) («run_len» .entry) (rx .entry)) (r .core)
+        (lent («gone_at» .entry) (flight .entry) (tx .entry) (host .entry) («run_at» .entry) («run_len» .entry) (rx .entry))
+        (r .reply) (r .report) ⌝ }
 {
     let control = core.control;
     let tests = replies::refusals::date_refusal(cycle, control.last);

@@ -12,11 +12,11 @@ use replies::refusals::Verdict;
 ghost use mathlib.Core.Path.{_≡_};
 ghost use Prim.Native.Nat.{_<_};
 ghost use Rattle.model.specs.Tests.{dateEnd};
-ghost use Rattle.model.specs.Calls.{reset as Calls·reset, resetWork, clearedLine};
+ghost use Rattle.model.specs.Calls.{reset as Calls·reset, clearedLine};
 ghost use Rattle.device.specs.Holds.{abs, Ok};
 ghost use Rattle.device.specs.Wholes.{lent};
 ghost use Rattle.calls.specs.Changes.{clearedCore};
-ghost use Rattle.calls.specs.Answers.{Works, DoneWith};
+ghost use Rattle.calls.specs.Answers.{datedCall, datedWork, Works, DoneWith};
 
 // When the line is free stays.
 fn clear_line(line: Line) -> Line
@@ -59,7 +59,7 @@ fn carry_out<'a>(
 ) -> DoneCore
     requires { ⌜ Ok core (lent «gone_at» flight tx host «run_at» «run_len» rx) × (cycle < dateEnd) ⌝ }
     ensures { λ r. ⌜ Works (λ x. x)
-        (resetWork cycle (abs core (lent («gone_at» .entry) (flight .entry) (tx .entry) (host .entry) («run_at» .entry)
+        (datedWork cycle (Calls·reset cycle) (abs core (lent («gone_at» .entry) (flight .entry) (tx .entry) (host .entry) («run_at» .entry)
         («run_len» .entry) (rx .entry))))
         (r .core)
         (lent («gone_at» .entry) (flight .entry) (tx .exit) (host .entry) («run_at» .entry) («run_len» .exit) (rx .exit))
@@ -84,7 +84,7 @@ pub fn reset<'a>(
     cycle: u64,
 ) -> DoneCore
     requires { ⌜ Ok core (lent «gone_at» flight tx host «run_at» «run_len» rx) ⌝ }
-    ensures { λ r. ⌜ DoneWith (Calls·reset cycle) core
+    ensures { λ r. ⌜ DoneWith (datedCall cycle (Calls·reset cycle)) core
         (lent («gone_at» .entry) (flight .entry) (tx .entry) (host .entry) («run_at» .entry) («run_len» .entry) (rx .entry)) (r .core)
         (lent («gone_at» .entry) (flight .entry) (tx .exit) (host .entry) («run_at» .entry) («run_len» .exit) (rx .exit))
         (r .reply) (r .report) ⌝ }

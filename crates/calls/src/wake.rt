@@ -7,11 +7,11 @@ use replies::refusals::Verdict;
 ghost use mathlib.Core.Path.{_≡_};
 ghost use Prim.Native.Nat.{_<_};
 ghost use Rattle.model.specs.Tests.{dateEnd};
-ghost use Rattle.model.specs.Calls.{wake as Calls·wake, wakeWork};
+ghost use Rattle.model.specs.Calls.{wake as Calls·wake};
 ghost use Rattle.device.specs.Holds.{abs, Ok};
 ghost use Rattle.device.specs.Wholes.{lent};
 ghost use Rattle.calls.specs.Changes.{calledCore};
-ghost use Rattle.calls.specs.Answers.{Works, DoneWith};
+ghost use Rattle.calls.specs.Answers.{datedCall, datedWork, Works, DoneWith};
 
 // The core with its Deadline cleared where its date has come.
 fn called(core: Core, cycle: u64) -> Core
@@ -36,7 +36,7 @@ fn carry_out<'a>(
 ) -> DoneCore
     requires { ⌜ Ok core (lent «gone_at» flight tx host «run_at» «run_len» rx) × (cycle < dateEnd) ⌝ }
     ensures { λ r. ⌜ Works (λ x. x)
-        (wakeWork cycle (abs core (lent («gone_at» .entry) (flight .entry) (tx .entry) (host .entry) («run_at» .entry)
+        (datedWork cycle (Calls·wake cycle) (abs core (lent («gone_at» .entry) (flight .entry) (tx .entry) (host .entry) («run_at» .entry)
         («run_len» .entry) (rx .entry))))
         (r .core)
         (lent («gone_at» .entry) (flight .entry) (tx .exit) (host .entry) («run_at» .entry) («run_len» .exit) (rx .exit))
@@ -61,7 +61,7 @@ pub fn wake<'a>(
     cycle: u64,
 ) -> DoneCore
     requires { ⌜ Ok core (lent «gone_at» flight tx host «run_at» «run_len» rx) ⌝ }
-    ensures { λ r. ⌜ DoneWith (Calls·wake cycle) core
+    ensures { λ r. ⌜ DoneWith (datedCall cycle (Calls·wake cycle)) core
         (lent («gone_at» .entry) (flight .entry) (tx .entry) (host .entry) («run_at» .entry) («run_len» .entry) (rx .entry)) (r .core)
         (lent («gone_at» .entry) (flight .entry) (tx .exit) (host .entry) («run_at» .entry) («run_len» .exit) (rx .exit))
         (r .reply) (r .report) ⌝ }

@@ -4,13 +4,11 @@ use crate::answers::DoneCore;
 use device::Core;
 use replies::refusals::Verdict;
 ghost use mathlib.Core.Path.{_≡_};
-ghost use lib.ListN.{length};
 ghost use Rattle.model.specs.Calls.{watch as Calls·watch};
-ghost use Rattle.queue.specs.Cursors.{Held};
-ghost use Rattle.device.specs.Holds.{Arrays, Ok};
-ghost use Rattle.device.specs.Arms.{Ready};
+ghost use Rattle.device.specs.Holds.{Ok};
+ghost use Rattle.device.specs.Wholes.{lent};
 ghost use Rattle.calls.specs.Changes.{watchedCore};
-ghost use Rattle.calls.specs.Answers.{DoneWith};
+ghost use Rattle.calls.specs.Answers.{datedCall, DoneWith};
 
 fn with_watched(mut core: Core, cycle: u64, on: bool) -> Core
     ensures { λ r. ⌜ r ≡ watchedCore cycle on core ⌝ }
@@ -22,17 +20,23 @@ fn with_watched(mut core: Core, cycle: u64, on: bool) -> Core
     core
 }
 
-// Of the arrays it reads the dates in flight and of the runs; the answer is the same whatever stands in the others.
 pub fn watch<'a>(
     core: Core,
     gone_at: &'a [u64; 129],
+    flight: &'a [u8; 129],
+    tx: &'a [u8; 1152],
+    host: &'a [u8; 1024],
     run_at: &'a [u64; 64],
+    run_len: &'a [u64; 64],
+    rx: &'a [u8; 128],
     cycle: u64,
     on: bool,
 ) -> DoneCore
-    requires { ⌜ Ready core (now «gone_at») × Held 64 (core .runs) × (length (now «run_at») ≡ 64) ⌝ }
-    ensures { λ r. ⌜ ((a : Arrays) → a .goneAt ≡ now («gone_at» .entry) → a .runAt ≡ now («run_at» .entry) → Ok core a
-        → DoneWith (Calls·watch cycle on) core a (r .core) a (r .reply) (r .report)) ⌝ }
+    requires { ⌜ Ok core (lent «gone_at» flight tx host «run_at» «run_len» rx) ⌝ }
+    ensures { λ r. ⌜ DoneWith (datedCall cycle (Calls·watch cycle on)) core
+        (lent («gone_at» .entry) (flight .entry) (tx .entry) (host .entry) («run_at» .entry) («run_len» .entry) (rx .entry)) (r .core)
+        (lent («gone_at» .entry) (flight .entry) (tx .entry) (host .entry) («run_at» .entry) («run_len» .entry) (rx .entry))
+        (r .reply) (r .report) ⌝ }
 {
     let control = core.control;
     let tests = replies::refusals::date_refusal(cycle, control.last);

@@ -1,12 +1,10 @@
-// watch, for Rust and C: the core in plain numbers by value, the slots that it reads by pointer.
+// watch, for Rust and C: the core in plain numbers by value, the slots of the queues by pointer.
 use ffi::PlainCore;
 use ffi::answers::PlainAnswer;
 ghost use mathlib.Core.Path.{_≡_};
-ghost use lib.ListN.{length};
 ghost use Rattle.model.specs.Calls.{watch};
-ghost use Rattle.queue.specs.Cursors.{Held};
-ghost use Rattle.device.specs.Holds.{Arrays, Ok};
-ghost use Rattle.device.specs.Arms.{Ready};
+ghost use Rattle.device.specs.Holds.{Ok};
+ghost use Rattle.device.specs.Wholes.{lent};
 ghost use Rattle.calls.specs.Answers.{DoneWith};
 ghost use Rattle.ffi.specs.Plain.{coreOf};
 ghost use Rattle.ffi.specs.Replies.{plainDone};
@@ -16,15 +14,34 @@ ghost use Rattle.ffi.specs.Answers.{Plainly};
 pub extern "C" fn wondraxu_watch<'a>(
     core: PlainCore,
     gone_at: &'a [u64; 129],
+    flight: &'a [u8; 129],
+    tx: &'a [u8; 1152],
+    host: &'a [u8; 1024],
     run_at: &'a [u64; 64],
+    run_len: &'a [u64; 64],
+    rx: &'a [u8; 128],
     cycle: u64,
     on: bool,
 ) -> PlainAnswer
-    requires { ⌜ Ready (coreOf core) (now «gone_at») × Held 64 (coreOf core .runs) × (length (now «run_at») ≡ 64) ⌝ }
-    ensures { λ r. ⌜ ((a : Arrays) → a .goneAt ≡ now («gone_at» .entry) → a .runAt ≡ now («run_at» .entry) → Ok (coreOf core) a
-        → Plainly plainDone (λ c c′. DoneWith (watch cycle on) c a c′ a) core r) ⌝ }
+    requires { ⌜ Ok (coreOf core) (lent «gone_at» flight tx host «run_at» «run_len» rx) ⌝ }
+    ensures { λ r. ⌜ Plainly plainDone
+        (λ c c′. DoneWith (watch cycle on) c
+        (lent («gone_at» .entry) (flight .entry) (tx .entry) (host .entry) («run_at» .entry) («run_len» .entry) (rx .entry))
+        c′
+        (lent («gone_at» .entry) (flight .entry) (tx .entry) (host .entry) («run_at» .entry) («run_len» .entry) (rx .entry))) core r ⌝ }
 {
     let from = ffi::core_of(core);
-    let done = calls::watch::watch(from, gone_at, run_at, cycle, on);
+    let done = calls::watch::watch(
+        from,
+        gone_at,
+        flight,
+        tx,
+        host,
+        run_at,
+        run_len,
+        rx,
+        cycle,
+        on,
+    );
     ffi::answers::done_answer(done)
 }

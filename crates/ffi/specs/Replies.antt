@@ -9,6 +9,8 @@ use Rattle.model.specs.declared.Read.{Read}
 use Rattle.model.specs.declared.Write.{Write}
 use Rattle.model.specs.declared.Done.{Done}
 use Rattle.model.specs.declared.Taken.{Taken}
+use Rattle.calls.specs.declared.queries.HasLeft.{HasLeft}
+use Rattle.calls.specs.declared.queries.HostPending.{HostPending}
 use Rattle.ffi.specs.Plain.{plainDate}
 use Rattle.ffi.specs.Notes.{plainNotices}
 use Rattle.ffi.specs.declared.replies.PlainReply.{PlainReply}
@@ -41,6 +43,13 @@ plainDone (Done.Refused r) = refusedReply r
 unfoldable pub plainTaken : Taken → PlainReply
 plainTaken (Taken.Bytes n) = carriedOut true n
 plainTaken (Taken.Refused r) = refusedReply r
+
+-- has_left and host_pending bring their number with them
+abbrev pub plainLeft : HasLeft → PlainReply
+plainLeft r = record { number = r .number; holds = r .«has_left»; value = 0 }
+
+abbrev pub plainPending : HostPending → PlainReply
+plainPending r = record { number = r .number; holds = true; value = r .count }
 
 unfoldable pub plainReport : Report → PlainReport
 plainReport r = record {

@@ -2,6 +2,8 @@
 
 use crate::PlainDate;
 use crate::notices::PlainNotice;
+use calls::queries::HasLeft;
+use calls::queries::HostPending;
 use model::Done;
 use model::Read;
 use model::Refusal;
@@ -11,16 +13,16 @@ use model::Taken;
 use model::Write;
 ghost use mathlib.Core.Path.{_≡_};
 ghost use Rattle.model.specs.Replies.{number};
-ghost use Rattle.ffi.specs.Replies.{plainSetUp, plainRead, plainWrite, plainDone, plainTaken};
+ghost use Rattle.ffi.specs.Replies.{plainSetUp, plainRead, plainWrite, plainDone, plainTaken, plainLeft, plainPending};
 ghost use Rattle.ffi.specs.Replies.{refusedReply, carriedOut, plainReport};
 
 #[repr(C)]
 pub struct PlainReply {
     // 0 for done, or document 01's number of a refusal.
     pub number: u32,
-    // read: there is a value. write: accepted. Every other call: carried out.
+    // read: there is a value. write: accepted. has_left: a byte has left. Every other call: carried out.
     pub holds: bool,
-    // read: the value. take_tx and take_written: how many bytes. Every other call: 0.
+    // read: the value. take_tx, take_written and host_pending: how many bytes. Every other call: 0.
     pub value: u64,
 }
 
@@ -116,6 +118,27 @@ pub fn taken_reply(reply: Taken) -> PlainReply
     match reply {
         Taken::Bytes(count) => carried_out(true, count as u64),
         Taken::Refused(refusal) => refusal_reply(refusal),
+    }
+}
+
+// An undated call has its number from the call over parts.
+pub fn left_reply(left: HasLeft) -> PlainReply
+    ensures { λ r. ⌜ r ≡ plainLeft left ⌝ }
+{
+    PlainReply {
+        number: left.number,
+        holds: left.has_left,
+        value: 0,
+    }
+}
+
+pub fn pending_reply(pending: HostPending) -> PlainReply
+    ensures { λ r. ⌜ r ≡ plainPending pending ⌝ }
+{
+    PlainReply {
+        number: pending.number,
+        holds: true,
+        value: pending.count as u64,
     }
 }
 

@@ -1,16 +1,17 @@
 -- take_written's work: the bytes that left and those in flight handed out, without settling. Assumes nothing.
 use mathlib.Core.Path.{_≡_, refl, sym, ap, _∙_}
 use mathlib.Core.List.{List, _++_, map, append-assoc}
-use Prim.Native.Nat.{ℕ, _+_}
+use Prim.Native.Nat.{ℕ, _+_, _≤_}
 use native.Mathlib.Omega.{arith}
 use lib.ListN.{length, drop, length-append}
 use Rattle.model.specs.State.{Sent}
 use Rattle.model.specs.Replies.{noReport, contents}
+use Rattle.model.specs.Tests.{sentLimit}
 use Rattle.model.specs.Calls.{undated, filled, written, takeWrittenWork}
 use Rattle.model.specs.declared.Taken.{Taken}
 use Rattle.queue.specs.Cursors.{slotOf, elems, empty}
 use Rattle.queue.specs.Laws.{elems-length, map-elems, empty-held, empty-elems}
-use Rattle.device.specs.Holds.{Arrays, sentAt, txOf, abs, Shape}
+use Rattle.device.specs.Holds.{Arrays, sentAt, txOf, abs, Shape, Ok}
 use Rattle.device.specs.declared.Core.{Core}
 use Rattle.host.specs.Takes.{TakeWorks, emptied-shape}
 
@@ -19,6 +20,16 @@ abbrev pub Filled : Core → List ℕ → List ℕ → List ℕ → ℕ → List
 Filled c flight tx lent n out =
     (n ≡ c .tx .count + c .flight .count) × (out ≡ txOf tx (c .tx) ++ elems (slotOf flight 0) 129 (c .flight)
     ++ drop (c .tx .count + c .flight .count) lent)
+
+-- they fit a buffer that is not too short
+pub sent-few : (c : Core) (a : Arrays) → Ok c a → c .tx .count + c .flight .count ≤ sentLimit
+sent-few c a ok =
+    omega (
+      arith,
+      ok .within .sent,
+      elems-length (slotOf (a .tx) 0) 1152 (c .tx),
+      elems-length (sentAt (a .goneAt) (a .flight)) 129 (c .flight),
+    )
 
 -- a core whose bytes have all been taken
 abbrev pub emptiedAll : Core → Core

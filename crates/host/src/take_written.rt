@@ -10,7 +10,8 @@ ghost use lib.ListN.{length};
 ghost use Rattle.model.specs.Tests.{sentLimit};
 ghost use Rattle.model.specs.Calls.{takeWritten};
 ghost use Rattle.queue.specs.Cursors.{Held};
-ghost use Rattle.device.specs.Holds.{Arrays, Ok};
+ghost use Rattle.device.specs.Holds.{Ok};
+ghost use Rattle.device.specs.Wholes.{lent};
 ghost use Rattle.host.specs.Takes.{TakesWith};
 ghost use Rattle.host.specs.TakesWritten.{Filled};
 
@@ -25,17 +26,22 @@ fn fill<'a>(core: Core, flight: &'a [u8; 129], tx: &'a [u8; 1152], out: &'a mut 
     left + flying
 }
 
-// Of the arrays it reads the bytes in flight and those that left; the answer is the same whatever stands in the others.
 pub fn take_written<'a>(
     core: Core,
+    gone_at: &'a [u64; 129],
     flight: &'a [u8; 129],
     tx: &'a [u8; 1152],
+    host: &'a [u8; 1024],
+    run_at: &'a [u64; 64],
+    run_len: &'a [u64; 64],
+    rx: &'a [u8; 128],
     out: &'a mut [u8],
 ) -> TakeCore
-    requires { ⌜ Held 129 (core .flight) × Held 1152 (core .tx) × (length (now flight) ≡ 129) × (length (now tx) ≡ 1152)
-        × (core .tx .count + core .flight .count ≤ sentLimit) ⌝ }
-    ensures { λ r. ⌜ ((a : Arrays) → a .flight ≡ now (flight .entry) → a .tx ≡ now (tx .entry) → Ok core a
-        → TakesWith (takeWritten (now (out .entry))) core a (r .core) a (r .reply) (r .report) (now (out .exit))) ⌝ }
+    requires { ⌜ Ok core (lent «gone_at» flight tx host «run_at» «run_len» rx) ⌝ }
+    ensures { λ r. ⌜ TakesWith (takeWritten (now (out .entry))) core
+        (lent («gone_at» .entry) (flight .entry) (tx .entry) (host .entry) («run_at» .entry) («run_len» .entry) (rx .entry)) (r .core)
+        (lent («gone_at» .entry) (flight .entry) (tx .entry) (host .entry) («run_at» .entry) («run_len» .entry) (rx .entry))
+        (r .reply) (r .report) (now (out .exit)) ⌝ }
 {
     let tests = replies::refusals::written_refusal(out.len());
     match tests {

@@ -1,6 +1,7 @@
 -- A call as a caller makes it, and its whole answer. Assumes nothing.
 use Prim.Native.Nat.{ℕ}
 use mathlib.Core.Bool.{Bool}
+use mathlib.Core.Option.{Option, none, some}
 use mathlib.Core.List.{List}
 use Rattle.model.specs.Replies.{ReadOf, Take}
 use Rattle.model.specs.declared.Write.{Write}
@@ -19,6 +20,21 @@ pub data Call (R X H L : Type 0) : Type 0 where
   takeTx : ℕ → List L → Call R X H L
   takeWritten : List L → Call R X H L
   hasLeft hostPending : Call R X H L
+
+-- now of a dated call; has_left, host_pending and take_written are undated
+unfoldable pub dateOf : {R X H L : Type 0} → Call R X H L → Option ℕ
+dateOf (Call.read now r) = some now
+dateOf (Call.write now x) = some now
+dateOf (Call.receive now at bs) = some now
+dateOf (Call.wake now) = some now
+dateOf (Call.reset now) = some now
+dateOf (Call.powerDown now) = some now
+dateOf (Call.watch now b) = some now
+dateOf (Call.clockChange now p) = some now
+dateOf (Call.takeTx now lent) = some now
+dateOf (Call.takeWritten lent) = none
+dateOf Call.hasLeft = none
+dateOf Call.hostPending = none
 
 -- a write names an offset and a 32-bit word
 pub record Written : Type 0 where

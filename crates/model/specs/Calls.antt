@@ -1,4 +1,4 @@
--- Every call: its tests, its work, its whole reply and the next state. Assumes nothing.
+-- Every call: its tests, its settlings, its work, its whole reply and the next state. Assumes nothing.
 use Prim.Native.Nat.{ℕ, _+_, _%_}
 use mathlib.Core.Bool.{Bool}
 use mathlib.Core.Option.{Option, none, some}
@@ -10,7 +10,7 @@ use Rattle.model.specs.Numbers.{choose}
 use Rattle.model.specs.State.{Run, Uart, withIntRaw, withMistimed, withIdleSince, withWords, withLine, withPeriod, withLast, withWake}
 use Rattle.model.specs.State.{withWatched, withPoweredDownAt, withControl, withInFlight, withTx, withHost, withRx}
 use Rattle.model.specs.Events.{Event, passesIn, overflowsIn}
-use Rattle.model.specs.Settle.{Settled, found, settle, pending, levels}
+use Rattle.model.specs.Settle.{Settled, found, ended, settle, pending, levels}
 use Rattle.model.specs.Arm.{called, arm}
 use Rattle.model.specs.Replies.{noReport, report, ReadOf, refused, Take}
 use Rattle.model.specs.Map.{Register, isFifo, registerOf}
@@ -19,6 +19,7 @@ use Rattle.model.specs.Tests.{transmitFull, hostFull, runsFull, periodTo
 use Rattle.model.specs.declared.Date.{Date}
 use Rattle.model.specs.declared.Source.{Source}
 use Rattle.model.specs.declared.Line.{Line}
+use Rattle.model.specs.declared.Control.{Control}
 use Rattle.model.specs.declared.Refusal.{Refusal}
 use Rattle.model.specs.declared.Refusal.the-variants.{TransmitFull, HostFull, RunsFull, PeriodTooLong, BufferTooShort}
 use Rattle.model.specs.declared.Report.{Report}
@@ -35,6 +36,40 @@ pub record Outcome (R H W : Type 0) : Type 0 where
   -- what its settlings found
   pub events : List (Event H W)
 
+-- a settling: its cycle, and the state that it begins with
+pub record Settling (H W : Type 0) : Type 0 where
+  pub now : ℕ
+  pub begins : Uart H W
+
+-- what a call is made of: the first of its own tests that refuses it, and its reply then; its settlings; and its work on the state that
+-- they leave
+pub record Plan (R H W : Type 0) : Type 0 where
+  pub test : Option Refusal
+  pub refuses : Refusal → R
+  pub settlings : List (Settling H W)
+  pub work : Uart H W → Access R H W
+
+module _ {H W : Type 0} where
+  -- a dated call that is carried out moves the last date
+  unfoldable pub dated : ℕ → Uart H W → Uart H W
+  dated now u = withControl (withLast now (u .control)) u
+
+  abbrev pub settleAt : ℕ → Uart H W → Settled H W
+  settleAt now u = settle now (dated now u)
+
+  abbrev pub settles : Settling H W → Settled H W
+  settles s = settle (s .now) (s .begins)
+
+  -- one settling after the other: what each finds, and the state that the last one leaves
+  abbrev pub settledBy : List (Settling H W) → Settled H W → Settled H W
+  settledBy [] t = t
+  settledBy (s ∷ ss) t = settledBy ss (found (t .events) (settles s))
+
+-- tests 2 and 3 come first in a dated call
+abbrev pub refusalBy : Option ℕ → Option Refusal → Control → Option Refusal
+refusalBy none test c = test
+refusalBy (some now) test c = refuseDate now c test
+
 module _ {R H W : Type 0} where
   -- a refusal returns only its number; the state stays
   unfoldable pub refusing : R → Uart H W → Outcome R H W
@@ -44,10 +79,6 @@ module _ {R H W : Type 0} where
   unfoldable pub unless : Option Refusal → (Refusal → R) → (Uart H W → Outcome R H W) → Uart H W → Outcome R H W
   unless none reply work u = work u
   unless (some r) reply work u = refusing (reply r) u
-
-  -- a call that does not settle makes no pass
-  unfoldable pub unsettled : R → Uart H W → Outcome R H W
-  unsettled r u = record { reply = r; report = report 0 0 [] u; state = u; events = [] }
 
   -- settled, and then the work
   unfoldable pub afterSettling : Settled H W → (Uart H W → Access R H W) → Outcome R H W
@@ -59,8 +90,17 @@ module _ {R H W : Type 0} where
   }
 
   -- an undated call answers its own result alone
-  unfoldable pub undated : R → Uart H W → Outcome R H W
-  undated r u = record { reply = r; report = noReport; state = u; events = [] }
+  unfoldable pub undated : Access R H W → Outcome R H W
+  undated a = record { reply = a .reply; report = noReport; state = a .state; events = [] }
+
+  -- where no test refuses it
+  unfoldable pub carried : Option ℕ → Plan R H W → Uart H W → Outcome R H W
+  carried none p u = undated (p .work u)
+  carried (some now) p u = afterSettling (settledBy (p .settlings) (ended (dated now u))) (p .work)
+
+  -- a call with its date, if it is dated
+  unfoldable pub outcome : Option ℕ → Plan R H W → Uart H W → Outcome R H W
+  outcome date p u = unless (refusalBy date (p .test) (u .control)) (p .refuses) (carried date p) u
 
 -- ---- parts of calls that hold no state
 
@@ -95,38 +135,37 @@ unfoldable pub notTaken : {W L : Type 0} → List L → Refusal → Take W L
 notTaken lent r = record { taken = Taken.Refused r; front = []; rest = lent }
 
 module _ {H W : Type 0} where
-  -- a dated call that is carried out moves the last date
-  unfoldable pub dated : ℕ → Uart H W → Uart H W
-  dated now u = withControl (withLast now (u .control)) u
-
-  unfoldable pub settleAt : ℕ → Uart H W → Settled H W
-  settleAt now u = settle now (dated now u)
-
   unfoldable pub quiet : {R : Type 0} → R → Uart H W → Access R H W
   quiet r u = record { reply = r; notes = []; state = u }
 
+  -- a call that settles once
+  abbrev pub once : ℕ → Uart H W → List (Settling H W)
+  once now u = record { now = now; begins = dated now u } ∷ []
+
+  -- one that answers done
+  abbrev pub doing : Option Refusal → List (Settling H W) → (Uart H W → Uart H W) → Plan Done H W
+  doing test settlings change =
+      record { test = test; refuses = Done.Refused; settlings = settlings; work = λ s. quiet Done.Done (change s) }
+
+  -- one that is never refused and changes nothing
+  abbrev pub asking : {R : Type 0} → (Uart H W → R) → Uart H W → Plan R H W
+  asking look u = record { test = none; refuses = λ r. look u; settlings = []; work = λ s. quiet (look s) s }
+
   -- ---- register access
 
-  unfoldable pub readWork : ℕ → Register → Uart H W → Outcome (ReadOf H) H W
-  readWork now p u = afterSettling (settleAt now u) (readAt p)
+  unfoldable pub readPlaced : ℕ → Register → Uart H W → Plan (ReadOf H) H W
+  readPlaced now p u = record { test = none; refuses = refused; settlings = once now u; work = readAt p }
 
-  unfoldable pub readPlaced : ℕ → Register → Uart H W → Outcome (ReadOf H) H W
-  readPlaced now p u = unless (refuseDate now (u .control) none) refused (readWork now p) u
+  abbrev pub writing : ℕ → Option Refusal → (Uart H W → Access Write H W) → Uart H W → Plan Write H W
+  writing now test access u =
+      record { test = test; refuses = Write.Refused; settlings = once now u; work = λ s. concluded (access s) }
 
-  unfoldable pub writeWork : ℕ → Register → ℕ → Uart H W → Outcome Write H W
-  writeWork now p v u = afterSettling (settleAt now u) (λ s. concluded (writeRegister p v s))
-
-  unfoldable pub writePlaced : ℕ → Register → ℕ → Uart H W → Outcome Write H W
-  writePlaced now p v u = unless (refuseDate now (u .control) none) Write.Refused (writeWork now p v) u
-
-  unfoldable pub sendWork : ℕ → W → Uart H W → Outcome Write H W
-  sendWork now b u = afterSettling (settleAt now u) (λ s. concluded (sendByte now b s))
+  unfoldable pub writePlaced : ℕ → Register → ℕ → Uart H W → Plan Write H W
+  writePlaced now p v u = writing now none (writeRegister p v) u
 
   -- a write to FIFO
-  unfoldable pub send : ℕ → W → Uart H W → Outcome Write H W
-  send now b u =
-      unless (refuseDate now (u .control) (refuseIf (transmitFull (length (u .tx)) (length (u .inFlight))) TransmitFull none))
-      Write.Refused (sendWork now b) u
+  unfoldable pub send : ℕ → W → Uart H W → Plan Write H W
+  send now b u = writing now (refuseIf (transmitFull (length (u .tx)) (length (u .inFlight))) TransmitFull none) (sendByte now b) u
 
   -- ---- the host
 
@@ -135,56 +174,38 @@ module _ {H W : Type 0} where
   handOver date [] u = u
   handOver date (b ∷ bs) u = arm (withHost (u .host ++ (b ∷ bs)) (joined date (length (b ∷ bs)) (u .hostRuns)) u)
 
-  unfoldable pub receiveWork : ℕ → ℕ → List H → Uart H W → Outcome Done H W
-  receiveWork now at bs u = afterSettling (settleAt now u) (λ s. quiet Done.Done (handOver (hostDate now at) bs s))
-
-  unfoldable pub receive : ℕ → ℕ → List H → Uart H W → Outcome Done H W
+  unfoldable pub receive : ℕ → ℕ → List H → Uart H W → Plan Done H W
   receive now at bs u =
-      unless (refuseDate now (u .control)
+      doing
       (refuseIf (hostFull (length (u .host)) (length bs)) HostFull
-      (refuseIf (runsFull (length bs) (length (u .hostRuns)) (lastDate (u .hostRuns)) (hostDate now at)) RunsFull none)))
-      Done.Refused (receiveWork now at bs) u
+      (refuseIf (runsFull (length bs) (length (u .hostRuns)) (lastDate (u .hostRuns)) (hostDate now at)) RunsFull none))
+      (once now u) (handOver (hostDate now at) bs)
 
-  unfoldable pub hostPending : Uart H W → Outcome ℕ H W
-  hostPending u = undated (pending u) u
+  unfoldable pub hostPending : Uart H W → Plan ℕ H W
+  hostPending u = asking pending u
 
   -- ---- wake, watch, clock, power-down, reset
 
   -- only a wake clears the Deadline
-  unfoldable pub wakeWork : ℕ → Uart H W → Outcome Done H W
-  wakeWork now u =
-      afterSettling (settleAt now (withControl (withWake (called now (u .control .wake)) (u .control)) u)) (λ s. quiet Done.Done (arm s))
-
-  unfoldable pub wake : ℕ → Uart H W → Outcome Done H W
-  wake now u = unless (refuseDate now (u .control) none) Done.Refused (wakeWork now) u
+  unfoldable pub wake : ℕ → Uart H W → Plan Done H W
+  wake now u = doing none (once now (withControl (withWake (called now (u .control .wake)) (u .control)) u)) arm
 
   -- watching arms without settling
-  unfoldable pub watchWork : ℕ → Bool → Uart H W → Outcome Done H W
-  watchWork now b u = unsettled Done.Done (arm (withControl (withWatched b (withLast now (u .control))) u))
-
-  unfoldable pub watch : ℕ → Bool → Uart H W → Outcome Done H W
-  watch now b u = unless (refuseDate now (u .control) none) Done.Refused (watchWork now b) u
+  unfoldable pub watch : ℕ → Bool → Uart H W → Plan Done H W
+  watch now b u = doing none [] (λ s. arm (withControl (withWatched b (s .control)) s))
 
   -- power-down neither settles nor arms
-  unfoldable pub powerDownWork : ℕ → Uart H W → Outcome Done H W
-  powerDownWork now u = unsettled Done.Done (withControl (withPoweredDownAt (Date.At (subcycles now)) (withLast now (u .control))) u)
-
-  unfoldable pub powerDown : ℕ → Uart H W → Outcome Done H W
-  powerDown now u = unless (refuseDate now (u .control) none) Done.Refused (powerDownWork now) u
+  unfoldable pub powerDown : ℕ → Uart H W → Plan Done H W
+  powerDown now u = doing none [] (λ s. withControl (withPoweredDownAt (Date.At (subcycles now)) (s .control)) s)
 
   unfoldable pub clocked : ℕ → Uart H W → Uart H W
   clocked period u = withControl (withPeriod (periodOf period) (u .control)) u
 
-  -- settled once, set the period and settle again
-  unfoldable pub reclocked : ℕ → ℕ → Settled H W → Settled H W
-  reclocked now period t = found (t .events) (settle now (clocked period (t .state)))
-
-  unfoldable pub clockWork : ℕ → ℕ → Uart H W → Outcome Done H W
-  clockWork now period u = afterSettling (reclocked now period (settleAt now u)) (λ s. quiet Done.Done (arm s))
-
-  unfoldable pub clockChange : ℕ → ℕ → Uart H W → Outcome Done H W
+  -- settled with the old period, and again with the new one
+  unfoldable pub clockChange : ℕ → ℕ → Uart H W → Plan Done H W
   clockChange now period u =
-      unless (refuseDate now (u .control) (refuseIf (periodTooLong period) PeriodTooLong none)) Done.Refused (clockWork now period) u
+      doing (refuseIf (periodTooLong period) PeriodTooLong none)
+      (once now u ++ (record { now = now; begins = clocked period (settle now (dated now u) .state) } ∷ [])) arm
 
   -- stored words as at reset; bytes in flight and received are dropped, the others stay
   unfoldable pub cleared : Uart H W → Uart H W
@@ -192,46 +213,42 @@ module _ {H W : Type 0} where
       withRx [] (withInFlight [] (withControl (withWords (u .map .reset) (withLine (clearedLine (u .control .line)) (u .control))) u))
 
   -- a reset first ends a power-down and settles
-  unfoldable pub resetWork : ℕ → Uart H W → Outcome Done H W
-  resetWork now u =
-      afterSettling (settleAt now (withControl (withPoweredDownAt Date.None (u .control)) u))
-      (λ s. quiet Done.Done (arm (levels (cleared s))))
-
-  unfoldable pub reset : ℕ → Uart H W → Outcome Done H W
-  reset now u = unless (refuseDate now (u .control) none) Done.Refused (resetWork now) u
+  unfoldable pub reset : ℕ → Uart H W → Plan Done H W
+  reset now u = doing none (once now (withControl (withPoweredDownAt Date.None (u .control)) u)) (λ s. arm (levels (cleared s)))
 
   -- ---- taking what was sent
 
-  unfoldable pub hasLeft : Uart H W → Outcome Bool H W
-  hasLeft u = undated (ltb 0 (length (u .tx))) u
+  unfoldable pub hasLeft : Uart H W → Plan Bool H W
+  hasLeft u = asking (λ s. ltb 0 (length (s .tx))) u
 
   -- all that was written: the bytes that left, and then those in flight. It does not settle
   unfoldable pub written : Uart H W → List W
   written u = u .tx ++ map (λ s. s .byte) (u .inFlight)
 
   module _ {L : Type 0} where
-    unfoldable pub takeTxWork : ℕ → List L → Uart H W → Outcome (Take W L) H W
-    takeTxWork now lent u = afterSettling (settleAt now u) (λ s. quiet (filled (s .tx) lent) (withTx [] s))
+    abbrev pub taking : List L → List (Settling H W) → (Uart H W → Access (Take W L) H W) → Plan (Take W L) H W
+    taking lent settlings work =
+        record {
+          test = refuseIf (bufferTooShort (length lent)) BufferTooShort none;
+          refuses = notTaken lent;
+          settlings = settlings;
+          work = work;
+        }
 
-    unfoldable pub takeTx : ℕ → List L → Uart H W → Outcome (Take W L) H W
-    takeTx now lent u =
-        unless (refuseDate now (u .control) (refuseIf (bufferTooShort (length lent)) BufferTooShort none)) (notTaken lent)
-        (takeTxWork now lent) u
+    unfoldable pub takeTx : ℕ → List L → Uart H W → Plan (Take W L) H W
+    takeTx now lent u = taking lent (once now u) (λ s. quiet (filled (s .tx) lent) (withTx [] s))
 
-    unfoldable pub takeWrittenWork : List L → Uart H W → Outcome (Take W L) H W
-    takeWrittenWork lent u = undated (filled (written u) lent) (withTx [] (withInFlight [] u))
-
-    unfoldable pub takeWritten : List L → Uart H W → Outcome (Take W L) H W
-    takeWritten lent u = unless (refuseIf (bufferTooShort (length lent)) BufferTooShort none) (notTaken lent) (takeWrittenWork lent) u
+    unfoldable pub takeWritten : List L → Uart H W → Plan (Take W L) H W
+    takeWritten lent u = taking lent [] (λ s. quiet (filled (written s) lent) (withTx [] (withInFlight [] s)))
 
 -- ---- register access as a caller makes it: the offset becomes a register first
 
-unfoldable pub read : {H W : Type 0} → ℕ → ℕ → Uart H W → Outcome (ReadOf H) H W
+unfoldable pub read : {H W : Type 0} → ℕ → ℕ → Uart H W → Plan (ReadOf H) H W
 read now offset u = readPlaced now (registerOf (u .map .offsets) offset) u
 
 -- a FIFO write's byte is its word's low 8 bits
-unfoldable pub writeAt : {H : Type 0} → ℕ → Register → ℕ → Uart H ℕ → Outcome Write H ℕ
+unfoldable pub writeAt : {H : Type 0} → ℕ → Register → ℕ → Uart H ℕ → Plan Write H ℕ
 writeAt now p v u = choose (isFifo p) (send now (v % 256) u) (writePlaced now p v u)
 
-unfoldable pub write : {H : Type 0} → ℕ → ℕ → ℕ → Uart H ℕ → Outcome Write H ℕ
+unfoldable pub write : {H : Type 0} → ℕ → ℕ → ℕ → Uart H ℕ → Plan Write H ℕ
 write now offset v u = writeAt now (registerOf (u .map .offsets) offset) v u

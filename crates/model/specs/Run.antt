@@ -4,10 +4,11 @@ use mathlib.Core.Bool.{Bool}
 use mathlib.Core.List.{List, [], _∷_, _++_}
 use Rattle.model.specs.State.{Uart}
 use Rattle.model.specs.Events.{Event}
-use Rattle.model.specs.Replies.{ReadOf, readNumber, writeNumber, doneNumber, takenNumber}
+use Rattle.model.specs.Replies.{ReadOf, readNumber, writeNumber, doneNumber, takenNumber, leftNumber, pendingNumber}
 use Rattle.model.specs.Calls
-use Rattle.model.specs.Calls.{Outcome}
-use Rattle.model.specs.Call.{Call, Written, Request, Reply, reads, writes, does, takes, left, pends, Answer}
+use Rattle.model.specs.Registers.{gives}
+use Rattle.model.specs.Calls.{Outcome, Plan, outcome}
+use Rattle.model.specs.Call.{Call, dateOf, Written, Request, Reply, reads, writes, does, takes, left, pends, Answer}
 use Rattle.model.specs.declared.Write.{Write}
 
 -- document 01's number of an answer, 0 for done
@@ -16,40 +17,55 @@ numberOf (reads r) = readNumber r
 numberOf (writes r) = writeNumber r
 numberOf (does r) = doneNumber r
 numberOf (takes t) = takenNumber (t .taken)
-numberOf (left b) = 0
-numberOf (pends n) = 0
+numberOf (left b) = leftNumber b
+numberOf (pends n) = pendingNumber n
 
 pub record Step (H W L : Type 0) : Type 0 where
   pub answer : Answer H W L
   pub state : Uart H W
   pub events : List (Event H W)
 
-unfoldable pub answering : {R H W L : Type 0} → (R → Reply H W L) → Outcome R H W → Step H W L
-answering as-reply o =
-    record { answer = record { reply = as-reply (o .reply); report = o .report }; state = o .state; events = o .events }
+unfoldable pub stepped : {H W L : Type 0} → Outcome (Reply H W L) H W → Step H W L
+stepped o = record { answer = record { reply = o .reply; report = o .report }; state = o .state; events = o .events }
 
--- a call, given what a read and a write do
-unfoldable pub stepBy : {R X H W L : Type 0} → (ℕ → R → Uart H W → Outcome (ReadOf H) H W) → (ℕ → X → Uart H W → Outcome Write H W)
+-- the same call, its own result as a reply
+unfoldable pub replying : {R H W L : Type 0} → (R → Reply H W L) → Plan R H W → Plan (Reply H W L) H W
+replying as-reply p = record {
+  test = p .test;
+  refuses = λ r. as-reply (p .refuses r);
+  settlings = p .settlings;
+  work = λ s. gives (p .work s .notes) (p .work s .state) (as-reply (p .work s .reply));
+}
+
+-- the plan of a call, given those of reads and writes
+unfoldable pub planBy : {R X H W L : Type 0} → (ℕ → R → Uart H W → Plan (ReadOf H) H W) → (ℕ → X → Uart H W → Plan Write H W)
+    → Call R X H L → Uart H W → Plan (Reply H W L) H W
+planBy rd wr (Call.read now r) u = replying reads (rd now r u)
+planBy rd wr (Call.write now x) u = replying writes (wr now x u)
+planBy rd wr (Call.receive now at bs) u = replying does (Calls.receive now at bs u)
+planBy rd wr (Call.wake now) u = replying does (Calls.wake now u)
+planBy rd wr (Call.reset now) u = replying does (Calls.reset now u)
+planBy rd wr (Call.powerDown now) u = replying does (Calls.powerDown now u)
+planBy rd wr (Call.watch now b) u = replying does (Calls.watch now b u)
+planBy rd wr (Call.clockChange now p) u = replying does (Calls.clockChange now p u)
+planBy rd wr (Call.takeTx now lent) u = replying takes (Calls.takeTx now lent u)
+planBy rd wr (Call.takeWritten lent) u = replying takes (Calls.takeWritten lent u)
+planBy rd wr Call.hasLeft u = replying left (Calls.hasLeft u)
+planBy rd wr Call.hostPending u = replying pends (Calls.hostPending u)
+
+unfoldable pub stepBy : {R X H W L : Type 0} → (ℕ → R → Uart H W → Plan (ReadOf H) H W) → (ℕ → X → Uart H W → Plan Write H W)
     → Call R X H L → Uart H W → Step H W L
-stepBy rd wr (Call.read now r) u = answering reads (rd now r u)
-stepBy rd wr (Call.write now x) u = answering writes (wr now x u)
-stepBy rd wr (Call.receive now at bs) u = answering does (Calls.receive now at bs u)
-stepBy rd wr (Call.wake now) u = answering does (Calls.wake now u)
-stepBy rd wr (Call.reset now) u = answering does (Calls.reset now u)
-stepBy rd wr (Call.powerDown now) u = answering does (Calls.powerDown now u)
-stepBy rd wr (Call.watch now b) u = answering does (Calls.watch now b u)
-stepBy rd wr (Call.clockChange now p) u = answering does (Calls.clockChange now p u)
-stepBy rd wr (Call.takeTx now lent) u = answering takes (Calls.takeTx now lent u)
-stepBy rd wr (Call.takeWritten lent) u = answering takes (Calls.takeWritten lent u)
-stepBy rd wr Call.hasLeft u = answering left (Calls.hasLeft u)
-stepBy rd wr Call.hostPending u = answering pends (Calls.hostPending u)
+stepBy rd wr c u = stepped (outcome (dateOf c) (planBy rd wr c u) u)
 
-unfoldable pub writing : ℕ → Written → Uart ℕ ℕ → Outcome Write ℕ ℕ
+unfoldable pub writing : ℕ → Written → Uart ℕ ℕ → Plan Write ℕ ℕ
 writing now x u = Calls.write now (x .offset) (x .value) u
 
 -- a call as a caller makes it, with bytes that are numbers
+unfoldable pub plan : Request → Uart ℕ ℕ → Plan (Reply ℕ ℕ ℕ) ℕ ℕ
+plan c u = planBy Calls.read writing c u
+
 unfoldable pub step : Request → Uart ℕ ℕ → Step ℕ ℕ ℕ
-step c u = stepBy Calls.read writing c u
+step c u = stepped (outcome (dateOf c) (plan c u) u)
 
 -- all answers of a list of calls
 unfoldable pub runBy : {C H W L : Type 0} → (C → Uart H W → Step H W L) → List C → Uart H W → List (Answer H W L)

@@ -1,6 +1,5 @@
 -- A settling in two steps is one settling: what an earlier look changes, and where.
 pub mod Raises
-pub mod Among
 pub mod Dressed
 pub mod Departures
 pub mod Levels

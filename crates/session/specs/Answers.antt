@@ -17,6 +17,9 @@ use Rattle.model.specs.declared.Refusal.{Refusal}
 use Rattle.model.specs.declared.Report.{Report}
 use Rattle.model.specs.declared.SetUp.{SetUp}
 use Rattle.calls.specs.Answers.{Answers}
+use Rattle.calls.specs.Undated.{leftReply, pendingReply}
+use Rattle.calls.specs.declared.queries.HasLeft.{HasLeft}
+use Rattle.calls.specs.declared.queries.HostPending.{HostPending}
 use Rattle.uart.specs.declared.Uart.{Uart}
 use Rattle.uart.specs.Whole.{arraysOf, meaning, Good, SetsUp}
 use Rattle.answers.specs.Replies.{setUpText, hasLeftText, hostPendingText}
@@ -112,12 +115,14 @@ module _ {offsets resets : List ℕ} {u : Uart} {reply : SetUp} (made : SetsUp o
 -- ---- the two calls that change nothing
 
 module _ (u : Uart) (good : Good u) {before : List ℕ} {at : ℕ} {after : List ℕ} {place : ℕ} {r : Session} (e : r ≡ setUp u place) where
-  pub left-gives : {b : Bool} → b ≡ hasLeft (meaning u) .reply → Put (hasLeftText b) before at after place
+  pub left-gives : {a : HasLeft} → a ≡ leftReply (hasLeft (meaning u) .reply) → Put (hasLeftText (a .«has_left»)) before at after place
       → Gives (calls Call.hasLeft [] (some (meaning u))) before at after r
   unfolding step stepBy answering hasLeft undated
-  left-gives b p = in-use (calls Call.hasLeft [] (some (meaning u))) (ap hasLeftText b) refl good (used p e)
+  left-gives a p =
+      in-use (calls Call.hasLeft [] (some (meaning u))) (ap (λ (x : HasLeft). hasLeftText (x .«has_left»)) a) refl good (used p e)
 
-  pub pending-gives : {n : ℕ} → n ≡ hostPending (meaning u) .reply → Put (hostPendingText n) before at after place
-      → Gives (calls Call.hostPending [] (some (meaning u))) before at after r
+  pub pending-gives : {a : HostPending} → a ≡ pendingReply (hostPending (meaning u) .reply)
+      → Put (hostPendingText (a .count)) before at after place → Gives (calls Call.hostPending [] (some (meaning u))) before at after r
   unfolding step stepBy answering hostPending undated
-  pending-gives n p = in-use (calls Call.hostPending [] (some (meaning u))) (ap hostPendingText n) refl good (used p e)
+  pending-gives a p =
+      in-use (calls Call.hostPending [] (some (meaning u))) (ap (λ (x : HostPending). hostPendingText (x .count)) a) refl good (used p e)

@@ -72,7 +72,8 @@ fn has_left(uart: Uart, at: usize, out: &mut [u8]) -> Session
     requires { ⌜ Good uart ⌝ }
     ensures { λ r. ⌜ Gives (calls Call.hasLeft [] (some (meaning uart))) (now (out .entry)) at (now (out .exit)) r ⌝ }
 {
-    let next = put_has_left(out, at, uart.has_left());
+    let answer = uart.has_left();
+    let next = put_has_left(out, at, answer.has_left);
     in_use(uart, next)
 }
 
@@ -81,7 +82,8 @@ fn host_pending(uart: Uart, at: usize, out: &mut [u8]) -> Session
     requires { ⌜ Wide (now out) at ⌝ }
     ensures { λ r. ⌜ Gives (calls Call.hostPending [] (some (meaning uart))) (now (out .entry)) at (now (out .exit)) r ⌝ }
 {
-    let next = put_host_pending(out, at, uart.host_pending());
+    let answer = uart.host_pending();
+    let next = put_host_pending(out, at, answer.count);
     in_use(uart, next)
 }
 

@@ -1,7 +1,7 @@
 // The APB clock by its period in cycles. Carried over from inkemu's clock.rs and changed: the CPU's clock is left out.
 ghost use mathlib.Core.Path.{_≡_};
 ghost use Rattle.model.specs.Calls.{periodOf};
-ghost use Rattle.model.specs.SetUp.{powerOnPeriod};
+ghost use Rattle.model.specs.SetUp.{powerOn};
 
 pub struct Clock {
     // Cycles in one APB clock cycle; at least 1.
@@ -17,7 +17,7 @@ impl Clock {
 
     // The period of POWER_ON, in cycles.
     pub fn power_on_period() -> u64
-        ensures { λ r. ⌜ r ≡ powerOnPeriod ⌝ }
+        ensures { λ r. ⌜ r ≡ powerOn ⌝ }
     {
         Clock::POWER_ON.apb_period
     }

@@ -5,12 +5,12 @@
 use mathlib.Core.Path.{_≡_, sym, subst, _∙_}
 use mathlib.Core.Bool.{false}
 use mathlib.Core.List.{List}
-use Prim.Native.Nat.{ℕ, _+_, _≤_}
+use Prim.Native.Nat.{ℕ}
 use native.Mathlib.Omega.{arith}
 use lib.ListN.{length, replicate}
 use Rattle.model.specs.State
 use Rattle.model.specs.SetUp.{mapOf, new, setUpReply}
-use Rattle.model.specs.Tests.{repeated, sentLimit}
+use Rattle.model.specs.Tests.{repeated}
 use Rattle.model.specs.Calls.{Outcome}
 use Rattle.model.specs.Replies.{Take}
 use Rattle.model.specs.Limits.{Within}
@@ -20,7 +20,7 @@ use Rattle.model.specs.declared.Report.{Report}
 use Rattle.model.specs.declared.SetUp.{SetUp}
 use Rattle.model.specs.declared.Taken.{Taken}
 use Rattle.queue.specs.Cursors.{slotOf}
-use Rattle.queue.specs.Laws.{elems-length, empty-held, empty-elems}
+use Rattle.queue.specs.Laws.{empty-held, empty-elems}
 use Rattle.device.specs.Holds.{Arrays, sentAt, runIn, onTheLine, abs, Shape, Ok}
 use Rattle.device.specs.Wholes.{arrays}
 use Rattle.device.specs.declared.Core.{Core}
@@ -83,16 +83,6 @@ pub record SetsUp (offsets resets : List ℕ) (u : Uart) (reply : SetUp) : Type 
   pub slots : arraysOf u ≡ zeros
   pub state : meaning u ≡ new offsets resets
   pub good : reply ≡ SetUp.Ready → Good u
-
--- the bytes that left and those in flight fit a lent buffer
-pub sent-few : (c : Core) (a : Arrays) → Ok c a → c .tx .count + c .flight .count ≤ sentLimit
-sent-few c a ok =
-    omega (
-      arith,
-      ok .within .sent,
-      elems-length (slotOf (a .tx) 0) 1152 (c .tx),
-      elems-length (sentAt (a .goneAt) (a .flight)) 129 (c .flight),
-    )
 
 -- ---- set-up
 

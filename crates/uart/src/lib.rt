@@ -4,6 +4,8 @@ pub mod placeholder;
 
 use calls::answers::DoneCore;
 use calls::power_down;
+use calls::queries::HasLeft;
+use calls::queries::HostPending;
 use calls::watch;
 use device::Core;
 use device::settle;
@@ -21,6 +23,7 @@ ghost use Rattle.model.specs.Calls.{read as Calls·read, write as Calls·write,
 ghost use Rattle.model.specs.Calls.{watch as Calls·watch, receive as Calls·receive, clockChange, powerDown};
 ghost use Rattle.model.specs.Calls.{takeTx, takeWritten, hasLeft, hostPending};
 ghost use Rattle.device.specs.Settles.{Settles};
+ghost use Rattle.calls.specs.Undated.{leftReply, pendingReply};
 ghost use Rattle.uart.specs.Whole.{arraysOf, meaning, Good, Answered, Took, SetsUp, afterDone, afterTake};
 
 #[repr(C)]
@@ -383,7 +386,18 @@ impl Uart {
         requires { ⌜ Good self ⌝ }
         ensures { λ r. ⌜ Answered (λ x. x) doneNumber (Calls·watch cycle on) self (r .uart) (r .reply) (r .report) ⌝ }
     {
-        let done = watch::watch(self.core, &self.gone_at, &self.run_at, cycle, on);
+        let done = watch::watch(
+            self.core,
+            &self.gone_at,
+            &self.flight,
+            &self.tx,
+            &self.host,
+            &self.run_at,
+            &self.run_len,
+            &self.rx,
+            cycle,
+            on,
+        );
         self.after_done(done)
     }
 
@@ -392,7 +406,17 @@ impl Uart {
         requires { ⌜ Good self ⌝ }
         ensures { λ r. ⌜ Answered (λ x. x) doneNumber (powerDown cycle) self (r .uart) (r .reply) (r .report) ⌝ }
     {
-        let done = power_down::power_down(self.core, cycle);
+        let done = power_down::power_down(
+            self.core,
+            &self.gone_at,
+            &self.flight,
+            &self.tx,
+            &self.host,
+            &self.run_at,
+            &self.run_len,
+            &self.rx,
+            cycle,
+        );
         self.after_done(done)
     }
 
@@ -401,22 +425,32 @@ impl Uart {
         requires { ⌜ Good self ⌝ }
         ensures { λ r. ⌜ Took (takeWritten (now (out .entry))) self (r .uart) (r .reply) (r .report) (now (out .exit)) ⌝ }
     {
-        let done = host::take_written::take_written(self.core, &self.flight, &self.tx, out);
-        self.after_take(done)
+        let written = host::take_written::take_written(
+            self.core,
+            &self.gone_at,
+            &self.flight,
+            &self.tx,
+            &self.host,
+            &self.run_at,
+            &self.run_len,
+            &self.rx,
+            out,
+        );
+        self.after_take(written)
     }
 
     // Whether a byte has left that no call has taken.
-    pub fn has_left(self) -> bool
+    pub fn has_left(self) -> HasLeft
         requires { ⌜ Good self ⌝ }
-        ensures { λ r. ⌜ r ≡ hasLeft (meaning self) .reply ⌝ }
+        ensures { λ r. ⌜ r ≡ leftReply (hasLeft (meaning self) .reply) ⌝ }
     {
         calls::queries::has_left(self.core)
     }
 
     // The host bytes that have not landed.
-    pub fn host_pending(self) -> usize
+    pub fn host_pending(self) -> HostPending
         requires { ⌜ Good self ⌝ }
-        ensures { λ r. ⌜ r ≡ hostPending (meaning self) .reply ⌝ }
+        ensures { λ r. ⌜ r ≡ pendingReply (hostPending (meaning self) .reply) ⌝ }
     {
         calls::queries::host_pending(self.core)
     }

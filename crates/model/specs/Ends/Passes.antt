@@ -3,13 +3,13 @@
 use mathlib.Core.Path.{_≡_, refl, sym, ap, ap₂, _∙_}
 use Prim.Native.Nat.{ℕ, _≤_, _<_}
 use native.Mathlib.Omega.{arith}
-use mathlib.Core.Bool.{Bool, true, false, false≢true}
+use mathlib.Core.Bool.{true, false, false≢true}
 use mathlib.Core.Option.{Option, none, some}
 use mathlib.Core.List.{List, [], _∷_, _++_}
 use lib.ListN.{length}
 use borrow.Author.Tests.{ltb-true, ltb-false, leb-true, leb-false}
 use Rattle.dates.specs.Dates.{later, earlier}
-use Rattle.model.specs.Numbers.{choose, dueBy, instantOf}
+use Rattle.model.specs.Numbers.{dueBy, instantOf}
 use Rattle.model.specs.State.{Run, OnTheLine, Uart, withLine, lineOf}
 use Rattle.model.specs.Events.{Event, departure, timeout, landing, nothing}
 use Rattle.model.specs.Line
@@ -92,9 +92,7 @@ module _ {H W : Type 0} where
       pub lands : lineOf v .«line_free_at» ≡ at
       pub due : at ≤ date
       pub fate : f ≡ Line.fate s (length (u .rx)) (frameOf s (u .receiving))
-      -- it enters the receive FIFO where its fate is Stored, and only there
-      pub stored : f ≡ Stored → v .rx ≡ u .rx ++ (byte ∷ [])
-      pub lost : ¬ (f ≡ Stored) → v .rx ≡ u .rx
+      pub rx : v .rx ≡ received f byte (u .rx)
 
     abbrev pub Takes : Event H W → Uart H W → Type 0
     Takes (departure at b) v = ⊥
@@ -162,19 +160,6 @@ land-free s Cleared fr l = refl
 land-free s ClockOff fr l = refl
 land-free s Unheard fr l = refl
 
-module _ {H : Type 0} where
-  received-stored : (f : Fate) (b : H) (held : List H) → f ≡ Stored → received f b held ≡ held ++ (b ∷ [])
-  unfolding received
-  received-stored f b held e = rw e
-
-  received-lost : (f : Fate) (b : H) (held : List H) → ¬ (f ≡ Stored) → received f b held ≡ held
-  unfolding received
-  received-lost Stored b held n = absurd (n refl)
-  received-lost Overflowed b held n = refl
-  received-lost Cleared b held n = refl
-  received-lost ClockOff b held n = refl
-  received-lost Unheard b held n = refl
-
 -- a due timeout has its date
 instant-is : (d : Date) {n : ℕ} → DueAt n d → d ≡ At (instantOf d)
 unfolding instantOf
@@ -241,8 +226,7 @@ module _ {H W : Type 0} (s : Settings) (date : ℕ) where
           lands = land-free s (Line.fate s (length (v .rx)) (l .frame)) (l .frame) (lineOf v);
           due = due;
           fate = ap₂ (λ h f. Line.fate s (length h) f) (same .rx) fr;
-          stored = λ f. received-stored _ (l .byte) (v .rx) f ∙ ap (λ h. h ++ (l .byte ∷ [])) (same .rx);
-          lost = λ f. received-lost _ (l .byte) (v .rx) f ∙ same .rx;
+          rx = ap (received _ (l .byte)) (same .rx);
         };
       }
 

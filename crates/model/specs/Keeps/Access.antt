@@ -4,7 +4,7 @@ use Prim.Native.Nat.{ℕ, _+_, _≤_, _<_, zero-le}
 use native.Mathlib.Omega.{arith}
 use native.Mathlib.Nat.{min-le-right, le-of-suc-le, sub-zero, suc-sub-suc}
 use mathlib.Core.Bool.{Bool, true, false}
-use mathlib.Core.Option.{none}
+use mathlib.Core.Option.{none, some}
 use mathlib.Core.List.{List, [], _∷_, _++_, map-append}
 use lib.ListN.{length, take, length-append, length-take}
 use borrow.Author.Tests.{leb-false, ltb-false}
@@ -18,7 +18,7 @@ use Rattle.model.specs.Registers.{Access, pop, readLooking, readAt, star
 use Rattle.model.specs.Registers.{resetFifos, storing, clearing, writeRegister, concluded}
 use Rattle.model.specs.Tests.{sentLimit, transmitFull}
 use Rattle.model.specs.Calls
-use Rattle.model.specs.Calls.{afterSettling, dated, settleAt, readWork, writeWork, sendWork}
+use Rattle.model.specs.Calls.{afterSettling, outcome, carried, dated, settleAt}
 use Rattle.model.specs.Limits.{All, flightDates, Fits}
 use Rattle.model.specs.Laws.Lists.{lastOf, chain-take, chain-snoc, all-take, all-snoc, all-last, map-take}
 use Rattle.model.specs.Laws.Choose.{choose-ind}
@@ -82,8 +82,8 @@ module _ {H W : Type 0} where
   readLooking-parts true at u p = readRegister-ind (λ a. Parts (a .state)) _ _ (pop-parts _ (u .rx) _ (p .rx) p) (λ _. p) at
   readLooking-parts false at u p = readRegister-ind (λ a. Parts (a .state)) _ u (pop-parts _ (u .rx) u (p .rx) p) (λ _. p) at
 
-  pub readPlaced-parts : (now : ℕ) (at : Register) (u : Uart H W) → Parts u → Parts (Calls.readPlaced now at u .state)
-  unfolding Calls.readPlaced readWork afterSettling readAt
+  pub readPlaced-parts : (now : ℕ) (at : Register) (u : Uart H W) → Parts u → Parts (outcome (some now) (Calls.readPlaced now at u) u .state)
+  unfolding outcome carried Calls.readPlaced afterSettling readAt
   readPlaced-parts now at u p = dated-parts refused _ u p now none (λ h _. readLooking-parts _ at _ (settleAt-parts now u h p))
 
   -- ---- write
@@ -104,8 +104,8 @@ module _ {H W : Type 0} where
   unfolding storing clearing
   writeRegister-parts at v u p = writeRegister-ind (λ _ a. Parts (a .state)) v u (λ _. p) p (λ _. resetFifos-parts v u p) (λ _. p) at
 
-  pub writePlaced-parts : (now : ℕ) (at : Register) (v : ℕ) (u : Uart H W) → Parts u → Parts (Calls.writePlaced now at v u .state)
-  unfolding Calls.writePlaced writeWork afterSettling
+  pub writePlaced-parts : (now : ℕ) (at : Register) (v : ℕ) (u : Uart H W) → Parts u → Parts (outcome (some now) (Calls.writePlaced now at v u) u .state)
+  unfolding outcome carried Calls.writePlaced afterSettling
   writePlaced-parts now at v u p =
       dated-parts Write.Refused _ u p now none (λ h _. concluded-parts _ (writeRegister-parts at v _ (settleAt-parts now u h p)))
 
@@ -121,8 +121,8 @@ module _ {H W : Type 0} where
       (sent-within _ b (v .inFlight) (v .tx) (min-le-right _ _) (sends-behind _ _ (v .inFlight) (p .flight .fit)) (ltb-false _ _ t)
       (omega (arith, k .sent, leb-false)) (p .flight)))
 
-  pub send-parts : (now : ℕ) (b : W) (u : Uart H W) → Parts u → Parts (Calls.send now b u .state)
-  unfolding Calls.send sendWork afterSettling settleAt dated
+  pub send-parts : (now : ℕ) (b : W) (u : Uart H W) → Parts u → Parts (outcome (some now) (Calls.send now b u) u .state)
+  unfolding outcome carried Calls.send afterSettling settleAt dated
   send-parts now b u p =
       dated-parts Write.Refused _ u p now _
       (λ h e. concluded-parts _ (sendByte-parts now b (dated now u) _ (settle-keeps now (dated now u)) (not-refused _ _ none e .0)

@@ -4,7 +4,7 @@ use Prim.Native.Nat.{ℕ, _%_, _≤_, _<_, zero-le}
 use native.Mathlib.Omega.{arith}
 use native.Mathlib.Nat.{zero-lt-suc, max-le, le-max-right, min-le-right, lt-of-le-of-lt}
 use mathlib.Core.Bool.{Bool, true, false, false≢true, _&&_, and-comm}
-use mathlib.Core.Option.{none}
+use mathlib.Core.Option.{none, some}
 use mathlib.Core.List.{List, [], _∷_}
 use lib.Dec.{ltb, lit≤}
 use lib.ListN.{length}
@@ -13,9 +13,8 @@ use Rattle.model.specs.State.{Uart, withTx}
 use Rattle.model.specs.Map.{Register, registerOf}
 use Rattle.model.specs.Tests.{sentLimit, runsLimit, periodLimit, hostFull, runsFull, periodTooLong}
 use Rattle.model.specs.Calls
-use Rattle.model.specs.Calls.{unsettled, afterSettling, undated, lastDate, hostDate, clearedLine, dated, settleAt, quiet, handOver}
-use Rattle.model.specs.Calls.{clocked, reclocked, cleared, receiveWork, wakeWork, watchWork, powerDownWork, clockWork}
-use Rattle.model.specs.Calls.{resetWork, takeTxWork, takeWrittenWork}
+use Rattle.model.specs.Calls.{unless, afterSettling, undated, outcome, carried, lastDate, hostDate, clearedLine, dated, settleAt, quiet, handOver}
+use Rattle.model.specs.Calls.{clocked, cleared}
 use Rattle.model.specs.Limits.{Chain, All, Fits, Within}
 use Rattle.model.specs.Laws.AccessCases.{write-ind}
 use Rattle.model.specs.Keeps.Parts.{FlightWithin, Parts, putClock, putFlight, putRx, putHost, putLine, through}
@@ -57,8 +56,8 @@ module _ {H W : Type 0} where
       (room-before _ _ _ date six (zero-lt-suc _) (subst (λ d. d < date) (last-run k some-run) late)))
       (p .host)))
 
-  receive-parts : (now at : ℕ) (bs : List H) (u : Uart H W) → Parts u → Parts (Calls.receive now at bs u .state)
-  unfolding Calls.receive receiveWork afterSettling quiet settleAt dated hostDate
+  receive-parts : (now at : ℕ) (bs : List H) (u : Uart H W) → Parts u → Parts (outcome (some now) (Calls.receive now at bs u) u .state)
+  unfolding outcome carried Calls.receive afterSettling quiet settleAt dated hostDate
   receive-parts now at bs u p =
       dated-parts Done.Refused _ u p now _
       (λ h e. let five = not-refused _ _ _ e in
@@ -68,8 +67,8 @@ module _ {H W : Type 0} where
 
   -- ---- wake, watch, clock, power-down, reset
 
-  wake-parts : (now : ℕ) (u : Uart H W) → Parts u → Parts (Calls.wake now u .state)
-  unfolding Calls.wake wakeWork afterSettling quiet
+  wake-parts : (now : ℕ) (u : Uart H W) → Parts u → Parts (outcome (some now) (Calls.wake now u) u .state)
+  unfolding outcome carried Calls.wake afterSettling quiet
   wake-parts now u p =
       dated-parts Done.Refused _ u p now none
       (λ h _. arm-parts _ (settleAt-parts now _ h (putClock p
@@ -80,12 +79,12 @@ module _ {H W : Type 0} where
         wake = called-within now (u .control .wake) (p .clock .wake);
       }))))
 
-  watch-parts : (now : ℕ) (b : Bool) (u : Uart H W) → Parts u → Parts (Calls.watch now b u .state)
-  unfolding Calls.watch watchWork unsettled dated
+  watch-parts : (now : ℕ) (b : Bool) (u : Uart H W) → Parts u → Parts (outcome (some now) (Calls.watch now b u) u .state)
+  unfolding outcome carried Calls.watch afterSettling quiet dated
   watch-parts now b u p = dated-parts Done.Refused _ u p now none (λ h _. arm-parts _ (moved-parts now u h p))
 
-  powerDown-parts : (now : ℕ) (u : Uart H W) → Parts u → Parts (Calls.powerDown now u .state)
-  unfolding Calls.powerDown powerDownWork unsettled dated
+  powerDown-parts : (now : ℕ) (u : Uart H W) → Parts u → Parts (outcome (some now) (Calls.powerDown now u) u .state)
+  unfolding outcome carried Calls.powerDown afterSettling quiet dated
   powerDown-parts now u p = dated-parts Done.Refused _ u p now none (λ h _. moved-parts now u h p)
 
   -- a period of 0 counts as 1, and test 7 keeps it at 1,000,000 or below
@@ -94,8 +93,8 @@ module _ {H W : Type 0} where
   clocked-parts period u h p =
       putClock p (record { low = le-max-right _ _; high = max-le h (lit≤ tt); last = p .clock .last; wake = p .clock .wake })
 
-  clockChange-parts : (now period : ℕ) (u : Uart H W) → Parts u → Parts (Calls.clockChange now period u .state)
-  unfolding Calls.clockChange clockWork afterSettling reclocked quiet periodTooLong
+  clockChange-parts : (now period : ℕ) (u : Uart H W) → Parts u → Parts (outcome (some now) (Calls.clockChange now period u) u .state)
+  unfolding outcome carried Calls.clockChange afterSettling quiet periodTooLong
   clockChange-parts now period u p =
       dated-parts Done.Refused _ u p now _
       (λ h e. arm-parts _ (settle-parts now _ (clocked-parts period _ (ltb-false _ _ (not-refused _ _ none e .0))
@@ -107,8 +106,8 @@ module _ {H W : Type 0} where
       putLine (putRx (putFlight p (empty-flight (u .tx) (omega (arith, p .flight .sent)))) zero-le)
       (record { idle = λ _. refl; free = p .line .free; since = tt })
 
-  reset-parts : (now : ℕ) (u : Uart H W) → Parts u → Parts (Calls.reset now u .state)
-  unfolding Calls.reset resetWork afterSettling quiet
+  reset-parts : (now : ℕ) (u : Uart H W) → Parts u → Parts (outcome (some now) (Calls.reset now u) u .state)
+  unfolding outcome carried Calls.reset afterSettling quiet
   reset-parts now u p =
       dated-parts Done.Refused _ u p now none (λ h _. arm-parts _ (levels-parts _ (cleared-parts _ (settleAt-parts now _ h p))))
 
@@ -124,65 +123,65 @@ module _ {H W : Type 0} where
       })
 
   module _ {L : Type 0} where
-    takeTx-parts : (now : ℕ) (lent : List L) (u : Uart H W) → Parts u → Parts (Calls.takeTx now lent u .state)
-    unfolding Calls.takeTx takeTxWork afterSettling quiet
+    takeTx-parts : (now : ℕ) (lent : List L) (u : Uart H W) → Parts u → Parts (outcome (some now) (Calls.takeTx now lent u) u .state)
+    unfolding outcome carried Calls.takeTx afterSettling quiet
     takeTx-parts now lent u p = dated-parts _ _ u p now _ (λ h _. taken-parts (settleAt now u .state) (settleAt-parts now u h p))
 
-    takeWritten-parts : (lent : List L) (u : Uart H W) → Parts u → Parts (Calls.takeWritten lent u .state)
-    unfolding Calls.takeWritten takeWrittenWork undated
+    takeWritten-parts : (lent : List L) (u : Uart H W) → Parts u → Parts (outcome none (Calls.takeWritten lent u) u .state)
+    unfolding outcome carried Calls.takeWritten undated quiet
     takeWritten-parts lent u p = unless-parts _ _ u p _ (λ _. putFlight p (empty-flight {W = W} [] zero-le))
 
 -- ---- each call, refused or carried out
 
 module _ {H W : Type 0} where
-  pub readPlaced-within : (now : ℕ) (at : Register) (u : Uart H W) → Within u → Within (Calls.readPlaced now at u .state)
+  pub readPlaced-within : (now : ℕ) (at : Register) (u : Uart H W) → Within u → Within (outcome (some now) (Calls.readPlaced now at u) u .state)
   readPlaced-within now at u = through u _ (readPlaced-parts now at u)
 
-  pub writePlaced-within : (now : ℕ) (at : Register) (v : ℕ) (u : Uart H W) → Within u → Within (Calls.writePlaced now at v u .state)
+  pub writePlaced-within : (now : ℕ) (at : Register) (v : ℕ) (u : Uart H W) → Within u → Within (outcome (some now) (Calls.writePlaced now at v u) u .state)
   writePlaced-within now at v u = through u _ (writePlaced-parts now at v u)
 
-  pub send-within : (now : ℕ) (b : W) (u : Uart H W) → Within u → Within (Calls.send now b u .state)
+  pub send-within : (now : ℕ) (b : W) (u : Uart H W) → Within u → Within (outcome (some now) (Calls.send now b u) u .state)
   send-within now b u = through u _ (send-parts now b u)
 
-  pub read-within : (now offset : ℕ) (u : Uart H W) → Within u → Within (Calls.read now offset u .state)
+  pub read-within : (now offset : ℕ) (u : Uart H W) → Within u → Within (outcome (some now) (Calls.read now offset u) u .state)
   unfolding Calls.read
   read-within now offset u = readPlaced-within now _ u
 
-  pub receive-within : (now at : ℕ) (bs : List H) (u : Uart H W) → Within u → Within (Calls.receive now at bs u .state)
+  pub receive-within : (now at : ℕ) (bs : List H) (u : Uart H W) → Within u → Within (outcome (some now) (Calls.receive now at bs u) u .state)
   receive-within now at bs u = through u _ (receive-parts now at bs u)
 
-  pub hostPending-within : (u : Uart H W) → Within u → Within (Calls.hostPending u .state)
-  unfolding Calls.hostPending undated
+  pub hostPending-within : (u : Uart H W) → Within u → Within (outcome none (Calls.hostPending u) u .state)
+  unfolding outcome carried Calls.hostPending undated unless quiet
   hostPending-within u w = w
 
-  pub wake-within : (now : ℕ) (u : Uart H W) → Within u → Within (Calls.wake now u .state)
+  pub wake-within : (now : ℕ) (u : Uart H W) → Within u → Within (outcome (some now) (Calls.wake now u) u .state)
   wake-within now u = through u _ (wake-parts now u)
 
-  pub watch-within : (now : ℕ) (b : Bool) (u : Uart H W) → Within u → Within (Calls.watch now b u .state)
+  pub watch-within : (now : ℕ) (b : Bool) (u : Uart H W) → Within u → Within (outcome (some now) (Calls.watch now b u) u .state)
   watch-within now b u = through u _ (watch-parts now b u)
 
-  pub powerDown-within : (now : ℕ) (u : Uart H W) → Within u → Within (Calls.powerDown now u .state)
+  pub powerDown-within : (now : ℕ) (u : Uart H W) → Within u → Within (outcome (some now) (Calls.powerDown now u) u .state)
   powerDown-within now u = through u _ (powerDown-parts now u)
 
-  pub clockChange-within : (now period : ℕ) (u : Uart H W) → Within u → Within (Calls.clockChange now period u .state)
+  pub clockChange-within : (now period : ℕ) (u : Uart H W) → Within u → Within (outcome (some now) (Calls.clockChange now period u) u .state)
   clockChange-within now period u = through u _ (clockChange-parts now period u)
 
-  pub reset-within : (now : ℕ) (u : Uart H W) → Within u → Within (Calls.reset now u .state)
+  pub reset-within : (now : ℕ) (u : Uart H W) → Within u → Within (outcome (some now) (Calls.reset now u) u .state)
   reset-within now u = through u _ (reset-parts now u)
 
-  pub hasLeft-within : (u : Uart H W) → Within u → Within (Calls.hasLeft u .state)
-  unfolding Calls.hasLeft undated
+  pub hasLeft-within : (u : Uart H W) → Within u → Within (outcome none (Calls.hasLeft u) u .state)
+  unfolding outcome carried Calls.hasLeft undated unless quiet
   hasLeft-within u w = w
 
   module _ {L : Type 0} where
-    pub takeTx-within : (now : ℕ) (lent : List L) (u : Uart H W) → Within u → Within (Calls.takeTx now lent u .state)
+    pub takeTx-within : (now : ℕ) (lent : List L) (u : Uart H W) → Within u → Within (outcome (some now) (Calls.takeTx now lent u) u .state)
     takeTx-within now lent u = through u _ (takeTx-parts now lent u)
 
-    pub takeWritten-within : (lent : List L) (u : Uart H W) → Within u → Within (Calls.takeWritten lent u .state)
+    pub takeWritten-within : (lent : List L) (u : Uart H W) → Within u → Within (outcome none (Calls.takeWritten lent u) u .state)
     takeWritten-within lent u = through u _ (takeWritten-parts lent u)
 
-pub write-within : {H : Type 0} (now offset v : ℕ) (u : Uart H ℕ) → Within u → Within (Calls.write now offset v u .state)
+pub write-within : {H : Type 0} (now offset v : ℕ) (u : Uart H ℕ) → Within u → Within (outcome (some now) (Calls.write now offset v u) u .state)
 unfolding Calls.write
 write-within now offset v u w =
     let p : Register = registerOf (u .map .offsets) offset in
-    write-ind (λ o. Within (o .state)) now p v u (λ _. send-within now (v % 256) u w) (λ _. writePlaced-within now p v u w)
+    write-ind (λ o. Within (outcome (some now) o u .state)) now p v u (λ _. send-within now (v % 256) u w) (λ _. writePlaced-within now p v u w)

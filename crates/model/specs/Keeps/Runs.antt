@@ -1,22 +1,25 @@
 -- Set-up gives a state within the limits, one call keeps it so, and so does every list of calls. Assumes nothing.
-use mathlib.Core.Path.{_≡_, refl, ap, _∙_}
+use mathlib.Core.Path.{_≡_, refl, sym, ap, subst, _∙_}
 use Prim.Native.Nat.{ℕ, zero, suc, _/_, _^_, _<_}
 use native.Mathlib.Omega.{arith}
 use native.Mathlib.Nat.{pow-suc}
-use mathlib.Core.Bool.{false}
+use mathlib.Core.Bool.{false, decide}
+use mathlib.Core.Option.{Option, some}
 use mathlib.Core.List.{List, [], _∷_, _++_}
 use lib.ListN.{length, getD}
 use lib.Bits.{bitAnd, and-step, and-zero-r}
-use Rattle.model.specs.Numbers.{without}
+use Rattle.model.specs.Numbers.{choose, without}
 use Rattle.model.specs.State.{Uart}
 use Rattle.model.specs.Replies.{ReadOf}
+use Rattle.model.specs.Map.{placeAmong}
 use Rattle.model.specs.Tests.{repeated}
 use Rattle.model.specs.Calls
-use Rattle.model.specs.Calls.{Outcome}
+use Rattle.model.specs.Calls.{Plan, outcome}
 use Rattle.model.specs.SetUp.{fifoCounts, mapOf, newControl, new}
-use Rattle.model.specs.Call.{Call, Request, Answer}
-use Rattle.model.specs.Run.{Step, answering, stepBy, writing, step, runBy}
+use Rattle.model.specs.Call.{Call, dateOf, Request, Reply, Answer}
+use Rattle.model.specs.Run.{Step, stepped, replying, planBy, stepBy, writing, plan, step, runBy}
 use Rattle.model.specs.Limits.{Chain, All, sum, Within}
+use Rattle.model.specs.Laws.Plans.{answering, replied}
 use Rattle.model.specs.Keeps.Parts.{together}
 use Rattle.model.specs.Keeps.EachCall.{read-within, write-within, receive-within, wake-within, reset-within, powerDown-within}
 use Rattle.model.specs.Keeps.EachCall.{watch-within, clockChange-within, takeTx-within, takeWritten-within, hasLeft-within}
@@ -42,7 +45,7 @@ counts-cleared w = and-disjoint 32 w _ fifoCounts (omega arith) refl
 -- set-up takes sixteen offsets, all different
 pub new-within : {H W : Type 0} (offsets ws : List ℕ) → length offsets ≡ 16 → repeated offsets ≡ false
     → Within {H = H} {W = W} (new offsets ws)
-unfolding new mapOf newControl sum
+unfolding new mapOf newControl placeAmong choose decide sum
 new-within offsets ws sixteen different =
     together _ (record {
       map = record { sixteen = sixteen; offsets = different; status = counts-cleared (getD ws 6 0) };
@@ -55,28 +58,33 @@ new-within offsets ws sixteen different =
 
 -- ---- one call
 
-module _ {R X H W : Type 0} (rd : ℕ → R → Uart H W → Outcome (ReadOf H) H W) (wr : ℕ → X → Uart H W → Outcome Write H W)
-    (rd-within : (now : ℕ) (r : R) (u : Uart H W) → Within u → Within (rd now r u .state))
-    (wr-within : (now : ℕ) (x : X) (u : Uart H W) → Within u → Within (wr now x u .state)) where
+module _ {R X H W : Type 0} (rd : ℕ → R → Uart H W → Plan (ReadOf H) H W) (wr : ℕ → X → Uart H W → Plan Write H W)
+    (rd-within : (now : ℕ) (r : R) (u : Uart H W) → Within u → Within (outcome (some now) (rd now r u) u .state))
+    (wr-within : (now : ℕ) (x : X) (u : Uart H W) → Within u → Within (outcome (some now) (wr now x u) u .state)) where
+  replying-within : {A L : Type 0} (as-reply : A → Reply H W L) (d : Option ℕ) (p : Plan A H W) (u : Uart H W)
+      → Within (outcome d p u .state) → Within (stepped (outcome d (replying as-reply p) u) .state)
+  unfolding answering
+  replying-within as-reply d p u w = subst (λ (s : Step H W _). Within (s .state)) (sym (replied as-reply p u d)) w
+
   -- a call keeps a state within the limits where its reads and writes do
   pub stepBy-within : {L : Type 0} (c : Call R X H L) (u : Uart H W) → Within u → Within (stepBy rd wr c u .state)
-  unfolding stepBy answering
-  stepBy-within (Call.read now r) u w = rd-within now r u w
-  stepBy-within (Call.write now x) u w = wr-within now x u w
-  stepBy-within (Call.receive now at bs) u w = receive-within now at bs u w
-  stepBy-within (Call.wake now) u w = wake-within now u w
-  stepBy-within (Call.reset now) u w = reset-within now u w
-  stepBy-within (Call.powerDown now) u w = powerDown-within now u w
-  stepBy-within (Call.watch now b) u w = watch-within now b u w
-  stepBy-within (Call.clockChange now period) u w = clockChange-within now period u w
-  stepBy-within (Call.takeTx now lent) u w = takeTx-within now lent u w
-  stepBy-within (Call.takeWritten lent) u w = takeWritten-within lent u w
-  stepBy-within Call.hasLeft u w = hasLeft-within u w
-  stepBy-within Call.hostPending u w = hostPending-within u w
+  unfolding stepBy planBy dateOf
+  stepBy-within (Call.read now r) u w = replying-within _ _ _ u (rd-within now r u w)
+  stepBy-within (Call.write now x) u w = replying-within _ _ _ u (wr-within now x u w)
+  stepBy-within (Call.receive now at bs) u w = replying-within _ _ _ u (receive-within now at bs u w)
+  stepBy-within (Call.wake now) u w = replying-within _ _ _ u (wake-within now u w)
+  stepBy-within (Call.reset now) u w = replying-within _ _ _ u (reset-within now u w)
+  stepBy-within (Call.powerDown now) u w = replying-within _ _ _ u (powerDown-within now u w)
+  stepBy-within (Call.watch now b) u w = replying-within _ _ _ u (watch-within now b u w)
+  stepBy-within (Call.clockChange now period) u w = replying-within _ _ _ u (clockChange-within now period u w)
+  stepBy-within (Call.takeTx now lent) u w = replying-within _ _ _ u (takeTx-within now lent u w)
+  stepBy-within (Call.takeWritten lent) u w = replying-within _ _ _ u (takeWritten-within lent u w)
+  stepBy-within Call.hasLeft u w = replying-within _ _ _ u (hasLeft-within u w)
+  stepBy-within Call.hostPending u w = replying-within _ _ _ u (hostPending-within u w)
 
 -- every call keeps a state within the limits
 pub step-within : (c : Request) (u : Uart ℕ ℕ) → Within u → Within (step c u .state)
-unfolding step writing
+unfolding step plan stepBy writing
 step-within c u w =
     stepBy-within Calls.read writing (λ now offset v k. read-within now offset v k)
     (λ now x v k. write-within now (x .offset) (x .value) v k) c u w

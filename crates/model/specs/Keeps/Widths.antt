@@ -1,44 +1,44 @@
 -- Every call keeps the widths of a state. Assumes nothing.
 use mathlib.Core.Path.{_≡_, refl, sym, ap, ap₂, subst, _∙_}
-use Prim.Native.Nat.{ℕ, zero, suc, _+_, _-_, _%_, _^_, _≤_, _<_}
+use Prim.Native.Nat.{ℕ, zero, suc, _-_, _%_, _^_, _<_}
 use native.Mathlib.Omega.{arith}
 use native.Mathlib.Nat.{min-le-right}
-use mathlib.Core.Bool.{Bool, true, false, _&&_}
+use mathlib.Core.Bool.{Bool, true, false, decide}
 use mathlib.Core.Option.{Option, none, some}
-use mathlib.Core.List.{List, [], _∷_, _++_, map, map-id}
+use mathlib.Core.List.{List, [], _∷_, map, map-id}
 use lib.ListN.{getD}
-use lib.Bits.{bitOr, bitAnd, or-lt, and-le-l}
+use lib.Bits.{or-lt, and-le-l}
 use Rattle.dates.specs.Dates
-use Rattle.dates.specs.Dates.{subcycles}
-use Rattle.model.specs.Numbers.{choose, without}
+use Rattle.model.specs.Numbers.{choose}
 use Rattle.model.specs.State.{Sent, OnTheLine, Uart, lineOf, mapSent, mapReceiving, mapUart}
 use Rattle.model.specs.Line.{RXFIFO-OVF, RXFIFO-TOUT, TXFIFO-EMPTY, RXFIFO-FULL, TX-DONE, raiseIf, noteSource, opened, timeOut}
 use Rattle.model.specs.Line.{start, land}
-use Rattle.model.specs.Settle.{txDone, leave, depart, timedOut, landed, begun, passes, assertLevels, drive, levels, leveled}
+use Rattle.model.specs.Settle.{txDone, leave, depart, timedOut, landed, begun, assertLevels, drive, levels, leveled}
 use Rattle.model.specs.Settle.{settingsOf}
-use Rattle.model.specs.Settle.{settleTo, settle}
+use Rattle.model.specs.Settle.{Settled, settleTo, settle}
 use Rattle.model.specs.Arm.{arm}
-use Rattle.model.specs.Map.{Word, Register, isFifo, registerOf, sameWord, valueOf, wordsBy, replaced}
-use Rattle.model.specs.Registers.{Access, pop, gives, readRegister, readLooking, readAt, sendByte, sent, dropped, resetFifos, storing}
+use Rattle.model.specs.Map.{Word, Register, isFifo, registerOf, placeAmong, sameWord, valueOf, wordsBy, replaced}
+use Rattle.model.specs.Registers.{Access, pop, readRegister, readLooking, readAt, sendByte, sent, dropped, resetFifos, storing}
 use Rattle.model.specs.Registers.{clearing, writeRegister, concluded}
-use Rattle.model.specs.Calls.{quiet, dated, clocked, cleared, clearedLine, handOver}
-use Rattle.model.specs.Call.{Call, Request}
-use Rattle.model.specs.Run.{Step, step}
+use Rattle.model.specs.Calls
+use Rattle.model.specs.Calls.{Settling, settledBy, afterSettling, undated, carried, quiet, dated, clocked, cleared, clearedLine}
+use Rattle.model.specs.Calls.{handOver, readPlaced, send, writePlaced}
+use Rattle.model.specs.Call.{Call, dateOf, Request}
+use Rattle.model.specs.Run.{Step, stepped, replying, planBy, writing, plan, step}
 use Rattle.model.specs.SetUp.{wordsAmong, fifoCounts, mapOf, newControl, new}
 use Rattle.model.specs.Limits.{All, nil, cons, NoLater}
 use Rattle.model.specs.Widths.{Word32, Words32, Bytes, ByteOn, Given, Widths}
 use Rattle.model.specs.Laws.Choose.{choose-ind}
 use Rattle.model.specs.Laws.Cases.{KeptOnLine, passes-ind}
-use Rattle.model.specs.Laws.AccessCases.{readRegister-ind, writeRegister-ind}
+use Rattle.model.specs.Laws.AccessCases.{write-ind, readRegister-ind, writeRegister-ind}
 use Rattle.model.specs.Refuses.Conditions.{Result, refusal, done}
 use Rattle.model.specs.Refuses.Refusals.{step-result}
-use Rattle.model.specs.Ends.Settlings.{Settling, settles, settlings, leftBy, replying, writeOf, worked, carried-works}
+use Rattle.model.specs.Ends.Settlings.{settlings}
 use Rattle.model.specs.TwoRuns.Alike.{itself}
 use Rattle.model.specs.TwoRuns.Natural.{bytes-nat}
 use Rattle.model.specs.TwoRuns.NaturalCalls.{mapPut, mapPlaced, mapStep, stepPlaced-nat}
 use Rattle.model.specs.TwoRuns.Placed.{Put, changed, putAt, placed, stepPlaced, step-placed}
 use Rattle.model.specs.TwoRuns.MapKept.{step-kept}
-use Rattle.model.specs.declared.Date.{Date}
 use Rattle.model.specs.declared.Line.{Line}
 use Rattle.model.specs.declared.Frame.{Frame}
 use Rattle.model.specs.declared.Settings.{Settings}
@@ -165,17 +165,21 @@ module _ {H W : Type 0} where
   unfolding sendByte sent dropped
   send-numbers now b u n = choose-ind (λ (a : Access _ H W). Numbers (a .state)) _ (λ _. n) (λ _. withRaw refl refl refl (n .raw) n)
 
-left-numbers : (u : Uart ℕ ℕ) (ss : List Settling) → Numbers u → All (λ s. Numbers (s .begins)) ss → Numbers (leftBy u ss)
-unfolding leftBy
-left-numbers u [] n nil = n
-left-numbers u (s ∷ ss) n (cons p a) = left-numbers (settles s .state) ss (settle-numbers (s .now) (s .begins) p) a
+settled-numbers : (ss : List (Settling ℕ ℕ)) (t : Settled ℕ ℕ) → Numbers (t .state) → All (λ s. Numbers (s .begins)) ss
+    → Numbers (settledBy ss t .state)
+settled-numbers [] t n nil = n
+settled-numbers (s ∷ ss) t n (cons p a) = settled-numbers ss _ (settle-numbers (s .now) (s .begins) p) a
 
 -- ---- every call
 
 begins-numbers : (c : Request) (u : Uart ℕ ℕ) → Numbers u → All (λ s. Numbers (s .begins)) (settlings c u)
-unfolding settlings dated clocked
+unfolding plan planBy replying writing dated clocked Calls.read readPlaced Calls.write send writePlaced Calls.receive Calls.wake Calls.reset
+    Calls.powerDown Calls.watch Calls.clockChange Calls.takeTx Calls.takeWritten Calls.hasLeft Calls.hostPending
 begins-numbers (Call.read now offset) u n = cons (withRaw refl refl refl (n .raw) n) nil
-begins-numbers (Call.write now x) u n = cons (withRaw refl refl refl (n .raw) n) nil
+begins-numbers (Call.write now x) u n =
+    let one = cons (withRaw refl refl refl (n .raw) n) nil in
+    write-ind (λ p. All (λ s. Numbers (s .begins)) (p .settlings)) now (registerOf (u .map .offsets) (x .offset)) (x .value) u (λ _. one)
+    (λ _. one)
 begins-numbers (Call.receive now at bs) u n = cons (withRaw refl refl refl (n .raw) n) nil
 begins-numbers (Call.wake now) u n = cons (withRaw refl refl refl (n .raw) n) nil
 begins-numbers (Call.reset now) u n = cons (record { reset = n .reset; words = n .words; raw = n .raw; down = tt }) nil
@@ -189,12 +193,15 @@ begins-numbers (Call.takeWritten lent) u n = nil
 begins-numbers Call.hasLeft u n = nil
 begins-numbers Call.hostPending u n = nil
 
-worked-numbers : (c : Request) (u v : Uart ℕ ℕ) → Given c → Numbers v → Numbers (worked c u v .state)
-unfolding worked replying quiet readAt writeOf concluded cleared clearedLine
+worked-numbers : (c : Request) (u v : Uart ℕ ℕ) → Given c → Numbers v → Numbers (plan c u .work v .state)
+unfolding plan planBy replying writing quiet readAt concluded cleared clearedLine Calls.read readPlaced Calls.write send writePlaced
+    Calls.receive Calls.wake Calls.reset Calls.powerDown Calls.watch Calls.clockChange Calls.takeTx Calls.takeWritten Calls.hasLeft
+    Calls.hostPending
 worked-numbers (Call.read now offset) u v g n = looking-numbers _ _ v n
 worked-numbers (Call.write now x) u v g n =
-    arm-numbers _ (levels-numbers _ (choose-ind (λ (a : Access _ ℕ ℕ). Numbers (a .state)) _ (λ _. send-numbers now _ v n)
-    (λ _. write-numbers _ (x .value) v g n)))
+    write-ind (λ p. Numbers (p .work v .state)) now (registerOf (u .map .offsets) (x .offset)) (x .value) u
+    (λ _. arm-numbers _ (levels-numbers _ (send-numbers now _ v n)))
+    (λ _. arm-numbers _ (levels-numbers _ (write-numbers _ (x .value) v g n)))
 worked-numbers (Call.receive now at bs) u v g n = hand-numbers _ bs v n
 worked-numbers (Call.wake now) u v g n = arm-numbers v n
 worked-numbers (Call.reset now) u v g n =
@@ -207,11 +214,16 @@ worked-numbers (Call.takeWritten lent) u v g n = withRaw refl refl refl (n .raw)
 worked-numbers Call.hasLeft u v g n = n
 worked-numbers Call.hostPending u v g n = n
 
+carried-numbers : (c : Request) (u : Uart ℕ ℕ) → Given c → Numbers u → (d : Option ℕ) → Numbers (carried d (plan c u) u .state)
+unfolding carried undated afterSettling dated
+carried-numbers c u g n none = worked-numbers c u u g n
+carried-numbers c u g n (some now) =
+    worked-numbers c u _ g (settled-numbers (settlings c u) _ (withRaw refl refl refl (n .raw) n) (begins-numbers c u n))
+
 result-numbers : (c : Request) (u : Uart ℕ ℕ) {s : Step ℕ ℕ ℕ} → Given c → Numbers u → Result c u s → Numbers (s .state)
-result-numbers c u g n (refusal f r) = n
-result-numbers c u g n (done all) =
-    subst Numbers (sym (carried-works c u .state))
-    (worked-numbers c u _ g (left-numbers u (settlings c u) n (begins-numbers c u n)))
+unfolding stepped
+result-numbers c u g n (refusal f) = n
+result-numbers c u g n (done all) = carried-numbers c u g n (dateOf c)
 
 step-numbers : (c : Request) (u : Uart ℕ ℕ) → Given c → Numbers u → Numbers (step c u .state)
 step-numbers c u g n = result-numbers c u g n (step-result c u)
@@ -339,7 +351,7 @@ among-fits (x ∷ ws) zero (cons p a) = p
 among-fits (x ∷ ws) (suc n) (cons p a) = among-fits ws n a
 
 words-fit : (ws : List ℕ) → All Word32 ws → Words32 (wordsAmong ws)
-unfolding wordsAmong valueOf
+unfolding wordsAmong wordsBy valueOf placeAmong choose decide
 words-fit ws a Word.intEna = among-fits ws 3 a
 words-fit ws a Word.clkdiv = among-fits ws 5 a
 words-fit ws a Word.conf0 = among-fits ws 8 a
@@ -351,7 +363,7 @@ words-fit ws a Word.atCmdChar = among-fits ws 13 a
 words-fit ws a Word.memConf = among-fits ws 14 a
 
 pub new-widths : (offsets ws : List ℕ) → All Word32 offsets → All Word32 ws → Widths (new offsets ws)
-unfolding new mapOf newControl
+unfolding new mapOf newControl placeAmong choose decide
 new-widths offsets ws o a =
     record {
       offsets = o;

@@ -9,14 +9,14 @@ use Rattle.model.specs.State.{Uart}
 use Rattle.model.specs.Replies.{ReadOf}
 use Rattle.model.specs.Map.{Word, Register, isFifo}
 use Rattle.model.specs.Registers.{Access, pop, gives, readRegister, storing, clearing, resetFifos, writeRegister}
-use Rattle.model.specs.Calls.{Outcome, refusing, unless, send, writePlaced, writeAt}
+use Rattle.model.specs.Calls.{Outcome, Plan, refusing, unless, send, writePlaced, writeAt}
 use Rattle.model.specs.Laws.Choose.{choose-ind}
 use Rattle.model.specs.declared.Refusal.{Refusal}
 use Rattle.model.specs.declared.Unsupported.{Unsupported}
 use Rattle.model.specs.declared.Write.{Write}
 
 -- a fact of FIFO writes and of writes elsewhere is one of every write
-pub write-ind : {H : Type 0} (P : Outcome Write H ℕ → Type 0) (now : ℕ) (p : Register) (v : ℕ) (u : Uart H ℕ)
+pub write-ind : {H : Type 0} (P : Plan Write H ℕ → Type 0) (now : ℕ) (p : Register) (v : ℕ) (u : Uart H ℕ)
     → (isFifo p ≡ true → P (send now (v % 256) u)) → (isFifo p ≡ false → P (writePlaced now p v u)) → P (writeAt now p v u)
 unfolding writeAt
 write-ind P now p v u f g = choose-ind P (isFifo p) f g

@@ -1,11 +1,11 @@
 -- Sums over lists of events. Assumes nothing.
-use mathlib.Core.Path.{_≡_, refl}
+use mathlib.Core.Path.{_≡_, refl, ap}
 use Prim.Native.Nat.{ℕ, _+_, _≤_}
 use native.Mathlib.Omega.{arith}
 use mathlib.Core.List.{List, [], _∷_, _++_, map}
 use lib.ListN.{take}
 use Rattle.model.specs.State.{Sent, Uart}
-use Rattle.model.specs.Events.{Event, departure, timeout, landing, nothing, total, onePass, lost, passesIn, overflowsIn}
+use Rattle.model.specs.Events.{Event, departure, timeout, landing, nothing, total, onePass, lost, landingsIn, passesIn, overflowsIn}
 use Rattle.model.specs.Settle.{gone, departures}
 use Rattle.model.specs.declared.Fate.{Fate}
 use Rattle.model.specs.declared.Fate.the-variants.{Stored, Overflowed, Cleared, ClockOff, Unheard}
@@ -14,6 +14,10 @@ pub total-append : {A : Type 0} (n : A → ℕ) (xs ys : List A) → total n (xs
 unfolding total
 total-append n [] ys = omega arith
 total-append n (x ∷ xs) ys = omega (arith, total-append n xs ys)
+
+-- the bytes lost among landings
+abbrev pub lostIn : {H : Type 0} (W : Type 0) → List (ℕ × H × Fate) → ℕ
+lostIn W ls = total (λ l. lost {W = W} (landing (l .0) (l .1) (l .2))) ls
 
 module _ {H W : Type 0} where
   pub passes-append : (es fs : List (Event H W)) → passesIn (es ++ fs) ≡ passesIn es + passesIn fs
@@ -24,7 +28,30 @@ module _ {H W : Type 0} where
   unfolding overflowsIn
   overflows-append es fs = total-append lost es fs
 
-  -- ---- departures make no pass and lose nothing
+  pub landings-append : (es fs : List (Event H W)) → landingsIn (es ++ fs) ≡ landingsIn es ++ landingsIn fs
+  unfolding landingsIn
+  landings-append [] fs = refl
+  landings-append (departure at b ∷ es) fs = landings-append es fs
+  landings-append (timeout at ∷ es) fs = landings-append es fs
+  landings-append (landing at b f ∷ es) fs = ap (λ l. (at, b, f) ∷ l) (landings-append es fs)
+  landings-append (nothing at ∷ es) fs = landings-append es fs
+
+  -- only a byte that lands is lost
+  pub overflows-land : (es : List (Event H W)) → overflowsIn es ≡ lostIn W (landingsIn es)
+  unfolding landingsIn overflowsIn total lost
+  overflows-land [] = refl
+  overflows-land (departure at b ∷ es) = omega (arith, overflows-land es)
+  overflows-land (timeout at ∷ es) = omega (arith, overflows-land es)
+  overflows-land (landing at b f ∷ es) = omega (arith, overflows-land es)
+  overflows-land (nothing at ∷ es) = omega (arith, overflows-land es)
+
+  -- ---- departures make no pass and lose nothing, and none is a landing
+
+  none-land : (ss : List (Sent W)) (es : List (Event H W))
+      → landingsIn (map (λ s. departure (s .goneAt) (s .byte)) ss ++ es) ≡ landingsIn es
+  unfolding landingsIn
+  none-land [] es = refl
+  none-land (s ∷ ss) es = none-land ss es
 
   none-counted : (n : Event H W → ℕ) → ((at : ℕ) (b : W) → n (departure at b) ≡ 0) → (ss : List (Sent W))
       → total n (map (λ s. departure (s .goneAt) (s .byte)) ss) ≡ 0
@@ -41,6 +68,10 @@ module _ {H W : Type 0} where
       none-counted onePass (λ at b. refl)
           (take (gone date (u .inFlight)) (u .inFlight)),
     )
+
+    pub departures-land : landingsIn (departures date u ++ es) ≡ landingsIn es
+    unfolding departures
+    departures-land = none-land (take (gone date (u .inFlight)) (u .inFlight)) es
 
     pub departures-lose : overflowsIn (departures date u ++ es) ≡ overflowsIn es
     unfolding overflowsIn departures lost

@@ -1,8 +1,8 @@
 -- What `step` does with a register access that is not refused. Assumes nothing.
-use mathlib.Core.Path.{_≡_, ap, ap₂, _∙_}
+use mathlib.Core.Path.{_≡_, refl, ap, ap₂, _∙_}
 use Prim.Native.Nat.{ℕ, _+_, _%_, _<_, _≤_}
 use mathlib.Core.Bool.{Bool, decide}
-use mathlib.Core.Option.{Option, none}
+use mathlib.Core.Option.{Option, none, some}
 use lib.ListN.{length}
 use borrow.Author.Tests.{lt-leb, lt-ltb, le-ltb}
 use Rattle.model.specs.Numbers.{choose}
@@ -12,10 +12,10 @@ use Rattle.model.specs.Map.{Register, registerOf}
 use Rattle.model.specs.Registers.{sendByte, sent, dropped}
 use Rattle.model.specs.Tests.{dateEnd, pastEnd, wentBack, sentLimit, transmitFull, refuseIf, refuseDate}
 use Rattle.model.specs.Calls
-use Rattle.model.specs.Calls.{Outcome, unless, settleAt, readPlaced, readWork, writePlaced, writeWork, send, sendWork}
-use Rattle.model.specs.Calls.{writeAt}
-use Rattle.model.specs.Call.{Call, Written, reads, writes}
-use Rattle.model.specs.Run.{answering, stepBy, writing, step}
+use Rattle.model.specs.Calls.{Outcome, Plan, refusalBy, unless, carried, outcome, settleAt, readPlaced, writePlaced, send, writeAt}
+use Rattle.model.specs.Call.{Call, dateOf, Written, Reply, reads, writes}
+use Rattle.model.specs.Run.{stepped, replying, planBy, writing, plan, step}
+use Rattle.model.specs.Laws.Plans.{answering, replied}
 use Rattle.model.specs.declared.Refusal.{Refusal}
 use Rattle.model.specs.declared.Refusal.the-variants.{DatePastEnd, DateWentBack, TransmitFull}
 
@@ -41,28 +41,39 @@ unfolding unless
 carried-out reply work u e = ap (λ (o : Option Refusal). unless o reply work u) e
 
 module _ {now : ℕ} {u : Uart ℕ ℕ} (t : InTime now u) where
+  -- a call whose own tests pass
+  pub carried-answer : {R : Type 0} (as-reply : R → Reply ℕ ℕ ℕ) (p : Plan R ℕ ℕ) → p .test ≡ none
+      → stepped (outcome (some now) (replying as-reply p) u) ≡ answering as-reply (carried (some now) p u)
+  unfolding outcome
+  carried-answer as-reply p e =
+      replied as-reply p u (some now) ∙ ap (answering as-reply) (carried-out (p .refuses) (carried (some now) p) u (in-time t (p .test) ∙ e))
+
   pub read-answer : (offset : ℕ) (p : Register) → registerOf (u .map .offsets) offset ≡ p
-      → step (Call.read now offset) u ≡ answering reads (readWork now p u)
-  unfolding step stepBy Calls.read readPlaced
+      → step (Call.read now offset) u ≡ answering reads (carried (some now) (readPlaced now p u) u)
+  unfolding step plan planBy dateOf Calls.read readPlaced
   read-answer offset p e =
-      ap (λ (q : Register). answering reads (readPlaced now q u)) e
-      ∙ ap (answering reads) (carried-out _ (readWork now p) u (in-time t none))
+      ap (λ (q : Register). stepped (outcome (some now) (replying reads (readPlaced now q u)) u)) e ∙ carried-answer reads (readPlaced now p u) refl
+
+  pub write-answer : (x : Written) (p : Register) → registerOf (u .map .offsets) (x .offset) ≡ p → writeAt now p (x .value) u .test ≡ none
+      → step (Call.write now x) u ≡ answering writes (carried (some now) (writeAt now p (x .value) u) u)
+  unfolding step plan planBy dateOf writing Calls.write
+  write-answer x p e test =
+      ap (λ (q : Register). stepped (outcome (some now) (replying writes (writeAt now q (x .value) u)) u)) e
+      ∙ carried-answer writes (writeAt now p (x .value) u) test
 
   -- a write to FIFO that 4 does not refuse
   pub fifo-answer : (x : Written) → registerOf (u .map .offsets) (x .offset) ≡ Register.fifo
-      → length (u .tx) + length (u .inFlight) < sentLimit → step (Call.write now x) u ≡ answering writes (sendWork now (x .value % 256) u)
-  unfolding step stepBy writing Calls.write writeAt decide choose send refuseIf transmitFull
+      → length (u .tx) + length (u .inFlight) < sentLimit
+      → step (Call.write now x) u ≡ answering writes (carried (some now) (send now (x .value % 256) u) u)
+  unfolding writeAt decide choose send refuseIf transmitFull
   fifo-answer x e room =
-      ap (λ (q : Register). answering writes (writeAt now q (x .value) u)) e
-      ∙ ap (answering writes) (carried-out _ (sendWork now (x .value % 256)) u
-      (in-time t _ ∙ ap (λ (b : Bool). refuseIf b TransmitFull none) (lt-leb sentLimit (length (u .tx) + length (u .inFlight)) room)))
+      write-answer x Register.fifo e
+      (ap (λ (b : Bool). refuseIf b TransmitFull none) (lt-leb sentLimit (length (u .tx) + length (u .inFlight)) room))
 
   pub clear-answer : (x : Written) → registerOf (u .map .offsets) (x .offset) ≡ Register.intClr
-      → step (Call.write now x) u ≡ answering writes (writeWork now Register.intClr (x .value) u)
-  unfolding step stepBy writing Calls.write writeAt decide choose writePlaced
-  clear-answer x e =
-      ap (λ (q : Register). answering writes (writeAt now q (x .value) u)) e
-      ∙ ap (answering writes) (carried-out _ (writeWork now Register.intClr (x .value)) u (in-time t none))
+      → step (Call.write now x) u ≡ answering writes (carried (some now) (writePlaced now Register.intClr (x .value) u) u)
+  unfolding writeAt decide choose writePlaced
+  clear-answer x e = write-answer x Register.intClr e refl
 
 -- 128 bytes in flight or fewer: the byte is sent. More: it is dropped
 module _ {H W : Type 0} (now : ℕ) (b : W) (u : Uart H W) where

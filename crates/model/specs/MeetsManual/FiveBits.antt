@@ -4,20 +4,21 @@ use mathlib.Core.Path.{_≡_, refl, sym, ap, ap₂, _∙_}
 use Prim.Native.Nat.{ℕ, zero, suc, _+_, _-_, _*_}
 use native.Mathlib.Nat.{zero-add}
 use native.Mathlib.Omega.{arith}
-use mathlib.Core.Bool.{Bool, true, false, _&&_, _||_, not, or-false, or-assoc, and-true, and-false, and-or-distrib-left, true≢false}
-use mathlib.Core.List.{[], _∷_}
+use mathlib.Core.Bool.{Bool, true, false, _&&_, _||_, not, or-false, and-true, and-false, and-or-distrib-left, true≢false}
+use mathlib.Core.List.{List, [], _∷_, _++_, map}
 use lib.Dec.{ltb, eqb}
-use lib.ListN.{length}
+use lib.ListN.{length, take}
 use borrow.Author.Tests.{lt-ltb}
 use Rattle.model.specs.Manual
 use Rattle.model.specs.Events.{Event, departure, timeout, landing, nothing, total, goesOn, lost, overflowsIn}
-use Rattle.model.specs.State.{Uart}
+use Rattle.model.specs.State.{Sent, Uart}
 use Rattle.model.specs.Timing.{settings}
-use Rattle.model.specs.Settle.{depart, pass, passesFrom, passes, pending, departures, aboveFull}
+use Rattle.model.specs.Settle.{gone, leave, depart, departures, received, Pass, pass, passesFrom, passes, pending, aboveFull}
 use Rattle.model.specs.Settle.{belowEmpty, inFifo, emptyThreshold, leveled, settingsOf, settleTo}
 use Rattle.model.specs.Tests.{among}
 use Rattle.model.specs.Laws.Events.{departures-lose}
 use Rattle.model.specs.Keeps.Rest.{settleTo-words}
+use Rattle.model.specs.Ends.Passes.{Takes, pass-law}
 use Rattle.model.specs.MeetsManual.Rises.{rawBit, raisedBy, somePass, doneIn, passedIn, fullIn, emptyIn, settleTo-raises}
 use Rattle.model.specs.declared.Words.{Words}
 use Rattle.model.specs.declared.Settings.{Settings}
@@ -45,7 +46,7 @@ module _ {H W : Type 0} (q : ℕ → Event H W → Bool) (s : Settings) (date : 
       ap (λ (t : Bool). (b && q (length (u .rx)) (p .event)) || t) (on-some-pass b k (goesOn (p .event)) (p .state))
       ∙ sym (and-or-distrib-left b (q (length (u .rx)) (p .event)) (somePass q s date k (goesOn (p .event)) (p .state)))
 
-  pub no-pass : ((held : ℕ) (f : Event H W) → q held f ≡ false) → (k : ℕ) (go : Bool) (u : Uart H W) → somePass q s date k go u ≡ false
+  no-pass : ((held : ℕ) (f : Event H W) → q held f ≡ false) → (k : ℕ) (go : Bool) (u : Uart H W) → somePass q s date k go u ≡ false
   no-pass h k go u = same-passes (λ held f. false) h k go u ∙ on-some-pass false k go u
 
 not-raised : {H W : Type 0} (s : Settings) (n held : ℕ) (f : Event H W) → eqb n 4 ≡ false → eqb n 8 ≡ false → raisedBy s n held f ≡ false
@@ -100,40 +101,72 @@ neither false b h = (refl, h)
 off : {a : Bool} (b : Bool) → a ≡ false → (a && b) ≡ false
 off b e = ap (λ (t : Bool). t && b) e
 
-unfoldable pub isTimeout : {H W : Type 0} → Event H W → Bool
-isTimeout (departure at b) = false
-isTimeout (timeout at) = true
-isTimeout (landing at b f) = false
-isTimeout (nothing at) = false
+-- ---- RXFIFO_TOUT: by the timeouts among the events
 
-timeout-raises : {H W : Type 0} (w : Words) (period held : ℕ) (f : Event H W)
-    → raisedBy (settings w period) 8 held f ≡ Manual.RXFIFO-TOUT (w .conf1) (w .«clk_conf») (isTimeout f) held
-unfolding raisedBy isTimeout Manual.RXFIFO-TOUT settings
-timeout-raises w period held (departure at b) = refl
-timeout-raises w period held (timeout at) = refl
-timeout-raises w period held (landing at b Stored) = refl
-timeout-raises w period held (landing at b Overflowed) = refl
-timeout-raises w period held (landing at b Cleared) = refl
-timeout-raises w period held (landing at b ClockOff) = refl
-timeout-raises w period held (landing at b Unheard) = refl
-timeout-raises w period held (nothing at) = refl
+-- whether some timeout among events passes a test of how many bytes the receive FIFO then holds; `rx` is what it holds before them
+unfoldable pub someTimeout : {H W : Type 0} → (ℕ → Bool) → List H → List (Event H W) → Bool
+someTimeout q rx [] = false
+someTimeout q rx (departure at b ∷ es) = someTimeout q rx es
+someTimeout q rx (timeout at ∷ es) = q (length rx) || someTimeout q rx es
+someTimeout q rx (landing at b f ∷ es) = someTimeout q (received f b rx) es
+someTimeout q rx (nothing at ∷ es) = someTimeout q rx es
+
+module _ {H W : Type 0} (q : ℕ → Bool) where
+  pub no-timeout : ((held : ℕ) → q held ≡ false) → (rx : List H) (es : List (Event H W)) → someTimeout q rx es ≡ false
+  unfolding someTimeout
+  no-timeout z rx [] = refl
+  no-timeout z rx (departure at b ∷ es) = no-timeout z rx es
+  no-timeout z rx (timeout at ∷ es) = ap₂ _||_ (z (length rx)) (no-timeout z rx es)
+  no-timeout z rx (landing at b f ∷ es) = no-timeout z (received f b rx) es
+  no-timeout z rx (nothing at ∷ es) = no-timeout z rx es
+
+  departures-timeout : (rx : List H) (ss : List (Sent W)) (es : List (Event H W))
+      → someTimeout q rx (map (λ s. departure (s .goneAt) (s .byte)) ss ++ es) ≡ someTimeout q rx es
+  unfolding someTimeout
+  departures-timeout rx [] es = refl
+  departures-timeout rx (s ∷ ss) es = departures-timeout rx ss es
+
+abbrev raisesTout : Words → ℕ → Bool
+raisesTout w held = Manual.RXFIFO-TOUT (w .conf1) (w .«clk_conf») true held
+
+module _ {H W : Type 0} (w : Words) (period date : ℕ) where
+  -- what a pass found, and what the later ones found from where it led
+  first-timeout : (u v : Uart H W) (e : Event H W) → Takes (settings w period) date u e v → (es : List (Event H W))
+      → (raisedBy (settings w period) 8 (length (u .rx)) e || someTimeout (raisesTout w) (v .rx) es) ≡ someTimeout (raisesTout w) (u .rx) (e ∷ es)
+  unfolding raisedBy someTimeout Manual.RXFIFO-TOUT settings
+  first-timeout u v (departure at b) t es = absurd t
+  first-timeout u v (timeout at) t es = ap (λ h. raisesTout w (length (u .rx)) || someTimeout (raisesTout w) h es) (t .rx)
+  first-timeout u v (landing at b Stored) t es = ap (λ h. someTimeout (raisesTout w) h es) (t .rx)
+  first-timeout u v (landing at b Overflowed) t es = ap (λ h. someTimeout (raisesTout w) h es) (t .rx)
+  first-timeout u v (landing at b Cleared) t es = ap (λ h. someTimeout (raisesTout w) h es) (t .rx)
+  first-timeout u v (landing at b ClockOff) t es = ap (λ h. someTimeout (raisesTout w) h es) (t .rx)
+  first-timeout u v (landing at b Unheard) t es = ap (λ h. someTimeout (raisesTout w) h es) (t .rx)
+  first-timeout u v (nothing at) t es = ap (λ h. someTimeout (raisesTout w) h es) (t .rx)
+
+  passes-timeout : (k : ℕ) (go : Bool) (u : Uart H W) → somePass (raisedBy (settings w period) 8) (settings w period) date k go u
+      ≡ someTimeout (raisesTout w) (u .rx) (passesFrom (settings w period) date k go u .events)
+  unfolding somePass passesFrom someTimeout
+  passes-timeout zero false u = refl
+  passes-timeout zero true u = refl
+  passes-timeout (suc k) false u = refl
+  passes-timeout (suc k) true u =
+      let p : Pass H W = pass (settings w period) date u in
+      ap (λ (b : Bool). raisedBy (settings w period) 8 (length (u .rx)) (p .event) || b)
+      (passes-timeout k (goesOn (p .event)) (p .state))
+      ∙ first-timeout u (p .state) (p .event) (pass-law (settings w period) date u .takes)
+      (passesFrom (settings w period) date k (goesOn (p .event)) (p .state) .events)
+
+-- from u a settling found es and came to v: a bit is set exactly when it was, or when what raises it came about
+pub record FiveBits {H W : Type 0} (u : Uart H W) (es : List (Event H W)) (v : Uart H W) : Type 0 where
+  pub full : rawBit 0 v ≡ (rawBit 0 u || Manual.RXFIFO-FULL (u .control .words .conf1) (length (v .rx)))
+  pub empty : rawBit 1 v ≡ (rawBit 1 u || Manual.TXFIFO-EMPTY (u .control .words .conf1) (length (v .inFlight) - 1))
+  pub ovf : rawBit 4 v ≡ (rawBit 4 u || Manual.RXFIFO-OVF (u .control .words .conf1) (overflowsIn es))
+  pub tout : rawBit 8 v
+      ≡ (rawBit 8 u || someTimeout (Manual.RXFIFO-TOUT (u .control .words .conf1) (u .control .words .«clk_conf») true) (u .rx) es)
+  pub done : rawBit 14 v ≡ (rawBit 14 u || Manual.TX-DONE (length (u .inFlight)) (length (v .inFlight)))
+  pub others : (n : ℕ) → among n (0 ∷ 1 ∷ 4 ∷ 8 ∷ 14 ∷ []) ≡ false → rawBit n v ≡ rawBit n u
 
 module _ {H W : Type 0} (date : ℕ) (u : Uart H W) where
-  -- some pass of the settling was a timeout that came with its bit enabled, the clock on and a byte held
-  unfoldable pub timeoutCame : Bool
-  timeoutCame =
-      somePass (λ held f. Manual.RXFIFO-TOUT (u .control .words .conf1) (u .control .words .«clk_conf») (isTimeout f) held)
-      (settingsOf u) date (2 * pending (depart date u) + 2) true (depart date u)
-
-  -- u before the settling, v after it: a bit is set exactly when it was, or when what raises it came about
-  pub record FiveBits (v : Uart H W) (overflows : ℕ) : Type 0 where
-    pub full : rawBit 0 v ≡ (rawBit 0 u || Manual.RXFIFO-FULL (u .control .words .conf1) (length (v .rx)))
-    pub empty : rawBit 1 v ≡ (rawBit 1 u || Manual.TXFIFO-EMPTY (u .control .words .conf1) (length (v .inFlight) - 1))
-    pub ovf : rawBit 4 v ≡ (rawBit 4 u || Manual.RXFIFO-OVF (u .control .words .conf1) overflows)
-    pub tout : rawBit 8 v ≡ (rawBit 8 u || timeoutCame)
-    pub done : rawBit 14 v ≡ (rawBit 14 u || Manual.TX-DONE (length (u .inFlight)) (length (v .inFlight)))
-    pub others : (n : ℕ) → among n (0 ∷ 1 ∷ 4 ∷ 8 ∷ 14 ∷ []) ≡ false → rawBit n v ≡ rawBit n u
-
   abbrev after : Uart H W
   after = settleTo date u .state
 
@@ -150,10 +183,13 @@ module _ {H W : Type 0} (date : ℕ) (u : Uart H W) where
       ∙ ap (λ (b : Bool). not (s .«dis_rx_dat_ovf») && b)
       (sym (ap (ltb 0) (departures-lose date u (passesFrom s date k true (depart date u) .events)) ∙ losses s date k true (depart date u)))
 
-  timeouts-raise : passedIn 8 date u ≡ timeoutCame
-  unfolding timeoutCame settingsOf
+  timeouts-raise : passedIn 8 date u
+      ≡ someTimeout (raisesTout (u .control .words)) (u .rx) (settleTo date u .events)
+  unfolding settleTo leveled passes depart leave departures settingsOf
   timeouts-raise =
-      same-passes (raisedBy (settingsOf u) 8) (settingsOf u) date _ (timeout-raises (u .control .words) (u .control .period)) _ true _
+      passes-timeout (u .control .words) (u .control .period) date (2 * pending (depart date u) + 2) true (depart date u)
+      ∙ sym (departures-timeout (raisesTout (u .control .words)) (u .rx) (take (gone date (u .inFlight)) (u .inFlight))
+      (passesFrom (settingsOf u) date (2 * pending (depart date u) + 2) true (depart date u) .events))
 
   -- the only part that bears on the bit
   only : (n : ℕ) {d p f e : Bool} → doneIn n u after ≡ d → passedIn n date u ≡ p → fullIn n after ≡ f → emptyIn n after ≡ e
@@ -177,7 +213,7 @@ module _ {H W : Type 0} (date : ℕ) (u : Uart H W) where
       only n done (no-pass-raises n c d) full empty ∙ simp or-false
 
   -- a settling raises each of the five bits exactly when the manual says
-  pub settling-rises : FiveBits after (overflowsIn (settleTo date u .events))
+  pub settling-rises : FiveBits u (settleTo date u .events) (settleTo date u .state)
   unfolding Manual.RXFIFO-FULL Manual.TXFIFO-EMPTY Manual.TX-DONE aboveFull belowEmpty inFifo emptyThreshold among
   settling-rises = record {
     full =

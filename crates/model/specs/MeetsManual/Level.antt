@@ -3,21 +3,23 @@
 use mathlib.Core.Path.{_≡_, refl, sym, ap, subst, _∙_}
 use Prim.Native.Nat.{ℕ}
 use mathlib.Core.Bool.{Bool, true, false, not}
+use mathlib.Core.Option.{some}
 use mathlib.Core.List.{List, [], _∷_}
 use lib.Dec.{eqb}
-use Rattle.model.specs.State.{Uart, lineOf, withHost}
+use Rattle.model.specs.State.{Uart, lineOf, withTx}
 use Rattle.model.specs.Settle.{intStatus, assertLevels, drive, levels, leveled, settleTo, settle}
 use Rattle.model.specs.Arm.{arm}
-use Rattle.model.specs.Replies.{report}
-use Rattle.model.specs.Map.{Register}
+use Rattle.model.specs.Map.{Register, registerOf}
 use Rattle.model.specs.Registers.{pop, readRegister, readLooking, readAt, concluded}
-use Rattle.model.specs.Calls.{quiet, handOver, joined, hostDate, cleared}
-use Rattle.model.specs.Call.{Call, Request}
-use Rattle.model.specs.Run.{numberOf, step}
+use Rattle.model.specs.Calls
+use Rattle.model.specs.Calls.{Settling, afterSettling, undated, carried, dated, quiet, handOver, readPlaced, send, writePlaced}
+use Rattle.model.specs.Call.{Call, dateOf, Request, writes}
+use Rattle.model.specs.Run.{numberOf, stepped, replying, planBy, writing, plan, step}
 use Rattle.model.specs.SetUp.{newControl, new}
-use Rattle.model.specs.Laws.AccessCases.{readRegister-ind}
+use Rattle.model.specs.Laws.AccessCases.{write-ind, readRegister-ind}
 use Rattle.model.specs.Ends.Passes.{apart}
-use Rattle.model.specs.Ends.Settlings.{Settling, settles, settlings, leftBy, replying, writeOf, worked, Works, call-works}
+use Rattle.model.specs.Refuses.Exactly.{done-carried}
+use Rattle.model.specs.Ends.Settlings.{settlings}
 use Rattle.model.specs.declared.Unsupported.{Unsupported}
 use Rattle.model.specs.declared.Control.{Control}
 
@@ -46,6 +48,10 @@ module _ {H W : Type 0} where
   hand-driven date [] u h = h
   hand-driven date (b ∷ bs) u h = h
 
+  taken-driven : (u : Uart H W) → Driven u → Driven (withTx [] u)
+  unfolding asserted intStatus
+  taken-driven u h = h
+
   -- ---- a read
 
   pop-driven : (ns : List Unsupported) (bs : List H) (u : Uart H W) → Driven u → Driven (pop ns bs u .state)
@@ -61,62 +67,58 @@ module _ {H W : Type 0} where
   looking-driven true r u h = register-driven _ r _ h
   looking-driven false r u h = register-driven [] r u h
 
-left-driven : (u : Uart ℕ ℕ) (ss : List Settling) → Driven u → Driven (leftBy u ss)
-unfolding leftBy
-left-driven u [] h = h
-left-driven u (s ∷ ss) h = left-driven (settles s .state) ss (settled-driven (s .now) (s .begins))
-
 -- ---- every call
 
--- what a call that settles does after its settlings
-work-driven : (c : Request) (u v : Uart ℕ ℕ) (s : Settling) (ss : List Settling) → settlings c u ≡ s ∷ ss → Driven v
-    → Driven (worked c u v .state)
-unfolding settlings worked replying quiet readAt writeOf concluded asserted intStatus
-work-driven (Call.read now offset) u v s ss e h = looking-driven _ _ v h
-work-driven (Call.write now x) u v s ss e h = arm-driven _ (levels-driven _)
-work-driven (Call.receive now at bs) u v s ss e h = hand-driven _ bs v h
-work-driven (Call.wake now) u v s ss e h = arm-driven v h
-work-driven (Call.reset now) u v s ss e h = arm-driven _ (levels-driven _)
-work-driven (Call.powerDown now) u v s ss e h = apart (cc)
-work-driven (Call.watch now b) u v s ss e h = apart (cc)
-work-driven (Call.clockChange now period) u v s ss e h = arm-driven v h
-work-driven (Call.takeTx now lent) u v s ss e h = h
-work-driven (Call.takeWritten lent) u v s ss e h = apart (cc)
-work-driven Call.hasLeft u v s ss e h = apart (cc)
-work-driven Call.hostPending u v s ss e h = apart (cc)
+-- one that settles
+carried-drives : (c : Request) (u : Uart ℕ ℕ) (s : Settling ℕ ℕ) (ss : List (Settling ℕ ℕ)) → settlings c u ≡ s ∷ ss
+    → Driven (stepped (carried (dateOf c) (plan c u) u) .state)
+unfolding stepped carried afterSettling dateOf plan planBy replying writing quiet readAt concluded Calls.read readPlaced Calls.write send
+    writePlaced Calls.receive Calls.wake Calls.reset Calls.powerDown Calls.watch Calls.clockChange Calls.takeTx Calls.takeWritten
+    Calls.hasLeft Calls.hostPending
+carried-drives (Call.read now offset) u s ss e = looking-driven _ (registerOf (u .map .offsets) offset) _ (settled-driven now (dated now u))
+carried-drives (Call.write now x) u s ss e =
+    write-ind (λ p. Driven (carried (some now) (replying {L = ℕ} writes p) u .state)) now (registerOf (u .map .offsets) (x .offset)) (x .value) u
+    (λ _. arm-driven _ (levels-driven _)) (λ _. arm-driven _ (levels-driven _))
+carried-drives (Call.receive now at bs) u s ss e = hand-driven _ bs _ (settled-driven now (dated now u))
+carried-drives (Call.wake now) u s ss e = arm-driven _ (settled-driven now _)
+carried-drives (Call.reset now) u s ss e = arm-driven _ (levels-driven _)
+carried-drives (Call.powerDown now) u s ss e = apart (cc)
+carried-drives (Call.watch now b) u s ss e = apart (cc)
+carried-drives (Call.clockChange now period) u s ss e = arm-driven _ (settled-driven now _)
+carried-drives (Call.takeTx now lent) u s ss e = taken-driven _ (settled-driven now (dated now u))
+carried-drives (Call.takeWritten lent) u s ss e = apart (cc)
+carried-drives Call.hasLeft u s ss e = apart (cc)
+carried-drives Call.hostPending u s ss e = apart (cc)
 
--- what one that does not settle does
-work-kept : (c : Request) (u v : Uart ℕ ℕ) → settlings c u ≡ [] → worked c u v .state .control .level ≡ v .control .level
-unfolding settlings worked quiet arm
-work-kept (Call.read now offset) u v e = apart (cc)
-work-kept (Call.write now x) u v e = apart (cc)
-work-kept (Call.receive now at bs) u v e = apart (cc)
-work-kept (Call.wake now) u v e = apart (cc)
-work-kept (Call.reset now) u v e = apart (cc)
-work-kept (Call.powerDown now) u v e = refl
-work-kept (Call.watch now b) u v e = refl
-work-kept (Call.clockChange now period) u v e = apart (cc)
-work-kept (Call.takeTx now lent) u v e = apart (cc)
-work-kept (Call.takeWritten lent) u v e = refl
-work-kept Call.hasLeft u v e = refl
-work-kept Call.hostPending u v e = refl
+-- one that does not
+carried-leaves : (c : Request) (u : Uart ℕ ℕ) → settlings c u ≡ []
+    → stepped (carried (dateOf c) (plan c u) u) .state .control .level ≡ u .control .level
+unfolding stepped carried afterSettling undated dated dateOf plan planBy replying writing quiet arm Calls.read readPlaced Calls.write send
+    writePlaced Calls.receive Calls.wake Calls.reset Calls.powerDown Calls.watch Calls.clockChange Calls.takeTx Calls.takeWritten
+    Calls.hasLeft Calls.hostPending
+carried-leaves (Call.read now offset) u e = apart (cc)
+carried-leaves (Call.write now x) u e =
+    write-ind (λ p. p .settlings ≡ [] → carried (some now) (replying {L = ℕ} writes p) u .state .control .level ≡ u .control .level) now
+    (registerOf (u .map .offsets) (x .offset)) (x .value) u (λ _ h. apart (cc)) (λ _ h. apart (cc)) e
+carried-leaves (Call.receive now at bs) u e = apart (cc)
+carried-leaves (Call.wake now) u e = apart (cc)
+carried-leaves (Call.reset now) u e = apart (cc)
+carried-leaves (Call.powerDown now) u e = refl
+carried-leaves (Call.watch now b) u e = refl
+carried-leaves (Call.clockChange now period) u e = apart (cc)
+carried-leaves (Call.takeTx now lent) u e = apart (cc)
+carried-leaves (Call.takeWritten lent) u e = refl
+carried-leaves Call.hasLeft u e = refl
+carried-leaves Call.hostPending u e = refl
 
 module _ (c : Request) (u : Uart ℕ ℕ) (done : numberOf (step c u .answer .reply) ≡ 0) where
   -- after a call that settles the level is whether INT_ST is other than 0
-  pub call-drives : (s : Settling) (ss : List Settling) → settlings c u ≡ s ∷ ss → Driven (step c u .state)
-  unfolding leftBy
-  call-drives s ss e =
-      let v : Uart ℕ ℕ = leftBy u (settlings c u) in
-      let h : Driven v =
-      subst (λ x. Driven (leftBy u x)) (sym e) (left-driven (settles s .state) ss (settled-driven (s .now) (s .begins))) in
-      subst Driven (sym (call-works c u done .state)) (work-driven c u v s ss e h)
+  pub call-drives : (s : Settling ℕ ℕ) (ss : List (Settling ℕ ℕ)) → settlings c u ≡ s ∷ ss → Driven (step c u .state)
+  call-drives s ss e = subst (λ x. Driven (x .state)) (sym (done-carried c u done)) (carried-drives c u s ss e)
 
   -- one that does not settle leaves it
   pub call-leaves-level : settlings c u ≡ [] → step c u .state .control .level ≡ u .control .level
-  unfolding leftBy
-  call-leaves-level e =
-      ap (λ x. x .control .level) (call-works c u done .state) ∙ work-kept c u (leftBy u (settlings c u)) e
-      ∙ ap (λ ss. leftBy u ss .control .level) e
+  call-leaves-level e = ap (λ x. x .state .control .level) (done-carried c u done) ∙ carried-leaves c u e
 
 -- it is low from set-up on
 pub new-level : (offsets ws : List ℕ) → new {H = ℕ} {W = ℕ} offsets ws .control .level ≡ false

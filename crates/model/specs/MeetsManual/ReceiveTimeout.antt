@@ -1,19 +1,18 @@
 -- The receive timeout comes the manual's bit times after the last landing heard, unless a byte starts before: all that a settling finds
 -- on the line is what the manual has a receiver show whose clock is on. Assumes nothing.
 use mathlib.Core.Path.{_≡_, refl, sym, ap, ap₂, subst, _∙_}
-use Prim.Native.Nat.{ℕ, zero, suc, _+_, _-_, _≤_, _<_}
+use Prim.Native.Nat.{ℕ, _+_, _-_, _≤_, _<_}
 use native.Mathlib.Omega.{arith}
-use mathlib.Core.Bool.{Bool, true, false, true≢false}
+use mathlib.Core.Bool.{true, false, true≢false}
 use mathlib.Core.Option.{Option, none, some}
-use mathlib.Core.List.{List, [], _∷_, _++_, map, append-nil, append-assoc}
-use lib.Dec.{leb, ltb}
+use mathlib.Core.List.{List, [], _∷_, _++_, map, append-assoc}
 use lib.ListN.{length, take}
 use borrow.Author.Tests.{le-leb, lt-leb, leb-true, leb-false, ltb-false}
 use Rattle.dates.specs.Dates
 use Rattle.dates.specs.Dates.{after, later, earlier}
 use Rattle.model.specs.Manual
 use Rattle.model.specs.Manual.{by, reception, timeoutBefore}
-use Rattle.model.specs.Numbers.{choose, dueBy, instantOf}
+use Rattle.model.specs.Numbers.{dueBy, instantOf}
 use Rattle.model.specs.Events.{Event, departure, timeout, landing, nothing}
 use Rattle.model.specs.State.{Sent, Run, OnTheLine, Uart, lineOf}
 use Rattle.model.specs.Line.{raiseIf, noteSource, afterDate, opened, timeoutAt, timeOut, frame, start, land, fate}
@@ -34,7 +33,6 @@ use Rattle.model.specs.declared.Line.{Line}
 use Rattle.model.specs.declared.Frame.{Frame}
 use Rattle.model.specs.declared.Settings.{Settings}
 use Rattle.model.specs.declared.Fate.{Fate}
-use Rattle.model.specs.declared.Fate.the-variants.{Stored, Overflowed, Cleared, ClockOff, Unheard}
 
 -- ---- words to say it with
 
@@ -52,16 +50,20 @@ module _ {H W : Type 0} where
   abbrev shows : Settings → Uart H W → List (ℕ × Option H)
   shows s u = showsIn (s .«byte_time») (s .«timeout_time») u
 
-  -- what an event shows, and all events, in order
-  unfoldable pub shownBy : Event H W → List (ℕ × Option H)
-  shownBy (departure at b) = []
-  shownBy (timeout at) = (at, none) ∷ []
-  shownBy (landing at b f) = (at, some b) ∷ []
-  shownBy (nothing at) = []
-
+  -- what events show, in order: a byte that lands, or none for a timeout
   unfoldable pub shownIn : List (Event H W) → List (ℕ × Option H)
   shownIn [] = []
-  shownIn (e ∷ es) = shownBy e ++ shownIn es
+  shownIn (departure at b ∷ es) = shownIn es
+  shownIn (timeout at ∷ es) = (at, none) ∷ shownIn es
+  shownIn (landing at b f ∷ es) = (at, some b) ∷ shownIn es
+  shownIn (nothing at ∷ es) = shownIn es
+
+  first-shown : (e : Event H W) (es : List (Event H W)) → shownIn (e ∷ es) ≡ shownIn (e ∷ []) ++ shownIn es
+  unfolding shownIn
+  first-shown (departure at b) es = refl
+  first-shown (timeout at) es = refl
+  first-shown (landing at b f) es = refl
+  first-shown (nothing at) es = refl
 
 -- ---- the line
 
@@ -125,7 +127,7 @@ pub record Heard {H W : Type 0} (u : Uart H W) : Type 0 where
 
 module _ {H W : Type 0} (s : Settings) (date : ℕ) (clock : s .«rx_sclk_en» ≡ true) where
   record Shows (u : Uart H W) (p : Pass H W) : Type 0 where
-    same : shows s u ≡ shownBy (p .event) ++ shows s (p .state)
+    same : shows s u ≡ shownIn (p .event ∷ []) ++ shows s (p .state)
     heard : Heard (p .state)
 
   no-byte : (u : Uart H W) → u .receiving ≡ none → Heard u
@@ -139,7 +141,7 @@ module _ {H W : Type 0} (s : Settings) (date : ℕ) (clock : s .«rx_sclk_en» �
 
   lands-shows : (l : OnTheLine H) (u : Uart H W) → u .receiving ≡ some l → l .frame .heard ≡ true
       → Shows u (landed s (fate s (length (u .rx)) (l .frame)) l u)
-  unfolding landed showsIn shownBy toShow
+  unfolding landed showsIn shownIn toShow
   lands-shows l u e h =
       let free : ℕ = lineOf u .«line_free_at» in
       let bs : List (ℕ × H) = datedBytes (u .hostRuns) (u .host) in
@@ -153,7 +155,7 @@ module _ {H W : Type 0} (s : Settings) (date : ℕ) (clock : s .«rx_sclk_en» �
       }
 
   inFrame-shows : (l : OnTheLine H) (u : Uart H W) → u .receiving ≡ some l → Heard u → Shows u (inFrame s date l u)
-  unfolding inFrame nothingDue shownBy
+  unfolding inFrame nothingDue shownIn
   inFrame-shows l u e h =
       choose-ind (Shows u) _ (λ t. absurd (true≢false (sym t ∙ closed-due u (h .idle l e))))
       (λ _. choose-ind (Shows u) _ (λ _. record { same = refl; heard = h }) (λ _. lands-shows l u e (h .heard l e)))
@@ -165,7 +167,7 @@ module _ {H W : Type 0} (s : Settings) (date : ℕ) (clock : s .«rx_sclk_en» �
       → shows s u ≡ (at, none) ∷ rest
       → reception (s .«byte_time») (s .«timeout_time») None (lineOf u .«line_free_at») (datedBytes (u .hostRuns) (u .host)) ≡ rest
       → Shows u (timedOut s u)
-  unfolding timedOut showsIn shownBy toShow
+  unfolding timedOut showsIn shownIn toShow
   out-shows u at rest n ea first later =
       let bs : List (ℕ × H) = datedBytes (u .hostRuns) (u .host) in
       record {
@@ -186,7 +188,7 @@ module _ {H W : Type 0} (s : Settings) (date : ℕ) (clock : s .«rx_sclk_en» �
       ap₂ (λ o x. toShow (s .«byte_time») (s .«timeout_time») (lineOf u .«idle_since») (lineOf u .«line_free_at») o x) n e
 
   idle-shows : (u : Uart H W) → u .receiving ≡ none → datedBytes (u .hostRuns) (u .host) ≡ [] → Shows u (idle s date u)
-  unfolding idle nothingDue shownBy reception Manual.timeout timeoutAt
+  unfolding idle nothingDue shownIn reception Manual.timeout timeoutAt
   idle-shows u n e =
       choose-ind (Shows u) _
       (λ t. out-shows u _ [] n refl (free-shows u n [] e ∙ out-now s date (lineOf u .«idle_since») t)
@@ -195,11 +197,11 @@ module _ {H W : Type 0} (s : Settings) (date : ℕ) (clock : s .«rx_sclk_en» �
 
   module _ (u : Uart H W) (n : u .receiving ≡ none) (r : Run) (rs : List Run) (b : H) (bs : List H) (one : 1 ≤ r .count)
       (er : u .hostRuns ≡ r ∷ rs) (eh : u .host ≡ b ∷ bs) where
-    abbrev at : ℕ
-    at = later (r .date) (lineOf u .«line_free_at»)
+    abbrev startDate : ℕ
+    startDate = later (r .date) (lineOf u .«line_free_at»)
 
     abbrev lands : ℕ
-    lands = after at (s .«byte_time»)
+    lands = after startDate (s .«byte_time»)
 
     abbrev then : List (ℕ × Option H)
     then =
@@ -208,34 +210,34 @@ module _ {H W : Type 0} (s : Settings) (date : ℕ) (clock : s .«rx_sclk_en» �
     dated : datedBytes (u .hostRuns) (u .host) ≡ (r .date, b) ∷ datedBytes (popRun (r ∷ rs)) bs
     dated = ap₂ datedBytes er eh ∙ first-dated r rs b bs one
 
-    begun-shows : shows s (begun s at b bs u) ≡ then
+    begun-shows : shows s (begun s startDate b bs u) ≡ then
     unfolding showsIn begun toShow start
     begun-shows =
         ap (λ x. (lands, some b) ∷ reception (s .«byte_time») (s .«timeout_time») (At lands) lands (datedBytes (popRun x) bs)) er
 
-    begun-heard : Heard (begun s at b bs u)
+    begun-heard : Heard (begun s startDate b bs u)
     unfolding begun start frame noteSource
     begun-heard = record {
       heard = λ l e. sym (ap isHeard e) ∙ clock;
       idle = λ l e. ap (λ (x : Line). x .«idle_since») (choose-true _ _ clock);
     }
 
-    first-shows : shows s u ≡ timeoutBefore at (s .«timeout_time») (lineOf u .«idle_since») ++ then
+    first-shows : shows s u ≡ timeoutBefore startDate (s .«timeout_time») (lineOf u .«idle_since») ++ then
     unfolding reception
     first-shows = free-shows u n _ dated
 
-    beforeStart-shows : Shows u (beforeStart s date at b bs u)
-    unfolding beforeStart nothingDue shownBy reception timeoutBefore timeoutAt begun
+    beforeStart-shows : Shows u (beforeStart s date startDate b bs u)
+    unfolding beforeStart nothingDue shownIn reception timeoutBefore timeoutAt begun
     beforeStart-shows =
         choose-ind (Shows u) _
-        (λ t. out-shows u _ then n refl (first-shows ∙ ap (λ x. x ++ then) (out-before s date at (lineOf u .«idle_since») t))
+        (λ t. out-shows u _ then n refl (first-shows ∙ ap (λ x. x ++ then) (out-before s date startDate (lineOf u .«idle_since») t))
         (ap (reception (s .«byte_time») (s .«timeout_time») None (lineOf u .«line_free_at»)) dated))
         (λ t. choose-ind (Shows u) _ (λ _. record { same = refl; heard = no-byte u n })
         (λ f.
-        let p = inFrame-shows (record { byte = b; frame = frame s }) (begun s at b bs u) refl begun-heard in
+        let p = inFrame-shows (record { byte = b; frame = frame s }) (begun s startDate b bs u) refl begun-heard in
         record {
           same =
-              first-shows ∙ ap (λ x. x ++ then) (none-before s date at (lineOf u .«idle_since») (ltb-false date at f) t)
+              first-shows ∙ ap (λ x. x ++ then) (none-before s date startDate (lineOf u .«idle_since») (ltb-false date startDate f) t)
               ∙ sym begun-shows ∙ p .same;
           heard = p .heard;
         }))
@@ -260,8 +262,8 @@ module _ {H W : Type 0} (s : Settings) (date : ℕ) (clock : s .«rx_sclk_en» �
 
   -- ---- all passes, cut at the date
 
-  event-due : (u v : Uart H W) (e : Event H W) → Takes s date u e v → Due date (shownBy e)
-  unfolding shownBy
+  event-due : (u v : Uart H W) (e : Event H W) → Takes s date u e v → Due date (shownIn (e ∷ []))
+  unfolding shownIn
   event-due u v (departure at b) t = nil
   event-due u v (timeout at) t = cons (t .due) nil
   event-due u v (landing at b f) t = cons (t .due) nil
@@ -303,14 +305,14 @@ module _ {H W : Type 0} (s : Settings) (date : ℕ) (clock : s .«rx_sclk_en» �
     later : by date (shows s v) ≡ []
 
   through-met : {u v : Uart H W} {es : List (Event H W)} → Through s date u es v → Heard u → Within u → Met u es v
-  unfolding shownIn showsIn
+  unfolding showsIn
   through-met (ends {u = u} {v = v} {e = x} e g) h w =
       let law : PassLaw s date u (record { event = x; state = v }) = subst (PassLaw s date u) e (pass-law s date u) in
       let within : Within v = subst (λ p. Within (p .state)) e (pass-within s date u w) in
       let p : Shows u (record { event = x; state = v }) = subst (Shows u) e (pass-shows u h w) in
       record {
-        whole = p .same ∙ ap (λ l. l ++ shows s v) (sym (append-nil (shownBy x)));
-        due = due-append (shownBy x) [] (event-due u v x (law .takes)) nil;
+        whole = p .same;
+        due = event-due u v x (law .takes);
         later = line-later v within (through-quiet s date (ends e g)) (v .receiving) refl;
       }
   through-met (goes {u = u} {v = v} {w = z} {e = x} {es = es} e g t) h w =
@@ -318,8 +320,12 @@ module _ {H W : Type 0} (s : Settings) (date : ℕ) (clock : s .«rx_sclk_en» �
       let p : Shows u (record { event = x; state = v }) = subst (Shows u) e (pass-shows u h w) in
       let rest : Met v es z = through-met t (p .heard) (subst (λ y. Within (y .state)) e (pass-within s date u w)) in
       record {
-        whole = p .same ∙ ap (λ l. shownBy x ++ l) (rest .whole) ∙ sym (append-assoc (shownBy x) (shownIn es) (shows s z));
-        due = due-append (shownBy x) (shownIn es) (event-due u v x (law .takes)) (rest .due);
+        whole =
+            p .same ∙ ap (λ l. shownIn (x ∷ []) ++ l) (rest .whole) ∙ sym (append-assoc (shownIn (x ∷ [])) (shownIn es) (shows s z))
+            ∙ ap (λ l. l ++ shows s z) (sym (first-shown x es));
+        due =
+            subst (Due date) (sym (first-shown x es))
+            (due-append (shownIn (x ∷ [])) (shownIn es) (event-due u v x (law .takes)) (rest .due));
         later = rest .later;
       }
 
@@ -332,7 +338,7 @@ module _ {H W : Type 0} (s : Settings) (date : ℕ) (clock : s .«rx_sclk_en» �
 
 module _ {H W : Type 0} where
   none-shown : (ss : List (Sent W)) (es : List (Event H W)) → shownIn (map (λ s. departure (s .goneAt) (s .byte)) ss ++ es) ≡ shownIn es
-  unfolding shownIn shownBy
+  unfolding shownIn
   none-shown [] es = refl
   none-shown (s ∷ ss) es = none-shown ss es
 

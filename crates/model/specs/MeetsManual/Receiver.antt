@@ -15,9 +15,12 @@ use Rattle.model.specs.Timing.{byteTime, timeoutTime, settings}
 use Rattle.model.specs.Settle.{settingsOf, settlingDate, settle}
 use Rattle.model.specs.Arm.{called}
 use Rattle.model.specs.Tests.{dateEnd, periodLimit}
-use Rattle.model.specs.Calls.{dated, clocked}
-use Rattle.model.specs.Call.{Call, Request}
-use Rattle.model.specs.Run.{numberOf, step}
+use Rattle.model.specs.Map.{registerOf}
+use Rattle.model.specs.Calls
+use Rattle.model.specs.Calls.{Settling, settles, dated, clocked, readPlaced, send, writePlaced}
+use Rattle.model.specs.Laws.AccessCases.{write-ind}
+use Rattle.model.specs.Call.{Call, dateOf, Request}
+use Rattle.model.specs.Run.{numberOf, replying, planBy, writing, plan, step}
 use Rattle.model.specs.Limits.{All, nil, cons, Within}
 use Rattle.model.specs.Laws.Lists.{all-head, all-drop}
 use Rattle.model.specs.Keeps.Parts.{Parts, putClock, through}
@@ -25,9 +28,9 @@ use Rattle.model.specs.Keeps.Wake.{called-within}
 use Rattle.model.specs.Keeps.Settling.{settle-parts}
 use Rattle.model.specs.Keeps.Dated.{moved-parts}
 use Rattle.model.specs.Keeps.EachCall.{clocked-parts}
-use Rattle.model.specs.Refuses.Conditions.{dateOf, Condition, number2, number7, order}
+use Rattle.model.specs.Refuses.Conditions.{Condition, number2, number7, order}
 use Rattle.model.specs.Refuses.Exactly.{done-exactly}
-use Rattle.model.specs.Ends.Settlings.{Settling, settles, settlings}
+use Rattle.model.specs.Ends.Settlings.{settlings}
 use Rattle.model.specs.MeetsManual.Timing.{Meant, FrameTime, TimeoutTime, byte-lasts, timeout-lasts}
 use Rattle.model.specs.MeetsManual.Reception.{comes, arrivalsIn, settling-receives}
 use Rattle.model.specs.MeetsManual.ReceiveTimeout.{showsIn, shownIn, settling-shows}
@@ -78,9 +81,13 @@ clock-low now period u done =
 
 begins-within : (c : Request) (u : Uart ℕ ℕ) → Within u → numberOf (step c u .answer .reply) ≡ 0
     → All (λ s. Within (s .begins)) (settlings c u)
-unfolding settlings dateOf
+unfolding dateOf plan planBy replying writing Calls.read readPlaced Calls.write send writePlaced Calls.receive Calls.wake Calls.reset
+    Calls.powerDown Calls.watch Calls.clockChange Calls.takeTx Calls.takeWritten Calls.hasLeft Calls.hostPending
 begins-within (Call.read now offset) u w d = cons (moved u w now (early _ u d now refl)) nil
-begins-within (Call.write now x) u w d = cons (moved u w now (early _ u d now refl)) nil
+begins-within (Call.write now x) u w d =
+    let one = cons (moved u w now (early _ u d now refl)) nil in
+    write-ind (λ p. All (λ s. Within (s .begins)) (p .settlings)) now (registerOf (u .map .offsets) (x .offset)) (x .value) u (λ _. one)
+    (λ _. one)
 begins-within (Call.receive now at bs) u w d = cons (moved u w now (early _ u d now refl)) nil
 begins-within (Call.wake now) u w d = cons (woken u w now (early _ u d now refl)) nil
 begins-within (Call.reset now) u w d = cons (powered u w now (early _ u d now refl)) nil
@@ -96,7 +103,7 @@ begins-within Call.hostPending u w d = nil
 
 -- ---- what the manual says of a settling
 
-module _ (s : Settling) where
+module _ (s : Settling ℕ ℕ) where
   abbrev words : Words
   words = s .begins .control .words
 
@@ -148,12 +155,11 @@ module _ (s : Settling) where
         rest = r .rest;
       }
 
-all-map : {P Q : Settling → Type 0} (ss : List Settling) → ((s : Settling) → P s → Q s) → All P ss → All Q ss
+all-map : {P Q : Settling ℕ ℕ → Type 0} (ss : List (Settling ℕ ℕ)) → ((s : Settling ℕ ℕ) → P s → Q s) → All P ss → All Q ss
 all-map [] f nil = nil
 all-map (s ∷ ss) f (cons p a) = cons (f s p) (all-map ss f a)
 
--- of every call that is carried out, whatever it is: `settlings c u` are its settlings, and its events are theirs (`call-works`,
--- Ends/Settlings)
+-- of every call that is carried out, whatever it is
 pub call-lands : (c : Request) (u : Uart ℕ ℕ) → Within u → numberOf (step c u .answer .reply) ≡ 0 → All Lands (settlings c u)
 call-lands c u w d = all-map (settlings c u) settled-lands (begins-within c u w d)
 

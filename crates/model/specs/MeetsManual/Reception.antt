@@ -3,34 +3,30 @@
 use mathlib.Core.Path.{_≡_, refl, sym, ap, ap₂, subst, _∙_}
 use Prim.Native.Nat.{ℕ, zero, suc, _+_, _-_, _≤_, _<_}
 use native.Mathlib.Omega.{arith}
-use mathlib.Core.Bool.{Bool, true, false}
 use mathlib.Core.Option.{Option, none, some}
-use mathlib.Core.List.{List, [], _∷_, _++_, map, append-nil, append-assoc}
-use lib.Dec.{leb}
+use mathlib.Core.List.{List, [], _∷_, _++_, map, append-assoc}
 use lib.ListN.{length, take, drop}
 use borrow.Author.Tests.{le-leb, lt-leb, leb-false}
 use Rattle.dates.specs.Dates
 use Rattle.dates.specs.Dates.{after, later}
 use Rattle.model.specs.Manual.{landings, by}
 use Rattle.model.specs.Numbers.{choose}
-use Rattle.model.specs.Events.{Event, departure, timeout, landing, nothing}
-use Rattle.model.specs.State.{Sent, Run, OnTheLine, Uart, lineOf}
-use Rattle.model.specs.Line.{raiseIf, noteSource, opened, timeOut, start, land}
-use Rattle.model.specs.Settle.{Pass, gone, txDone, leave, depart, departures, popRun, nothingDue, timedOut, landed, begun, pass}
+use Rattle.model.specs.Events.{Event, departure, timeout, landing, nothing, landingsIn}
+use Rattle.model.specs.State.{Run, OnTheLine, Uart, lineOf}
+use Rattle.model.specs.Line.{raiseIf, noteSource, start}
+use Rattle.model.specs.Settle.{Pass, txDone, leave, depart, departures, popRun, nothingDue, timedOut, landed, begun, pass}
 use Rattle.model.specs.Settle.{passes}
 use Rattle.model.specs.Settle.{assertLevels, drive, levels, leveled, settingsOf, settleTo}
 use Rattle.model.specs.Limits.{All, cons, nil, runDates, runCounts, Fits, Within}
 use Rattle.model.specs.Laws.Choose.{choose-ind, choose-true, choose-false}
 use Rattle.model.specs.Laws.Lists.{all-head}
 use Rattle.model.specs.Laws.Cases.{pass-cases}
-use Rattle.model.specs.Ends.Passes.{LineQuiet, Takes, PassLaw, timeOut-free, land-free, pass-law}
+use Rattle.model.specs.Laws.Events.{departures-land}
+use Rattle.model.specs.Ends.Passes.{lineBytes, LineQuiet, Takes, PassLaw, timeOut-free, land-free, pass-law}
 use Rattle.model.specs.Ends.Through.{Through, ends, goes, through, through-quiet}
 use Rattle.model.specs.Keeps.Settling.{depart-within, pass-within}
-use Rattle.model.specs.declared.Line.{Line}
-use Rattle.model.specs.declared.Frame.{Frame}
 use Rattle.model.specs.declared.Settings.{Settings}
 use Rattle.model.specs.declared.Fate.{Fate}
-use Rattle.model.specs.declared.Fate.the-variants.{Stored, Overflowed, Cleared, ClockOff, Unheard}
 
 -- ---- words to say it with
 
@@ -39,26 +35,26 @@ unfoldable pub datedBytes : {H : Type 0} → List Run → List H → List (ℕ �
 datedBytes [] bs = []
 datedBytes (r ∷ rs) bs = map (λ b. (r .date, b)) (take (r .count) bs) ++ datedBytes rs (drop (r .count) bs)
 
--- what is to land on a line that is free from a date on: the byte on it at that date, and the waiting ones by the manual
-unfoldable pub toLand : {H : Type 0} → ℕ → ℕ → Option (OnTheLine H) → List (ℕ × H) → List (ℕ × H)
-toLand time free none bs = landings time free bs
-toLand time free (some l) bs = (free, l .byte) ∷ landings time free bs
+abbrev toLand : {H : Type 0} → ℕ → ℕ → Option (OnTheLine H) → List (ℕ × H) → List (ℕ × H)
+toLand time free o bs = map (λ b. (free, b)) (lineBytes o) ++ landings time free bs
 
 module _ {H W : Type 0} where
-  -- all host bytes that are to land, each with its date
+  -- all host bytes that are to land, each with its date: the one on the line when the line is free, and the waiting ones by the manual
   unfoldable pub comes : ℕ → Uart H W → List (ℕ × H)
-  comes time u = toLand time (lineOf u .«line_free_at») (u .receiving) (datedBytes (u .hostRuns) (u .host))
+  comes time u =
+      map (λ b. (lineOf u .«line_free_at», b)) (lineBytes (u .receiving))
+      ++ landings time (lineOf u .«line_free_at») (datedBytes (u .hostRuns) (u .host))
 
-  -- the landing that an event is, and those among events, in order
-  unfoldable pub arrivalOf : Event H W → List (ℕ × H)
-  arrivalOf (departure at b) = []
-  arrivalOf (timeout at) = []
-  arrivalOf (landing at b f) = (at, b) ∷ []
-  arrivalOf (nothing at) = []
+  -- those that land among events, in order
+  abbrev pub arrivalsIn : List (Event H W) → List (ℕ × H)
+  arrivalsIn es = map (λ l. (l .0, l .1)) (landingsIn es)
 
-  unfoldable pub arrivalsIn : List (Event H W) → List (ℕ × H)
-  arrivalsIn [] = []
-  arrivalsIn (e ∷ es) = arrivalOf e ++ arrivalsIn es
+  first-arrival : (e : Event H W) (es : List (Event H W)) → arrivalsIn (e ∷ es) ≡ arrivalsIn (e ∷ []) ++ arrivalsIn es
+  unfolding landingsIn
+  first-arrival (departure at b) es = refl
+  first-arrival (timeout at) es = refl
+  first-arrival (landing at b f) es = refl
+  first-arrival (nothing at) es = refl
 
 -- ---- one pass
 
@@ -93,16 +89,16 @@ popped-counted (r ∷ rs) (cons p c) =
 module _ {H W : Type 0} (s : Settings) where
   -- what is to land is what a pass found to land, and then what is still to land
   abbrev Meets : Uart H W → Pass H W → Type 0
-  Meets u p = Counted u → comes (s .«byte_time») u ≡ arrivalOf (p .event) ++ comes (s .«byte_time») (p .state)
+  Meets u p = Counted u → comes (s .«byte_time») u ≡ arrivalsIn (p .event ∷ []) ++ comes (s .«byte_time») (p .state)
 
   out-meets : (u : Uart H W) → Meets u (timedOut s u)
-  unfolding timedOut comes arrivalOf
+  unfolding timedOut comes landingsIn
   out-meets u _ =
       ap (λ d. toLand (s .«byte_time») d (u .receiving) (datedBytes (u .hostRuns) (u .host)))
       (sym (timeOut-free s (length (u .rx)) (lineOf u)))
 
   lands-meets : (u : Uart H W) (l : OnTheLine H) → u .receiving ≡ some l → (f : Fate) → Meets u (landed s f l u)
-  unfolding landed comes arrivalOf toLand
+  unfolding landed comes landingsIn
   lands-meets u l e f _ =
       let free : ℕ = lineOf u .«line_free_at» in
       let bs : List (ℕ × H) = datedBytes (u .hostRuns) (u .host) in
@@ -113,7 +109,7 @@ module _ {H W : Type 0} (s : Settings) where
   start-comes : (u : Uart H W) (r : Run) (rs : List Run) (b : H) (bs : List H) → 1 ≤ r .count → u .receiving ≡ none → u .hostRuns ≡ r ∷ rs
       → u .host ≡ b ∷ bs
       → comes (s .«byte_time») u ≡ comes (s .«byte_time») (begun s (later (r .date) (lineOf u .«line_free_at»)) b bs u)
-  unfolding comes begun toLand landings start noteSource
+  unfolding comes begun landings start noteSource
   start-comes u r rs b bs one e q h =
       let free : ℕ = lineOf u .«line_free_at» in
       ap (λ o. toLand (s .«byte_time») free o (datedBytes (u .hostRuns) (u .host))) e
@@ -129,7 +125,7 @@ module _ {H W : Type 0} (s : Settings) where
       start-comes u r rs b bs (all-head (subst (λ x. All (λ n. 1 ≤ n) (runCounts x)) q c)) e q h ∙ m (popped-counted (u .hostRuns) c)
 
   pub pass-meets : (date : ℕ) (u : Uart H W) → Meets u (pass s date u)
-  unfolding nothingDue arrivalOf
+  unfolding nothingDue landingsIn
   pass-meets date = pass-cases s date Meets (λ u _. out-meets u) (λ u _. refl) (λ u l e. lands-meets u l e _) starts-meets
 
 -- ---- lists of dated bytes
@@ -168,8 +164,8 @@ module _ {H : Type 0} where
 -- ---- all passes
 
 module _ {H W : Type 0} (s : Settings) (date : ℕ) where
-  event-due : (u v : Uart H W) (e : Event H W) → Takes s date u e v → Due date (arrivalOf e)
-  unfolding arrivalOf
+  event-due : (u v : Uart H W) (e : Event H W) → Takes s date u e v → Due date (arrivalsIn (e ∷ []))
+  unfolding landingsIn
   event-due u v (departure at b) t = nil
   event-due u v (timeout at) t = nil
   event-due u v (landing at b f) t = cons (t .due) nil
@@ -193,7 +189,6 @@ module _ {H W : Type 0} (s : Settings) (date : ℕ) where
 
   line-later : (u : Uart H W) → Within u → LineQuiet s date u → (o : Option (OnTheLine H)) → u .receiving ≡ o
       → by date (toLand (s .«byte_time») (lineOf u .«line_free_at») o (datedBytes (u .hostRuns) (u .host))) ≡ []
-  unfolding toLand
   line-later u w q none e = waiting-later u w q e (u .hostRuns) (u .host) refl refl
   line-later u w q (some l) e = not-yet date _ (l .byte) _ (q .landing l e)
 
@@ -209,15 +204,14 @@ module _ {H W : Type 0} (s : Settings) (date : ℕ) where
     later : by date (comes (s .«byte_time») v) ≡ []
 
   through-met : {u v : Uart H W} {es : List (Event H W)} → Through s date u es v → Within u → Met u es v
-  unfolding arrivalsIn comes
+  unfolding comes
   through-met (ends {u = u} {v = v} {e = x} e g) w =
       let law : PassLaw s date u (record { event = x; state = v }) = subst (PassLaw s date u) e (pass-law s date u) in
       let within : Within v = subst (λ p. Within (p .state)) e (pass-within s date u w) in
       record {
         whole =
-            pass-meets s date u (w .runCount) ∙ ap (λ p. arrivalOf (p .event) ++ comes (s .«byte_time») (p .state)) e
-            ∙ ap (λ l. l ++ comes (s .«byte_time») v) (sym (append-nil (arrivalOf x)));
-        due = due-append (arrivalOf x) [] (event-due u v x (law .takes)) nil;
+            pass-meets s date u (w .runCount) ∙ ap (λ p. arrivalsIn (p .event ∷ []) ++ comes (s .«byte_time») (p .state)) e;
+        due = event-due u v x (law .takes);
         later = line-later v within (through-quiet s date (ends e g)) (v .receiving) refl;
       }
   through-met (goes {u = u} {v = v} {w = z} {e = x} {es = es} e g t) w =
@@ -225,9 +219,13 @@ module _ {H W : Type 0} (s : Settings) (date : ℕ) where
       let rest : Met v es z = through-met t (subst (λ p. Within (p .state)) e (pass-within s date u w)) in
       record {
         whole =
-            pass-meets s date u (w .runCount) ∙ ap (λ p. arrivalOf (p .event) ++ comes (s .«byte_time») (p .state)) e
-            ∙ ap (λ l. arrivalOf x ++ l) (rest .whole) ∙ sym (append-assoc (arrivalOf x) (arrivalsIn es) (comes (s .«byte_time») z));
-        due = due-append (arrivalOf x) (arrivalsIn es) (event-due u v x (law .takes)) (rest .due);
+            pass-meets s date u (w .runCount) ∙ ap (λ p. arrivalsIn (p .event ∷ []) ++ comes (s .«byte_time») (p .state)) e
+            ∙ ap (λ l. arrivalsIn (x ∷ []) ++ l) (rest .whole)
+            ∙ sym (append-assoc (arrivalsIn (x ∷ [])) (arrivalsIn es) (comes (s .«byte_time») z))
+            ∙ ap (λ l. l ++ comes (s .«byte_time») z) (sym (first-arrival x es));
+        due =
+            subst (Due date) (sym (first-arrival x es))
+            (due-append (arrivalsIn (x ∷ [])) (arrivalsIn es) (event-due u v x (law .takes)) (rest .due));
         later = rest .later;
       }
 
@@ -239,21 +237,16 @@ module _ {H W : Type 0} (s : Settings) (date : ℕ) where
 -- ---- a settling
 
 module _ {H W : Type 0} where
-  no-landing : (ss : List (Sent W)) (es : List (Event H W))
-      → arrivalsIn (map (λ s. departure (s .goneAt) (s .byte)) ss ++ es) ≡ arrivalsIn es
-  unfolding arrivalsIn arrivalOf
-  no-landing [] es = refl
-  no-landing (s ∷ ss) es = no-landing ss es
-
   -- the host bytes that a settling to a date found to land, with their dates, are those that the manual has land by then
   pub settling-receives : (date : ℕ) (u : Uart H W) → Within u
       → Receives (settingsOf u) date u (settleTo date u .events) (settleTo date u .state)
-  unfolding settleTo leveled levels drive assertLevels raiseIf departures depart leave txDone comes
+  unfolding settleTo leveled levels drive assertLevels raiseIf depart leave txDone comes
   settling-receives date u w =
       let s : Settings = settingsOf u in
       let t = passes s date (depart date u) in
       let r = through-receives s date (through s date (depart date u)) (depart-within date u w) in
-      let same = no-landing (take (gone date (u .inFlight)) (u .inFlight)) (t .events) in
+      let same : arrivalsIn (departures date u ++ t .events) ≡ arrivalsIn (t .events) =
+      ap (map (λ l. (l .0, l .1))) (departures-land date u (t .events)) in
       record {
         lands = same ∙ r .lands;
         rest = r .rest ∙ ap (λ l. l ++ comes (s .«byte_time») (t .state)) (sym same);

@@ -13,7 +13,6 @@ use Rattle.model.specs.Numbers.{bit}
 use Rattle.model.specs.Manual
 use Rattle.model.specs.Manual.{RXFIFO-CNT, TXFIFO-CNT}
 use Rattle.model.specs.State.{Uart, lineOf}
-use Rattle.model.specs.Events.{overflowsIn}
 use Rattle.model.specs.Settle.{inFifo, aboveFull, belowEmpty, emptyThreshold, intStatus, drive, levels, leveled, settleTo, settle}
 use Rattle.model.specs.Settle.{settlingDate}
 use Rattle.model.specs.Arm.{arm}
@@ -22,9 +21,10 @@ use Rattle.model.specs.Map.{Word, Shown, Register, registerOf, valueOf}
 use Rattle.model.specs.Registers.{looks, statusWord, pop, shownIn, readRegister, readLooking, readAt, clearing}
 use Rattle.model.specs.Registers.{writeRegister, concluded}
 use Rattle.model.specs.SetUp.{fifoCounts}
-use Rattle.model.specs.Calls.{afterSettling, dated, settleAt, readWork, writeWork}
+use Rattle.model.specs.Calls.{afterSettling, dated, settleAt, readPlaced, writePlaced, carried}
 use Rattle.model.specs.Call.{Call, Written, reads}
-use Rattle.model.specs.Run.{Step, answering, step}
+use Rattle.model.specs.Run.{Step, step}
+use Rattle.model.specs.Laws.Plans.{answering}
 use Rattle.model.specs.Limits.{Within}
 use Rattle.model.specs.Laws.AccessCases.{readRegister-ind}
 use Rattle.model.specs.Laws.Bits.{bit-and, bit-without}
@@ -91,7 +91,7 @@ module _ (now : ℕ) (u : Uart ℕ ℕ) (t : InTime now u) where
   pub status-read : (offset : ℕ) → registerOf (u .map .offsets) offset ≡ Register.shown Shown.status → Within u
       → (w : ℕ) × (step (Call.read now offset) u .answer .reply ≡ reads (word w))
       × (RXFIFO-CNT w ≡ length (settled now u .rx)) × (TXFIFO-CNT w ≡ length (settled now u .inFlight) - 1)
-  unfolding answering readWork afterSettling readAt looks decide readLooking readRegister shownIn
+  unfolding answering carried readPlaced afterSettling readAt looks decide readLooking readRegister shownIn
   status-read offset e within =
       let v : Uart ℕ ℕ = settled now u in
       let limits : Within v = together v (settleAt-parts now u (t .beforeEnd) (apart u within)) in (
@@ -104,7 +104,7 @@ module _ (now : ℕ) (u : Uart ℕ ℕ) (t : InTime now u) where
   -- the level that a read reports is whether INT_ST is other than 0: it is driven as the settling ends, and no read changes it
   pub level-read : (offset : ℕ) (p : Register) → registerOf (u .map .offsets) offset ≡ p
       → step (Call.read now offset) u .answer .report .level ≡ not (eqb (intStatus (settled now u .control)) 0)
-  unfolding answering readWork afterSettling readAt report settleAt settle settleTo leveled levels drive intStatus
+  unfolding answering carried readPlaced afterSettling readAt report settleAt settle settleTo leveled levels drive intStatus
   level-read offset p e =
       ap (λ (s : Step ℕ ℕ ℕ). s .answer .report .level) (read-answer t offset p e) ∙ level-kept _ p (settled now u)
 
@@ -112,12 +112,12 @@ module _ (now : ℕ) (u : Uart ℕ ℕ) (t : InTime now u) where
 
   pub raw-read : (offset : ℕ) → registerOf (u .map .offsets) offset ≡ Register.shown Shown.intRaw
       → step (Call.read now offset) u .answer .reply ≡ reads (word (lineOf (settled now u) .«int_raw»))
-  unfolding answering readWork afterSettling readAt looks decide readLooking readRegister shownIn
+  unfolding answering carried readPlaced afterSettling readAt looks decide readLooking readRegister shownIn
   raw-read offset e = ap (λ (s : Step ℕ ℕ ℕ). s .answer .reply) (read-answer t offset (Register.shown Shown.intRaw) e)
 
   pub ena-read : (offset : ℕ) → registerOf (u .map .offsets) offset ≡ Register.stored Word.intEna
       → step (Call.read now offset) u .answer .reply ≡ reads (word (settled now u .control .words .«int_ena»))
-  unfolding answering readWork afterSettling readAt looks decide readLooking readRegister valueOf
+  unfolding answering carried readPlaced afterSettling readAt looks decide readLooking readRegister valueOf
   ena-read offset e = ap (λ (s : Step ℕ ℕ ℕ). s .answer .reply) (read-answer t offset (Register.stored Word.intEna) e)
 
   -- INT_ST reads, bit by bit, as what INT_RAW and INT_ENA would have read
@@ -126,7 +126,7 @@ module _ (now : ℕ) (u : Uart ℕ ℕ) (t : InTime now u) where
       → (w r e : ℕ) × (step (Call.read now st) u .answer .reply ≡ reads (word w))
       × (step (Call.read now raw) u .answer .reply ≡ reads (word r))
       × (step (Call.read now ena) u .answer .reply ≡ reads (word e)) × ((n : ℕ) → bit n w ≡ Manual.masked (bit n r) (bit n e))
-  unfolding answering readWork afterSettling readAt looks decide readLooking readRegister shownIn intStatus
+  unfolding answering carried readPlaced afterSettling readAt looks decide readLooking readRegister shownIn intStatus
   status-of-interrupts st raw ena a b c =
       let v : Uart ℕ ℕ = settled now u in (
         intStatus (v .control),
@@ -147,7 +147,7 @@ module _ (now : ℕ) (u : Uart ℕ ℕ) (t : InTime now u) where
       ≡ (Manual.cleared (rawBit n v) (bit n (x .value))
       || (eqb n 0 && Manual.RXFIFO-FULL (v .control .words .conf1) (length (v .rx)))
       || (eqb n 1 && Manual.TXFIFO-EMPTY (v .control .words .conf1) (length (v .inFlight) - 1)))
-  unfolding answering writeWork afterSettling writeRegister clearing concluded arm Manual.RXFIFO-FULL Manual.TXFIFO-EMPTY aboveFull
+  unfolding answering carried writePlaced afterSettling writeRegister clearing concluded arm Manual.RXFIFO-FULL Manual.TXFIFO-EMPTY aboveFull
       belowEmpty inFifo emptyThreshold
   clear-write x e small n h =
       let v : Uart ℕ ℕ = settled now u in
@@ -162,6 +162,6 @@ module _ (now : ℕ) (u : Uart ℕ ℕ) (t : InTime now u) where
   -- last date moved
   pub raw-read-rises : (offset : ℕ) → registerOf (u .map .offsets) offset ≡ Register.shown Shown.intRaw
       → (step (Call.read now offset) u .answer .reply ≡ reads (word (lineOf (settled now u) .«int_raw»)))
-      × FiveBits (settlingDate now (u .control)) (dated now u) (settled now u) (overflowsIn (settleAt now u .events))
+      × FiveBits (dated now u) (settleAt now u .events) (settled now u)
   unfolding settleAt settle settlingDate dated
   raw-read-rises offset e = (raw-read offset e, settling-rises _ (dated now u))

@@ -17,9 +17,10 @@ use Rattle.model.specs.Arm.{arm, nthGone, lastGone}
 use Rattle.model.specs.Map.{Register, registerOf}
 use Rattle.model.specs.Registers.{Access, startsAt, goneAt, sent, concluded}
 use Rattle.model.specs.Tests.{sentLimit}
-use Rattle.model.specs.Calls.{afterSettling, dated, settleAt, sendWork}
+use Rattle.model.specs.Calls.{afterSettling, dated, settleAt, send, carried}
 use Rattle.model.specs.Call.{Call, Written}
-use Rattle.model.specs.Run.{Step, answering, step}
+use Rattle.model.specs.Run.{Step, step}
+use Rattle.model.specs.Laws.Plans.{answering}
 use Rattle.model.specs.Laws.Choose.{choose-true}
 use Rattle.model.specs.Keeps.Rest.{settleTo-words, settleTo-period}
 use Rattle.model.specs.MeetsManual.Answers.{settled, InTime, fifo-answer, byte-taken}
@@ -115,7 +116,7 @@ module _ (now : ℕ) (u : Uart ℕ ℕ) (x : Written) (m : Meant (u .control .wo
       × (step (Call.write now x) u .state .inFlight
       ≡ settled now u .inFlight
       ++ (record { goneAt = after (startsAt (subcycles now) (lastGone (settled now u .inFlight))) time; byte = x .value % 256 } ∷ []))
-  unfolding answering sendWork afterSettling concluded arm levels sent goneAt
+  unfolding answering carried send afterSettling concluded arm levels sent goneAt
   fifo-write-gone few =
       let l : List (Sent ℕ) = settled now u .inFlight in (
         frame,

@@ -1,27 +1,26 @@
 -- A call that is carried out answers number 0 and at most 8 notices besides overflows. Assumes nothing.
-use mathlib.Core.Path.{_≡_, refl, _∙_}
+use mathlib.Core.Path.{_≡_, refl}
 use Prim.Native.Nat.{ℕ, zero, suc, _%_, _≤_}
 use native.Mathlib.Nat.{le-trans}
 use native.Mathlib.Omega.{arith}
 use mathlib.Core.Bool.{Bool, true, false}
+use mathlib.Core.Option.{Option, none, some}
 use mathlib.Core.List.{List, [], _∷_}
 use lib.Dec.{lit≤}
 use lib.ListN.{length, length-append, length-map, length-replicate}
 use Rattle.model.specs.State.{Uart}
-use Rattle.model.specs.Settle.{Settled}
-use Rattle.model.specs.Replies.{notices, noReport, report, ReadOf, readNumber, writeNumber, doneNumber, takenNumber}
-use Rattle.model.specs.Map.{Word, Register}
+use Rattle.model.specs.Replies.{notices, noReport, report, ReadOf, readNumber, writeNumber, doneNumber, takenNumber, leftNumber}
+use Rattle.model.specs.Replies.{pendingNumber}
+use Rattle.model.specs.Map.{Word, Register, registerOf}
 use Rattle.model.specs.Registers.{noteIf, sourceNotes, Access, pop, gives, readRegister, readLooking, readAt, conf0Notes}
 use Rattle.model.specs.Registers.{storedNotes, sent, dropped, sendByte}
 use Rattle.model.specs.Registers.{storing, clearing, writeRegister, concluded}
-use Rattle.model.specs.Calls.{Outcome, unsettled, afterSettling, undated, filled, quiet, readWork, writeWork, sendWork, receiveWork}
-use Rattle.model.specs.Calls.{wakeWork, watchWork, powerDownWork}
-use Rattle.model.specs.Calls.{clockWork, resetWork, takeTxWork, takeWrittenWork, hasLeft, hostPending}
-use Rattle.model.specs.Call.{Call, Request, Reply, reads, writes, does, takes, left, pends, Answer}
-use Rattle.model.specs.Run.{numberOf, answering}
+use Rattle.model.specs.Calls
+use Rattle.model.specs.Calls.{afterSettling, undated, carried, filled, quiet, readPlaced, send, writePlaced}
+use Rattle.model.specs.Call.{Call, dateOf, Request, writes, Answer}
+use Rattle.model.specs.Run.{numberOf, stepped, replying, planBy, writing, plan}
 use Rattle.model.specs.Laws.Choose.{choose-ind}
-use Rattle.model.specs.Laws.AccessCases.{writeRegister-ind}
-use Rattle.model.specs.Refuses.Conditions.{writtenAt, carriedOut}
+use Rattle.model.specs.Laws.AccessCases.{write-ind, writeRegister-ind}
 use Rattle.model.specs.declared.Source.{Source}
 use Rattle.model.specs.declared.Unsupported.{Unsupported}
 use Rattle.model.specs.declared.Report.{Report}
@@ -108,60 +107,38 @@ module _ {H W : Type 0} where
 
 -- ---- calls
 
--- number 0, and few notices
-record Good {R H W : Type 0} (number : R → ℕ) (o : Outcome R H W) : Type 0 where
-  zero : number (o .reply) ≡ 0
-  few : Few (o .report)
-
-module _ {R H W : Type 0} (number : R → ℕ) where
-  after-good : (t : Settled H W) (work : Uart H W → Access R H W) → Proper number (work (t .state)) → Good number (afterSettling t work)
-  unfolding afterSettling
-  after-good t work p = record { zero = p .zero; few = report-few _ _ _ _ (p .few) }
-
-  quiet-good : (t : Settled H W) (r : Uart H W → R) (v : Uart H W → Uart H W) → ((u : Uart H W) → number (r u) ≡ 0)
-      → Good number (afterSettling t (λ u. quiet (r u) (v u)))
-  unfolding quiet
-  quiet-good t r v e = after-good t _ (record { zero = e (t .state); few = omega arith })
-
-  unsettled-good : (r : R) (u : Uart H W) → number r ≡ 0 → Good number (unsettled r u)
-  unfolding unsettled
-  unsettled-good r u e = record { zero = e; few = report-few 0 0 [] u (omega arith) }
-
-  undated-good : (r : R) (u : Uart H W) → number r ≡ 0 → Good number (undated r u)
-  unfolding undated
-  undated-good r u e = record { zero = e; few = no-report-few }
+-- what a call does besides its tests and settlings
+work-proper : (c : Request) (u v : Uart ℕ ℕ) → Proper numberOf (plan c u .work v)
+unfolding plan planBy replying writing numberOf doneNumber takenNumber leftNumber pendingNumber filled readAt quiet concluded
+    Calls.read readPlaced Calls.write send writePlaced Calls.receive Calls.wake Calls.reset Calls.powerDown Calls.watch Calls.clockChange
+    Calls.takeTx Calls.takeWritten Calls.hasLeft Calls.hostPending
+work-proper (Call.read now offset) u v =
+    let p = looking-proper _ (registerOf (u .map .offsets) offset) v in record { zero = p .zero; few = p .few }
+work-proper (Call.write now x) u v =
+    write-ind (λ p. Proper (numberOf {L = ℕ}) (replying writes p .work v)) now (registerOf (u .map .offsets) (x .offset)) (x .value) u
+    (λ _. let p = send-proper now (x .value % 256) v in record { zero = p .zero; few = p .few })
+    (λ _. let p = write-proper (registerOf (u .map .offsets) (x .offset)) (x .value) v in record { zero = p .zero; few = p .few })
+work-proper (Call.receive now at bs) u v = record { zero = refl; few = omega arith }
+work-proper (Call.wake now) u v = record { zero = refl; few = omega arith }
+work-proper (Call.reset now) u v = record { zero = refl; few = omega arith }
+work-proper (Call.powerDown now) u v = record { zero = refl; few = omega arith }
+work-proper (Call.watch now b) u v = record { zero = refl; few = omega arith }
+work-proper (Call.clockChange now period) u v = record { zero = refl; few = omega arith }
+work-proper (Call.takeTx now lent) u v = record { zero = refl; few = omega arith }
+work-proper (Call.takeWritten lent) u v = record { zero = refl; few = omega arith }
+work-proper Call.hasLeft u v = record { zero = refl; few = omega arith }
+work-proper Call.hostPending u v = record { zero = refl; few = omega arith }
 
 -- number 0, and few notices, in the answer
 pub record Fine (a : Answer ℕ ℕ ℕ) : Type 0 where
   pub zero : numberOf (a .reply) ≡ 0
   pub few : Few (a .report)
 
-module _ {R : Type 0} (number : R → ℕ) (as-reply : R → Reply ℕ ℕ ℕ) where
-  fine : ((r : R) → numberOf (as-reply r) ≡ number r) → (o : Outcome R ℕ ℕ) → Good number o → Fine (answering as-reply o .answer)
-  unfolding answering
-  fine e o g = record { zero = e (o .reply) ∙ g .zero; few = g .few }
-
-write-good : (now : ℕ) (p : Register) (v : ℕ) (u : Uart ℕ ℕ) → Good writeNumber (writtenAt now p v u)
-unfolding writtenAt sendWork writeWork concluded
-write-good now p v u = choose-ind (Good writeNumber) _
-    (λ _. after-good writeNumber _ _ (let p = send-proper now (v % 256) _ in record { zero = p .zero; few = p .few }))
-    (λ _. after-good writeNumber _ _ (let w = write-proper p v _ in record { zero = w .zero; few = w .few }))
-
 -- a call that is carried out answers number 0 and at most 8 notices
-pub carried-fine : (c : Request) (u : Uart ℕ ℕ) → Fine (carriedOut c u .answer)
-unfolding carriedOut numberOf doneNumber takenNumber filled readAt
-    readWork receiveWork wakeWork resetWork powerDownWork watchWork clockWork takeTxWork takeWrittenWork hasLeft hostPending
-carried-fine (Call.read now offset) u = fine readNumber reads (λ r. refl) _ (after-good readNumber _ _ (looking-proper _ _ _))
-carried-fine (Call.write now x) u = fine writeNumber writes (λ r. refl) _ (write-good now _ (x .value) u)
-carried-fine (Call.receive now at bs) u = fine doneNumber does (λ r. refl) _ (quiet-good doneNumber _ _ _ (λ s. refl))
-carried-fine (Call.wake now) u = fine doneNumber does (λ r. refl) _ (quiet-good doneNumber _ _ _ (λ s. refl))
-carried-fine (Call.reset now) u = fine doneNumber does (λ r. refl) _ (quiet-good doneNumber _ _ _ (λ s. refl))
-carried-fine (Call.powerDown now) u = fine doneNumber does (λ r. refl) _ (unsettled-good doneNumber _ _ refl)
-carried-fine (Call.watch now b) u = fine doneNumber does (λ r. refl) _ (unsettled-good doneNumber _ _ refl)
-carried-fine (Call.clockChange now period) u = fine doneNumber does (λ r. refl) _ (quiet-good doneNumber _ _ _ (λ s. refl))
-carried-fine (Call.takeTx now lent) u =
-    fine (λ t. takenNumber (t .taken)) takes (λ r. refl) _ (quiet-good (λ t. takenNumber (t .taken)) _ _ _ (λ s. refl))
-carried-fine (Call.takeWritten lent) u =
-    fine (λ t. takenNumber (t .taken)) takes (λ r. refl) _ (undated-good (λ t. takenNumber (t .taken)) _ _ refl)
-carried-fine Call.hasLeft u = fine (λ r. 0) left (λ r. refl) _ (undated-good (λ r. 0) _ _ refl)
-carried-fine Call.hostPending u = fine (λ r. 0) pends (λ r. refl) _ (undated-good (λ r. 0) _ _ refl)
+pub carried-fine : (c : Request) (u : Uart ℕ ℕ) → Fine (stepped (carried (dateOf c) (plan c u) u) .answer)
+unfolding stepped carried undated afterSettling
+carried-fine c u = by-date (dateOf c)
+  where
+    by-date : (d : Option ℕ) → Fine (stepped (carried d (plan c u) u) .answer)
+    by-date none = record { zero = work-proper c u u .zero; few = no-report-few }
+    by-date (some now) = record { zero = work-proper c u _ .zero; few = report-few _ _ _ _ (work-proper c u _ .few) }

@@ -4,14 +4,15 @@ use mathlib.Core.Path.{_≡_, refl, sym, ap, subst, _∙_}
 use mathlib.Core.Logic.{_↔_}
 use Prim.Native.Nat.{ℕ, zero, suc, _≤_}
 use native.Mathlib.Omega.{arith}
-use mathlib.Core.List.{List}
+use mathlib.Core.List.{[]}
 use Rattle.model.specs.State.{Uart}
-use Rattle.model.specs.Replies.{noReport, number, readNumber, writeNumber, doneNumber, takenNumber}
-use Rattle.model.specs.Call.{Request, Reply}
-use Rattle.model.specs.Run.{numberOf, Step, step}
-use Rattle.model.specs.Limits.{All, cons}
-use Rattle.model.specs.Refuses.Conditions.{Condition, order, First, here, next, Refuses, carriedOut, Result, refusal, done}
-use Rattle.model.specs.Refuses.Refusals.{step-result}
+use Rattle.model.specs.Replies.{noReport, number}
+use Rattle.model.specs.Calls.{carried}
+use Rattle.model.specs.Call.{dateOf, Request}
+use Rattle.model.specs.Run.{numberOf, Step, stepped, plan, step}
+use Rattle.model.specs.Limits.{All}
+use Rattle.model.specs.Refuses.Conditions.{Condition, order, First, Result, refusal, done}
+use Rattle.model.specs.Refuses.Refusals.{first-one, first-none, step-result, refuses-number}
 use Rattle.model.specs.Refuses.Carried.{Few, no-report-few, carried-fine}
 use Rattle.model.specs.declared.Refusal.{Refusal}
 use Rattle.model.specs.declared.Refusal.the-variants.{RepeatedOffset, DatePastEnd, DateWentBack, TransmitFull, HostFull, RunsFull}
@@ -57,49 +58,25 @@ number-positive RunsFull = omega arith
 number-positive PeriodTooLong = omega arith
 number-positive BufferTooShort = omega arith
 
-refuses-number : {r : Refusal} {c : Request} {reply : Reply ℕ ℕ ℕ} → Refuses r c reply → numberOf reply ≡ number r
-unfolding numberOf readNumber writeNumber doneNumber takenNumber
-refuses-number Refuses.read = refl
-refuses-number Refuses.write = refl
-refuses-number Refuses.receive = refl
-refuses-number Refuses.wake = refl
-refuses-number Refuses.reset = refl
-refuses-number Refuses.powerDown = refl
-refuses-number Refuses.watch = refl
-refuses-number Refuses.clockChange = refl
-refuses-number Refuses.takeTx = refl
-refuses-number Refuses.takeWritten = refl
-
-module _ {P : Refusal → Type 0} where
-  first-one : {rs : List Refusal} {q r : Refusal} → First P rs q → First P rs r → q ≡ r
-  first-one (here p) (here p′) = refl
-  first-one (here p) (next n f) = absurd (n p)
-  first-one (next n f) (here p) = absurd (n p)
-  first-one (next n f) (next n′ f′) = first-one f f′
-
-  first-none : {rs : List Refusal} {r : Refusal} → First P rs r → All (λ q. ¬ P q) rs → ⊥
-  first-none (here p) (cons n ns) = n p
-  first-none (next n f) (cons n′ ns) = first-none f ns
-
 -- ---- each number exactly when document 01 says
 
 module _ {c : Request} {u : Uart ℕ ℕ} where
   refused-yes : {s : Step ℕ ℕ ℕ} (r : Refusal) → Result c u s → numberOf (s .answer .reply) ≡ number r
       → First (λ q. Condition u q c) order r
-  refused-yes r (refusal {r = q} f a) e = subst (First (λ q. Condition u q c) order) (one-number q r (sym (refuses-number a) ∙ e)) f
+  refused-yes r (refusal {r = q} f) e = subst (First (λ q. Condition u q c) order) (one-number q r (sym (refuses-number c u q f) ∙ e)) f
   refused-yes r (done v) e = absurd (omega (arith, carried-fine c u .zero, number-positive r))
 
   yes-refused : {s : Step ℕ ℕ ℕ} (r : Refusal) → Result c u s → First (λ q. Condition u q c) order r
       → numberOf (s .answer .reply) ≡ number r
-  yes-refused r (refusal {r = q} f a) g = refuses-number a ∙ ap number (first-one f g)
+  yes-refused r (refusal {r = q} f) g = refuses-number c u q f ∙ ap number (first-one f g)
   yes-refused r (done v) g = absurd (first-none g v)
 
   done-yes : {s : Step ℕ ℕ ℕ} → Result c u s → numberOf (s .answer .reply) ≡ 0 → All (λ q. ¬ Condition u q c) order
-  done-yes (refusal {r = q} f a) e = absurd (omega (arith, number-positive q, refuses-number a))
+  done-yes (refusal {r = q} f) e = absurd (omega (arith, number-positive q, refuses-number c u q f))
   done-yes (done v) e = v
 
-  yes-done : {s : Step ℕ ℕ ℕ} → Result c u s → All (λ q. ¬ Condition u q c) order → s ≡ carriedOut c u
-  yes-done (refusal f a) n = absurd (first-none f n)
+  yes-done : {s : Step ℕ ℕ ℕ} → Result c u s → All (λ q. ¬ Condition u q c) order → s ≡ stepped (carried (dateOf c) (plan c u) u)
+  yes-done (refusal f) n = absurd (first-none f n)
   yes-done (done v) n = refl
 
 -- a call answers a number exactly where that number's condition is the first in the order to hold
@@ -113,23 +90,19 @@ done-exactly c u =
     (done-yes (step-result c u), λ n. ap (λ s. numberOf (s .answer .reply)) (yes-done (step-result c u) n) ∙ carried-fine c u .zero)
 
 -- every call with number 0 is carried out
-pub done-carried : (c : Request) (u : Uart ℕ ℕ) → numberOf (step c u .answer .reply) ≡ 0 → step c u ≡ carriedOut c u
+pub done-carried : (c : Request) (u : Uart ℕ ℕ) → numberOf (step c u .answer .reply) ≡ 0 → step c u ≡ stepped (carried (dateOf c) (plan c u) u)
 done-carried c u e = yes-done (step-result c u) (done-exactly c u .0 e)
 
 -- ---- a refusal keeps everything
 
--- a refused call returns its number alone: the state stays, the report is fixed, and a lent buffer keeps every byte
-pub record Untouched (c : Request) (u : Uart ℕ ℕ) (s : Step ℕ ℕ ℕ) : Type 0 where
-  pub refusal : Refusal
-  pub reply : Refuses refusal c (s .answer .reply)
-  pub report : s .answer .report ≡ noReport
-  pub state : s .state ≡ u
-
-pub refused-untouched : (c : Request) (u : Uart ℕ ℕ) → 1 ≤ numberOf (step c u .answer .reply) → Untouched c u (step c u)
+-- a refused call returns its refusal alone: the state stays, and the report is fixed
+pub refused-untouched : (c : Request) (u : Uart ℕ ℕ) → 1 ≤ numberOf (step c u .answer .reply)
+    → (r : Refusal) × (step c u ≡ record { answer = record { reply = plan c u .refuses r; report = noReport }; state = u; events = [] })
 refused-untouched c u = go (step-result c u)
   where
-    go : {s : Step ℕ ℕ ℕ} → Result c u s → 1 ≤ numberOf (s .answer .reply) → Untouched c u s
-    go (refusal {r = r} f a) le = record { refusal = r; reply = a; report = refl; state = refl }
+    go : {s : Step ℕ ℕ ℕ} → Result c u s → 1 ≤ numberOf (s .answer .reply)
+        → (r : Refusal) × (s ≡ record { answer = record { reply = plan c u .refuses r; report = noReport }; state = u; events = [] })
+    go (refusal {r = r} f) le = (r, refl)
     go (done v) le = absurd (omega (arith, carried-fine c u .zero))
 
 -- ---- notices
@@ -139,5 +112,5 @@ pub notices-few : (c : Request) (u : Uart ℕ ℕ) → Few (step c u .answer .re
 notices-few c u = go (step-result c u)
   where
     go : {s : Step ℕ ℕ ℕ} → Result c u s → Few (s .answer .report)
-    go (refusal f a) = no-report-few
+    go (refusal f) = no-report-few
     go (done v) = carried-fine c u .few

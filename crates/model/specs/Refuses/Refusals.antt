@@ -9,27 +9,24 @@ use lib.Dec.{leb, ltb}
 use lib.ListN.{length}
 use borrow.Author.Tests.{ltb-true, ltb-false, leb-true, leb-false, lt-ltb, le-leb}
 use Rattle.model.specs.State.{Run, Uart}
-use Rattle.model.specs.Replies.{refused}
+use Rattle.model.specs.Replies.{number, readNumber, writeNumber, doneNumber, takenNumber}
 use Rattle.model.specs.Map.{Register, isFifo, registerOf}
 use Rattle.model.specs.Tests.{pastEnd, wentBack, transmitFull, hostFull, runsFull, periodTooLong, bufferTooShort, refuseIf}
 use Rattle.model.specs.Tests.{refuseDate}
 use Rattle.model.specs.Calls
-use Rattle.model.specs.Calls.{Outcome, refusing, unless, lastDate, hostDate, notTaken, readPlaced, writePlaced, send, writeAt}
-use Rattle.model.specs.Call.{Call, Written, Request, Reply, reads, writes, does, takes}
-use Rattle.model.specs.Run.{answering, stepBy, writing, step}
+use Rattle.model.specs.Calls.{refusalBy, refusing, unless, carried, outcome, lastDate, hostDate, notTaken, readPlaced, writePlaced}
+use Rattle.model.specs.Calls.{send, writeAt}
+use Rattle.model.specs.Call.{Call, dateOf, Written, Request}
+use Rattle.model.specs.Run.{numberOf, stepped, replying, planBy, writing, plan, step}
 use Rattle.model.specs.Limits.{All, nil, cons}
 use Rattle.model.specs.Ends.Passes.{apart}
-use Rattle.model.specs.Laws.Choose.{choose-true, choose-false}
 use Rattle.model.specs.Laws.AccessCases.{write-ind}
-use Rattle.model.specs.Refuses.Conditions.{dateOf, Condition, number2, number3, number4, number5, number6, number7, number8, number8′}
-use Rattle.model.specs.Refuses.Conditions.{order, First, here, next, Refuses}
-use Rattle.model.specs.Refuses.Conditions.{writtenAt, carriedOut, Result, refusal, done}
+use Rattle.model.specs.Refuses.Conditions.{Condition, number2, number3, number4, number5, number6, number7, number8, number8′}
+use Rattle.model.specs.Refuses.Conditions.{order, First, here, next, Result, refusal, done}
 use Rattle.model.specs.Refuses.FifoPlace.{first-is-fifo, fifo-is-first}
 use Rattle.model.specs.declared.Refusal.{Refusal}
 use Rattle.model.specs.declared.Refusal.the-variants.{DatePastEnd, DateWentBack, TransmitFull, HostFull, RunsFull, PeriodTooLong}
 use Rattle.model.specs.declared.Refusal.the-variants.{BufferTooShort}
-use Rattle.model.specs.declared.Write.{Write}
-use Rattle.model.specs.declared.Done.{Done}
 
 -- ---- tests one after another
 
@@ -60,7 +57,18 @@ module _ {P : Refusal → Type 0} {rs : List Refusal} where
   tested-le a b r to from v =
       tested (leb a b) r (λ h. to (leb-true a b h)) (λ h p. absurd (let le : a ≤ b = from p in omega (arith, leb-false a b h))) v
 
-same-some : {A : Type 0} {a b : A} → some a ≡ some b → a ≡ b
+module _ {P : Refusal → Type 0} where
+  pub first-one : {rs : List Refusal} {q r : Refusal} → First P rs q → First P rs r → q ≡ r
+  first-one (here p) (here p′) = refl
+  first-one (here p) (next n f) = absurd (n p)
+  first-one (next n f) (here p) = absurd (n p)
+  first-one (next n f) (next n′ f′) = first-one f f′
+
+  pub first-none : {rs : List Refusal} {r : Refusal} → First P rs r → All (λ q. ¬ P q) rs → ⊥
+  first-none (here p) (cons n ns) = n p
+  first-none (next n f) (cons n′ ns) = first-none f ns
+
+pub same-some : {A : Type 0} {a b : A} → some a ≡ some b → a ≡ b
 same-some e = cc
 
 module _ (c : Request) (u : Uart ℕ ℕ) where
@@ -88,15 +96,11 @@ module _ (c : Request) (u : Uart ℕ ℕ) where
       not3 : ¬ Condition u DateWentBack c
       not3 (number3 e′ lt) = apart (cc)
 
-  never-refused : Verdict (λ q. Condition u q c) order none → Result c u (carriedOut c u)
-  never-refused (clear v) = done v
-
-  ends-as : {R : Type 0} (as-reply : R → Reply ℕ ℕ ℕ) (reply : Refusal → R) (work : Uart ℕ ℕ → Outcome R ℕ ℕ) (o : Option Refusal)
-      → ((r : Refusal) → Refuses r c (as-reply (reply r))) → carriedOut c u ≡ answering as-reply (work u)
-      → Verdict (λ q. Condition u q c) order o → Result c u (answering as-reply (unless o reply work u))
-  unfolding unless refusing answering
-  ends-as as-reply reply work none a e (clear v) = subst (Result c u) e (done v)
-  ends-as as-reply reply work (some r) a e (stopped v) = refusal v (a r)
+  ends : (o : Option Refusal) → Verdict (λ q. Condition u q c) order o
+      → Result c u (stepped (unless o (plan c u .refuses) (carried (dateOf c) (plan c u)) u))
+  unfolding unless refusing stepped
+  ends none (clear v) = done v
+  ends (some r) (stopped v) = refusal v
 
 -- ---- the tests of one call alone, as document 01's conditions
 
@@ -182,53 +186,68 @@ module _ (now : ℕ) (x : Written) (u : Uart ℕ ℕ) where
   not-fifo h (number4 {others = os} is le) =
       let f : isFifo register ≡ true = ap isFifo (ap (λ l. registerOf l (x .offset)) is ∙ first-is-fifo (x .offset) os) in apart (cc)
 
-  write-result : Result (Call.write now x) u (answering writes (writeAt now register (x .value) u))
-  unfolding carriedOut send writePlaced writtenAt transmitFull dateOf
-  write-result = write-ind (λ o. Result (Call.write now x) u (answering writes o)) now register (x .value) u
-      (λ e. ends-as _ u writes Write.Refused _ _ (λ r. Refuses.write) (ap (answering writes) (choose-true _ _ e))
-      (dates _ u now _ refl (skip (elim [ ]) (skip (elim [ ])
+  write-verdict : Verdict (λ q. Condition u q (Call.write now x)) order
+      (refuseDate now (u .control) (writeAt now register (x .value) u .test))
+  unfolding send writePlaced transmitFull dateOf
+  write-verdict = write-ind (λ p. Verdict (λ q. Condition u q (Call.write now x)) order (refuseDate now (u .control) (p .test)))
+      now register (x .value) u
+      (λ e. dates _ u now _ refl (skip (elim [ ]) (skip (elim [ ])
       (tested-le 1152 _ TransmitFull (number4 (fifo-is-first (u .map .offsets) (x .offset) e .1)) (from4 u)
-      (clear (cons (elim [ ]) (cons (elim [ ]) nil))))))))
-      (λ e. ends-as _ u writes Write.Refused _ _ (λ r. Refuses.write) (ap (answering writes) (choose-false _ _ e))
-      (dates _ u now none refl (no-other (elim [ ]) (elim [ ]) (not-fifo e) (elim [ ]) (elim [ ]))))
+      (clear (cons (elim [ ]) (cons (elim [ ]) nil)))))))
+      (λ e. dates _ u now none refl (no-other (elim [ ]) (elim [ ]) (not-fifo e) (elim [ ]) (elim [ ])))
+
+-- the tests of each call
+verdict : (c : Request) (u : Uart ℕ ℕ) → Verdict (λ q. Condition u q c) order (refusalBy (dateOf c) (plan c u .test) (u .control))
+unfolding plan planBy replying writing dateOf hostFull bufferTooShort tooMany
+    Calls.read readPlaced Calls.write Calls.receive Calls.wake Calls.reset Calls.powerDown Calls.watch Calls.clockChange Calls.takeTx
+    Calls.takeWritten Calls.hasLeft Calls.hostPending
+verdict (Call.read now offset) u = dates _ u now none refl (no-other (elim [ ]) (elim [ ]) (elim [ ]) (elim [ ]) (elim [ ]))
+verdict (Call.write now x) u = write-verdict now x u
+verdict (Call.receive now at bs) u =
+    dates _ u now _ refl (skip (elim [ ]) (skip (elim [ ]) (skip (elim [ ])
+    (tested-lt 1024 _ HostFull number5 (from5 u now at bs)
+    (tested _ RunsFull (number6-yes u now at bs) (number6-no u now at bs) (clear nil))))))
+verdict (Call.wake now) u = dates _ u now none refl (no-other (elim [ ]) (elim [ ]) (elim [ ]) (elim [ ]) (elim [ ]))
+verdict (Call.reset now) u = dates _ u now none refl (no-other (elim [ ]) (elim [ ]) (elim [ ]) (elim [ ]) (elim [ ]))
+verdict (Call.powerDown now) u = dates _ u now none refl (no-other (elim [ ]) (elim [ ]) (elim [ ]) (elim [ ]) (elim [ ]))
+verdict (Call.watch now b) u = dates _ u now none refl (no-other (elim [ ]) (elim [ ]) (elim [ ]) (elim [ ]) (elim [ ]))
+verdict (Call.clockChange now period) u =
+    dates _ u now _ refl (tested-lt 1000000 period PeriodTooLong number7 (from7 u)
+    (skip (elim [ ]) (skip (elim [ ]) (skip (elim [ ]) (skip (elim [ ]) (clear nil))))))
+verdict (Call.takeTx now lent) u =
+    dates _ u now _ refl (skip (elim [ ]) (tested-lt (length lent) 1152 BufferTooShort number8 (from8 u)
+    (skip (elim [ ]) (skip (elim [ ]) (skip (elim [ ]) (clear nil))))))
+verdict (Call.takeWritten lent) u =
+    undated _ u _ refl (skip (elim [ ]) (tested-lt (length lent) 1152 BufferTooShort number8′ (from8′ u)
+    (skip (elim [ ]) (skip (elim [ ]) (skip (elim [ ]) (clear nil))))))
+verdict Call.hasLeft u = undated _ u none refl (no-other (elim [ ]) (elim [ ]) (elim [ ]) (elim [ ]) (elim [ ]))
+verdict Call.hostPending u = undated _ u none refl (no-other (elim [ ]) (elim [ ]) (elim [ ]) (elim [ ]) (elim [ ]))
 
 -- every call is refused or carried out, as document 01's table and order say
 pub step-result : (c : Request) (u : Uart ℕ ℕ) → Result c u (step c u)
-unfolding step stepBy writing carriedOut dateOf hostFull periodTooLong bufferTooShort tooMany notTaken
-    Calls.read readPlaced Calls.write Calls.receive Calls.wake Calls.reset Calls.powerDown Calls.watch Calls.clockChange Calls.takeTx
-    Calls.takeWritten
-step-result (Call.read now offset) u =
-    ends-as _ u reads refused _ _ (λ r. Refuses.read) refl
-    (dates _ u now none refl (no-other (elim [ ]) (elim [ ]) (elim [ ]) (elim [ ]) (elim [ ])))
-step-result (Call.write now x) u = write-result now x u
-step-result (Call.receive now at bs) u =
-    ends-as _ u does Done.Refused _ _ (λ r. Refuses.receive) refl
-    (dates _ u now _ refl (skip (elim [ ]) (skip (elim [ ]) (skip (elim [ ])
-    (tested-lt 1024 _ HostFull number5 (from5 u now at bs)
-    (tested _ RunsFull (number6-yes u now at bs) (number6-no u now at bs) (clear nil)))))))
-step-result (Call.wake now) u =
-    ends-as _ u does Done.Refused _ _ (λ r. Refuses.wake) refl
-    (dates _ u now none refl (no-other (elim [ ]) (elim [ ]) (elim [ ]) (elim [ ]) (elim [ ])))
-step-result (Call.reset now) u =
-    ends-as _ u does Done.Refused _ _ (λ r. Refuses.reset) refl
-    (dates _ u now none refl (no-other (elim [ ]) (elim [ ]) (elim [ ]) (elim [ ]) (elim [ ])))
-step-result (Call.powerDown now) u =
-    ends-as _ u does Done.Refused _ _ (λ r. Refuses.powerDown) refl
-    (dates _ u now none refl (no-other (elim [ ]) (elim [ ]) (elim [ ]) (elim [ ]) (elim [ ])))
-step-result (Call.watch now b) u =
-    ends-as _ u does Done.Refused _ _ (λ r. Refuses.watch) refl
-    (dates _ u now none refl (no-other (elim [ ]) (elim [ ]) (elim [ ]) (elim [ ]) (elim [ ])))
-step-result (Call.clockChange now period) u =
-    ends-as _ u does Done.Refused _ _ (λ r. Refuses.clockChange) refl
-    (dates _ u now _ refl (tested-lt 1000000 period PeriodTooLong number7 (from7 u)
-    (skip (elim [ ]) (skip (elim [ ]) (skip (elim [ ]) (skip (elim [ ]) (clear nil)))))))
-step-result (Call.takeTx now lent) u =
-    ends-as _ u takes (notTaken lent) _ _ (λ r. Refuses.takeTx) refl
-    (dates _ u now _ refl (skip (elim [ ]) (tested-lt (length lent) 1152 BufferTooShort number8 (from8 u)
-    (skip (elim [ ]) (skip (elim [ ]) (skip (elim [ ]) (clear nil)))))))
-step-result (Call.takeWritten lent) u =
-    ends-as _ u takes (notTaken lent) _ _ (λ r. Refuses.takeWritten) refl
-    (undated _ u _ refl (skip (elim [ ]) (tested-lt (length lent) 1152 BufferTooShort number8′ (from8′ u)
-    (skip (elim [ ]) (skip (elim [ ]) (skip (elim [ ]) (clear nil)))))))
-step-result Call.hasLeft u = never-refused _ u (undated _ u none refl (no-other (elim [ ]) (elim [ ]) (elim [ ]) (elim [ ]) (elim [ ])))
-step-result Call.hostPending u = never-refused _ u (undated _ u none refl (no-other (elim [ ]) (elim [ ]) (elim [ ]) (elim [ ]) (elim [ ])))
+unfolding step outcome
+step-result c u = ends c u _ (verdict c u)
+
+-- has_left and host_pending are never refused
+never : {P : Refusal → Type 0} {rs : List Refusal} {r : Refusal} → Verdict P rs none → First P rs r → ⊥
+never (clear n) f = first-none f n
+
+-- the reply of a refused call has its number
+pub refuses-number : (c : Request) (u : Uart ℕ ℕ) (r : Refusal) → First (λ q. Condition u q c) order r
+    → numberOf (plan c u .refuses r) ≡ number r
+unfolding plan planBy replying writing numberOf readNumber writeNumber doneNumber takenNumber notTaken dateOf
+    Calls.read readPlaced Calls.write send writePlaced Calls.receive Calls.wake Calls.reset Calls.powerDown Calls.watch Calls.clockChange
+    Calls.takeTx Calls.takeWritten Calls.hasLeft Calls.hostPending
+refuses-number (Call.read now offset) u r f = refl
+refuses-number (Call.write now x) u r f =
+    write-ind (λ p. writeNumber (p .refuses r) ≡ number r) now _ (x .value) u (λ _. refl) (λ _. refl)
+refuses-number (Call.receive now at bs) u r f = refl
+refuses-number (Call.wake now) u r f = refl
+refuses-number (Call.reset now) u r f = refl
+refuses-number (Call.powerDown now) u r f = refl
+refuses-number (Call.watch now b) u r f = refl
+refuses-number (Call.clockChange now period) u r f = refl
+refuses-number (Call.takeTx now lent) u r f = refl
+refuses-number (Call.takeWritten lent) u r f = refl
+refuses-number Call.hasLeft u r f = absurd (never (verdict Call.hasLeft u) f)
+refuses-number Call.hostPending u r f = absurd (never (verdict Call.hostPending u) f)

@@ -1,27 +1,34 @@
 -- Corners of document 01 that the other laws do not say of `step`: what a reset drops and what it keeps, which calls arm nothing, what
--- CONF0
--- with TXFIFO_RST leaves in flight, and a due timeout beside a byte on the line. Assumes nothing.
-use mathlib.Core.Path.{_≡_, refl, ap, _∙_}
-use Prim.Native.Nat.{ℕ}
-use mathlib.Core.Bool.{Bool, true, false, _||_, decide}
-use mathlib.Core.Option.{none, some}
-use mathlib.Core.List.{List, [], _∷_}
+-- CONF0 with TXFIFO_RST leaves in flight, and a due timeout beside a byte on the line. Assumes nothing.
+use mathlib.Core.Path.{_≡_, ap, ap₂, _∙_}
+use Prim.Native.Nat.{ℕ, _%_, _^_}
+use native.Mathlib.Nat.{zero-div}
+use native.Mathlib.Omega.{arith}
+use mathlib.Core.Bool.{Bool, true, false, _&&_, _||_, and-false, decide}
+use mathlib.Core.Option.{some}
+use mathlib.Core.List.{List, []}
+use lib.Dec.{ltb, eqb}
 use lib.ListN.{take}
-use Rattle.model.specs.Numbers.{choose, bit, dueBy}
-use Rattle.model.specs.State.{Sent, OnTheLine, Uart, lineOf, withPoweredDownAt, withControl}
+use borrow.Author.Tests.{le-ltb}
+use Rattle.model.specs.Manual
+use Rattle.model.specs.Numbers.{choose, field, bit, dueBy}
+use Rattle.model.specs.State.{OnTheLine, Uart, lineOf, withPoweredDownAt, withControl}
 use Rattle.model.specs.Line.{raiseIf, timeoutAt}
-use Rattle.model.specs.Settle.{Pass, timedOut, inFrame, passOn, pass, assertLevels, drive, levels, settle, settleTo}
+use Rattle.model.specs.Settle.{timedOut, inFrame, passOn, pass, aboveFull, inFifo, emptyThreshold, belowEmpty, assertLevels}
+use Rattle.model.specs.Settle.{drive, levels, settle}
 use Rattle.model.specs.Arm.{instants, armAll, arm}
 use Rattle.model.specs.Map.{Word, Register, registerOf}
 use Rattle.model.specs.Registers.{resetFifos, storing, writeRegister, concluded}
-use Rattle.model.specs.Calls.{afterSettling, quiet, dated, settleAt, handOver, cleared, clearedLine, writeWork}
-use Rattle.model.specs.Call.{Call, Request, Written}
-use Rattle.model.specs.Run.{Step, numberOf, answering, step}
+use Rattle.model.specs.Calls
+use Rattle.model.specs.Calls.{afterSettling, quiet, dated, settleAt, handOver, cleared, clearedLine, writePlaced, carried}
+use Rattle.model.specs.Call.{Call, dateOf, Written}
+use Rattle.model.specs.Run.{Step, numberOf, stepped, replying, planBy, plan, step}
+use Rattle.model.specs.Laws.Plans.{answering}
 use Rattle.model.specs.Laws.Choose.{choose-true}
 use Rattle.model.specs.Keeps.Kept.{settle-keeps}
-use Rattle.model.specs.Ends.Settlings.{settles, settlings, leftBy, worked, Works, call-works}
+use Rattle.model.specs.Refuses.Exactly.{done-carried}
 use Rattle.model.specs.MeetsManual.Answers.{InTime, settled}
-use Rattle.model.specs.MeetsManual.Rises.{rawBit, fullIn, emptyIn, levels-raise}
+use Rattle.model.specs.MeetsManual.Rises.{rawBit, levels-raise}
 use Rattle.model.specs.ShutsOut.Notices.{conf0-answer}
 use Rattle.model.specs.declared.Date.{Date}
 use Rattle.model.specs.declared.Source.{Source}
@@ -29,86 +36,83 @@ use Rattle.model.specs.declared.Settings.{Settings}
 
 -- ---- reset
 
+no-bit : (n : ℕ) → bit n 0 ≡ false
+no-bit n = ap (λ (x : ℕ). eqb (x % 2) 1) (zero-div (2 ^ n))
+
+never-above : (n threshold : ℕ) → (eqb n 0 && ltb threshold 0) ≡ false
+never-above n threshold = ap (λ (b : Bool). eqb n 0 && b) (le-ltb threshold 0 (omega arith)) ∙ and-false (eqb n 0)
+
 module _ (now : ℕ) (u : Uart ℕ ℕ) (done : numberOf (step (Call.reset now) u .answer .reply) ≡ 0) where
   -- the state that it works on: power-down ended, and settled
   abbrev found : Uart ℕ ℕ
   found = settle now (dated now (withControl (withPoweredDownAt Date.None (u .control)) u)) .state
 
-  abbrev after : Uart ℕ ℕ
-  after = step (Call.reset now) u .state
+  reset-is : step (Call.reset now) u .state ≡ arm (levels (cleared found))
+  unfolding stepped carried afterSettling dateOf plan planBy replying quiet Calls.reset
+  reset-is = ap (λ (s : Step ℕ ℕ ℕ). s .state) (done-carried (Call.reset now) u done)
 
-  reset-is : after ≡ arm (levels (cleared found))
-  unfolding settlings leftBy worked quiet
-  reset-is = call-works (Call.reset now) u done .state
+  found-map : found .map ≡ u .map
+  unfolding dated
+  found-map = settle-keeps now _ .map
 
-  -- bytes in flight and received go, the idle line closes, a mistimed reception is forgotten, the words are those of reset
-  pub record Dropped (v : Uart ℕ ℕ) : Type 0 where
-    pub inFlight : v .inFlight ≡ []
-    pub rx : v .rx ≡ []
-    pub idle : lineOf v .«idle_since» ≡ Date.None
-    pub mistimed : lineOf v .«rx_mistimed» ≡ Source.None
-    pub words : v .control .words ≡ found .map .reset
-    pub poweredDown : v .control .«powered_down_at» ≡ Date.None
+  -- bytes in flight and received go, the idle line closes, a mistimed reception is forgotten, the words are those of reset, and
+  -- power-down has ended
+  pub reset-drops : let v : Uart ℕ ℕ = step (Call.reset now) u .state in
+      (v .inFlight ≡ []) × (v .rx ≡ []) × (lineOf v .«idle_since» ≡ Date.None) × (lineOf v .«rx_mistimed» ≡ Source.None)
+      × (v .control .words ≡ u .map .reset) × (v .control .«powered_down_at» ≡ Date.None)
+  unfolding arm levels drive assertLevels raiseIf cleared clearedLine dated
+  reset-drops = (
+    ap (λ v. v .inFlight) reset-is,
+    ap (λ v. v .rx) reset-is,
+    ap (λ v. lineOf v .«idle_since») reset-is,
+    ap (λ v. lineOf v .«rx_mistimed») reset-is,
+    ap (λ v. v .control .words) reset-is ∙ ap (λ m. m .reset) found-map,
+    ap (λ v. v .control .«powered_down_at») reset-is ∙ settle-keeps now _ .poweredDownAt,
+  )
 
   -- host bytes, the byte on the line, when the line is free, bytes that left and the watch mark stay
-  pub record Stayed (v : Uart ℕ ℕ) : Type 0 where
-    pub host : v .host ≡ found .host
-    pub hostRuns : v .hostRuns ≡ found .hostRuns
-    pub receiving : v .receiving ≡ found .receiving
-    pub free : lineOf v .«line_free_at» ≡ lineOf found .«line_free_at»
-    pub tx : v .tx ≡ found .tx
-    pub watched : v .control .watched ≡ found .control .watched
-
-  pub reset-drops : Dropped after
+  pub reset-keeps : let v : Uart ℕ ℕ = step (Call.reset now) u .state in
+      (v .host ≡ found .host) × (v .hostRuns ≡ found .hostRuns) × (v .receiving ≡ found .receiving)
+      × (lineOf v .«line_free_at» ≡ lineOf found .«line_free_at») × (v .tx ≡ found .tx)
+      × (v .control .watched ≡ found .control .watched)
   unfolding arm levels drive assertLevels raiseIf cleared clearedLine dated
-  reset-drops = record {
-    inFlight = ap (λ v. v .inFlight) reset-is;
-    rx = ap (λ v. v .rx) reset-is;
-    idle = ap (λ v. lineOf v .«idle_since») reset-is;
-    mistimed = ap (λ v. lineOf v .«rx_mistimed») reset-is;
-    words = ap (λ v. v .control .words) reset-is;
-    poweredDown = ap (λ v. v .control .«powered_down_at») reset-is ∙ settle-keeps now _ .poweredDownAt;
-  }
-
-  pub reset-keeps : Stayed after
-  unfolding arm levels drive assertLevels raiseIf cleared clearedLine dated
-  reset-keeps = record {
-    host = ap (λ v. v .host) reset-is;
-    hostRuns = ap (λ v. v .hostRuns) reset-is;
-    receiving = ap (λ v. v .receiving) reset-is;
-    free = ap (λ v. lineOf v .«line_free_at») reset-is;
-    tx = ap (λ v. v .tx) reset-is;
-    watched = ap (λ v. v .control .watched) reset-is;
-  }
+  reset-keeps = (
+    ap (λ v. v .host) reset-is,
+    ap (λ v. v .hostRuns) reset-is,
+    ap (λ v. v .receiving) reset-is,
+    ap (λ v. lineOf v .«line_free_at») reset-is,
+    ap (λ v. v .tx) reset-is,
+    ap (λ v. v .control .watched) reset-is,
+  )
 
   -- the wake that was armed stays, and the instants that ask for one are armed
-  pub reset-wake : after .control .wake ≡ armAll (instants (levels (cleared found))) (u .control .wake)
+  pub reset-wake : step (Call.reset now) u .state .control .wake ≡ armAll (instants (levels (cleared found))) (u .control .wake)
   unfolding arm levels drive assertLevels cleared dated
   reset-wake =
       ap (λ v. v .control .wake) reset-is ∙ ap (armAll (instants (levels (cleared found)))) (settle-keeps now _ .wake)
 
-  -- INT_RAW has only what the level rules raise
-  pub reset-raw : (n : ℕ) → rawBit n after ≡ (rawBit n (cleared found) || fullIn n (cleared found) || emptyIn n (cleared found))
-  unfolding arm
-  reset-raw n = ap (rawBit n) reset-is ∙ levels-raise n (cleared found)
-
-  pub cleared-raw : lineOf (cleared found) .«int_raw» ≡ 0
-  unfolding cleared clearedLine
-  cleared-raw = refl
+  -- INT_RAW is cleared, and then has only what the level rules raise: of empty FIFOs TXFIFO_EMPTY, by the threshold that reset gives
+  pub reset-raw : (n : ℕ) → rawBit n (step (Call.reset now) u .state)
+      ≡ (eqb n 1 && Manual.TXFIFO-EMPTY (u .map .reset .conf1) 0)
+  unfolding arm cleared clearedLine aboveFull belowEmpty inFifo emptyThreshold Manual.TXFIFO-EMPTY
+  reset-raw n =
+      ap (rawBit n) reset-is ∙ levels-raise n (cleared found)
+      ∙ ap₂ (λ a b. a || b || (eqb n 1 && ltb 0 (field 9 9 (found .map .reset .conf1)))) (no-bit n) (never-above n (field 0 9 (found .map .reset .conf1)))
+      ∙ ap (λ m. eqb n 1 && ltb 0 (field 9 9 (m .reset .conf1))) found-map
 
 -- ---- calls that arm nothing
 
 -- an empty hand-over settles, and the wake stays
 pub empty-receive-arms-nothing : (now at : ℕ) (u : Uart ℕ ℕ) → numberOf (step (Call.receive now at []) u .answer .reply) ≡ 0
     → step (Call.receive now at []) u .state ≡ settled now u
-unfolding settlings leftBy worked quiet handOver settleAt
-empty-receive-arms-nothing now at u done = call-works (Call.receive now at []) u done .state
+unfolding stepped carried afterSettling dateOf plan planBy replying quiet handOver Calls.receive
+empty-receive-arms-nothing now at u done = ap (λ (s : Step ℕ ℕ ℕ). s .state) (done-carried (Call.receive now at []) u done)
 
 -- so does taking what left
 pub take-arms-nothing : (now : ℕ) (lent : List ℕ) (u : Uart ℕ ℕ) → numberOf (step (Call.takeTx now lent) u .answer .reply) ≡ 0
     → step (Call.takeTx now lent) u .state .control ≡ settled now u .control
-unfolding settlings leftBy worked quiet settleAt
-take-arms-nothing now lent u done = ap (λ v. v .control) (call-works (Call.takeTx now lent) u done .state)
+unfolding stepped carried afterSettling dateOf plan planBy replying quiet Calls.takeTx
+take-arms-nothing now lent u done = ap (λ (s : Step ℕ ℕ ℕ). s .state .control) (done-carried (Call.takeTx now lent) u done)
 
 -- ---- CONF0 with TXFIFO_RST
 
@@ -116,7 +120,7 @@ take-arms-nothing now lent u done = ap (λ v. v .control) (call-works (Call.take
 pub txfifo-rst-keeps-one : (now : ℕ) (u : Uart ℕ ℕ) (x : Written) (t : InTime now u)
     → registerOf (u .map .offsets) (x .offset) ≡ Register.stored Word.conf0 → bit 18 (x .value) ≡ true
     → step (Call.write now x) u .state .inFlight ≡ take 1 (settled now u .inFlight)
-unfolding answering writeWork afterSettling concluded writeRegister storing resetFifos arm levels choose decide
+unfolding answering carried writePlaced afterSettling concluded writeRegister storing resetFifos arm levels choose decide
 txfifo-rst-keeps-one now u x t e rst =
     ap (λ (s : Step ℕ ℕ ℕ). s .state .inFlight) (conf0-answer now u x t e)
     ∙ ap (λ (b : Bool). choose b (take 1 (settled now u .inFlight)) (settled now u .inFlight)) rst

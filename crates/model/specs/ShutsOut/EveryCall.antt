@@ -4,10 +4,11 @@ use mathlib.Core.Path.{_≡_, refl}
 use Prim.Native.Nat.{ℕ, _%_, _≤_}
 use native.Mathlib.Omega.{arith}
 use mathlib.Core.Bool.{Bool, true, false}
-use mathlib.Core.Option.{Option}
+use mathlib.Core.Option.{Option, some}
 use mathlib.Core.List.{List, [], _∷_}
 use Rattle.dates.specs.Dates.{subcycles}
-use Rattle.model.specs.State.{OnTheLine, Uart, withWake, withMistimed, withPoweredDownAt, withControl, lineOf, withLineOf}
+use Rattle.model.specs.State.{OnTheLine, Uart, withWake, withMistimed, withPoweredDownAt, withControl, withTx, lineOf}
+use Rattle.model.specs.State.{withLineOf}
 use Rattle.model.specs.Settle.{levels, noLaterThan, settlingDate, settleTo, settle}
 use Rattle.model.specs.Arm.{arm, called}
 use Rattle.model.specs.Replies.{ReadOf}
@@ -15,74 +16,28 @@ use Rattle.model.specs.Map.{Register, registerOf}
 use Rattle.model.specs.Registers.{Access, pop, readRegister, looks, readLooking, readAt, sendByte, sent, dropped}
 use Rattle.model.specs.Registers.{storing, clearing, resetFifos, writeRegister, concluded}
 use Rattle.model.specs.Calls
-use Rattle.model.specs.Calls.{Outcome, refusing, unless, unsettled, undated, quiet, settleAt, dated, clocked, reclocked}
-use Rattle.model.specs.Calls.{cleared, handOver, afterSettling, readWork, sendWork, writePlaced, writeWork, send, wakeWork, clockWork}
-use Rattle.model.specs.Calls.{resetWork}
-use Rattle.model.specs.Call.{Call, Written, Request}
-use Rattle.model.specs.Run.{answering, stepBy, writing, step}
+use Rattle.model.specs.Calls.{Outcome, Plan, refusing, undated, carried, outcome, quiet, filled, settleAt, dated, clocked, hostDate}
+use Rattle.model.specs.Calls.{cleared, handOver, afterSettling, writePlaced, send}
+use Rattle.model.specs.Call.{Call, dateOf, Written, Request, Reply}
+use Rattle.model.specs.Run.{stepped, replying, planBy, writing, plan, step}
 use Rattle.model.specs.Laws.Choose.{choose-ind}
 use Rattle.model.specs.Laws.AccessCases.{write-ind, unless-ind, writeRegister-ind, readRegister-ind}
 use Rattle.model.specs.declared.Date.{Date}
 use Rattle.model.specs.declared.RegisterMap.{RegisterMap}
 use Rattle.model.specs.declared.Source.{Source}
-use Rattle.model.specs.declared.Refusal.{Refusal}
 use Rattle.model.specs.declared.Unsupported.{Unsupported}
 use Rattle.model.specs.declared.Write.{Write}
 use Rattle.model.specs.declared.Done.{Done}
-
--- a call's cycle; 0 for an undated one
-unfoldable pub nowOf : Request → ℕ
-nowOf (Call.read now r) = now
-nowOf (Call.write now x) = now
-nowOf (Call.receive now at bs) = now
-nowOf (Call.wake now) = now
-nowOf (Call.reset now) = now
-nowOf (Call.powerDown now) = now
-nowOf (Call.watch now b) = now
-nowOf (Call.clockChange now p) = now
-nowOf (Call.takeTx now lent) = now
-nowOf (Call.takeWritten lent) = 0
-nowOf Call.hasLeft = 0
-nowOf Call.hostPending = 0
-
--- a write to INT_CLR
-abbrev pub Clears : Request → Uart ℕ ℕ → Type 0
-Clears (Call.read now r) u = ⊥
-Clears (Call.write now x) u = registerOf (u .map .offsets) (x .offset) ≡ Register.intClr
-Clears (Call.receive now at bs) u = ⊥
-Clears (Call.wake now) u = ⊥
-Clears (Call.reset now) u = ⊥
-Clears (Call.powerDown now) u = ⊥
-Clears (Call.watch now b) u = ⊥
-Clears (Call.clockChange now p) u = ⊥
-Clears (Call.takeTx now lent) u = ⊥
-Clears (Call.takeWritten lent) u = ⊥
-Clears Call.hasLeft u = ⊥
-Clears Call.hostPending u = ⊥
-
-abbrev pub Resets : Request → Type 0
-Resets (Call.read now r) = ⊥
-Resets (Call.write now x) = ⊥
-Resets (Call.receive now at bs) = ⊥
-Resets (Call.wake now) = ⊥
-Resets (Call.reset now) = Unit {0}
-Resets (Call.powerDown now) = ⊥
-Resets (Call.watch now b) = ⊥
-Resets (Call.clockChange now p) = ⊥
-Resets (Call.takeTx now lent) = ⊥
-Resets (Call.takeWritten lent) = ⊥
-Resets Call.hasLeft = ⊥
-Resets Call.hostPending = ⊥
 
 -- INT_RAW, the byte on the line, when it lands, and the register map
 abbrev pub watchedParts : Uart ℕ ℕ → ℕ × Option (OnTheLine ℕ) × ℕ × RegisterMap
 watchedParts u = (lineOf u .«int_raw», u .receiving, lineOf u .«line_free_at», u .map)
 
--- what a relation between states needs to be led along a call at `now`
-pub record Walk (now : ℕ) (R : Uart ℕ ℕ → Uart ℕ ℕ → Type 0) : Type 0 where
+-- what a relation between states needs to be led along a call with a date, if it has one
+pub record Walk (d : Option ℕ) (R : Uart ℕ ℕ → Uart ℕ ℕ → Type 0) : Type 0 where
   pub on : (u v w : Uart ℕ ℕ) → R u v → R v w → R u w
   pub alike : (u v : Uart ℕ ℕ) → watchedParts v ≡ watchedParts u → R u v
-  pub settling : (date : ℕ) → date ≤ subcycles now → (u : Uart ℕ ℕ) → R u (settleTo date u .state)
+  pub settling : (now : ℕ) → d ≡ some now → (date : ℕ) → date ≤ subcycles now → (u : Uart ℕ ℕ) → R u (settleTo date u .state)
   pub raising : (u : Uart ℕ ℕ) → R u (levels u)
 
 no-later : (d : Date) (n : ℕ) → noLaterThan d n ≤ n
@@ -90,24 +45,19 @@ unfolding noLaterThan
 no-later Date.None n = omega arith
 no-later (Date.At a) n = omega arith
 
-module _ (now : ℕ) (R : Uart ℕ ℕ → Uart ℕ ℕ → Type 0) (k : Walk now R) where
+module _ (now : ℕ) (R : Uart ℕ ℕ → Uart ℕ ℕ → Type 0) (k : Walk (some now) R) where
   walk-settle : (u : Uart ℕ ℕ) → R u (settle now u .state)
   unfolding settle settlingDate
-  walk-settle u = k .settling _ (no-later (u .control .«powered_down_at») (subcycles now)) u
+  walk-settle u = k .settling now refl _ (no-later (u .control .«powered_down_at») (subcycles now)) u
 
   walk-settled : (u : Uart ℕ ℕ) → R u (settleAt now u .state)
-  unfolding settleAt dated
+  unfolding dated
   walk-settled u = k .on u (dated now u) _ (k .alike u _ refl) (walk-settle (dated now u))
 
   walk-after : {A : Type 0} (u : Uart ℕ ℕ) (work : Uart ℕ ℕ → Access A ℕ ℕ) → ((v : Uart ℕ ℕ) → R v (work v .state))
       → R u (afterSettling (settleAt now u) work .state)
   unfolding afterSettling
   walk-after u work h = k .on u (settleAt now u .state) _ (walk-settled u) (h (settleAt now u .state))
-
-  walk-unless : {A : Type 0} (o : Option Refusal) (reply : Refusal → A) (work : Uart ℕ ℕ → Outcome A ℕ ℕ) (u : Uart ℕ ℕ)
-      → R u (work u .state) → R u (unless o reply work u .state)
-  unfolding refusing
-  walk-unless o reply work u h = unless-ind (λ (x : Outcome _ ℕ ℕ). R u (x .state)) o reply work u (λ r. k .alike u u refl) h
 
   -- ---- reads
 
@@ -149,16 +99,14 @@ module _ (now : ℕ) (R : Uart ℕ ℕ → Uart ℕ ℕ → Type 0) (k : Walk no
 
   walk-write : (x : Written) (u : Uart ℕ ℕ) → (registerOf (u .map .offsets) (x .offset) ≡ Register.intClr → (v : ℕ) (s : Uart ℕ ℕ)
       → R s (clearing v s .state))
-      → R u (Calls.write now (x .offset) (x .value) u .state)
-  unfolding Calls.write send sendWork writePlaced writeWork
+      → R u (carried (some now) (Calls.write now (x .offset) (x .value) u) u .state)
+  unfolding carried Calls.write send writePlaced
   walk-write x u clr =
       let p : Register = registerOf (u .map .offsets) (x .offset) in
-      write-ind (λ (o : Outcome Write ℕ ℕ). R u (o .state)) now p (x .value) u
-      (λ _. walk-unless _ Write.Refused (sendWork now (x .value % 256)) u
-      (walk-after u (λ s. concluded (sendByte now (x .value % 256) s)) (λ v. walk-concluded v _ (walk-send (x .value % 256) v))))
-      (λ _. walk-unless _ Write.Refused (writeWork now p (x .value)) u
-      (walk-after u (λ s. concluded (writeRegister p (x .value) s))
-      (λ v. walk-concluded v _ (walk-write-register (x .value) v p (λ e. clr e (x .value) v)))))
+      write-ind (λ (q : Plan Write ℕ ℕ). R u (carried (some now) q u .state)) now p (x .value) u
+      (λ _. walk-after u (λ s. concluded (sendByte now (x .value % 256) s)) (λ v. walk-concluded v _ (walk-send (x .value % 256) v)))
+      (λ _. walk-after u (λ s. concluded (writeRegister p (x .value) s))
+      (λ v. walk-concluded v _ (walk-write-register (x .value) v p (λ e. clr e (x .value) v))))
 
   -- ---- the other calls
 
@@ -173,21 +121,21 @@ module _ (now : ℕ) (R : Uart ℕ ℕ → Uart ℕ ℕ → Type 0) (k : Walk no
   walk-armed u v e =
       k .on u v _ (k .alike u v e) (k .on v (settleAt now v .state) _ (walk-settled v) (k .alike (settleAt now v .state) _ refl))
 
-  walk-wake : (u : Uart ℕ ℕ) → R u (wakeWork now u .state)
-  unfolding wakeWork afterSettling quiet
+  walk-wake : (u : Uart ℕ ℕ) → R u (carried (some now) (Calls.wake now u) u .state)
+  unfolding carried Calls.wake afterSettling quiet
   walk-wake u = walk-armed u (withControl (withWake (called now (u .control .wake)) (u .control)) u) refl
 
   -- a clock change settles twice
-  walk-clock : (period : ℕ) (u : Uart ℕ ℕ) → R u (clockWork now period u .state)
-  unfolding clockWork afterSettling reclocked clocked arm quiet
+  walk-clock : (period : ℕ) (u : Uart ℕ ℕ) → R u (carried (some now) (Calls.clockChange now period u) u .state)
+  unfolding carried Calls.clockChange afterSettling clocked arm quiet
   walk-clock period u =
       let v : Uart ℕ ℕ = settleAt now u .state in
       let w : Uart ℕ ℕ = clocked period v in
       k .on u v _ (walk-settled u) (k .on v w _ (k .alike v w refl)
       (k .on w (settle now w .state) _ (walk-settle w) (k .alike (settle now w .state) _ refl)))
 
-  walk-reset : (u : Uart ℕ ℕ) → ((s : Uart ℕ ℕ) → R s (cleared s)) → R u (resetWork now u .state)
-  unfolding resetWork afterSettling quiet arm
+  walk-reset : (u : Uart ℕ ℕ) → ((s : Uart ℕ ℕ) → R s (cleared s)) → R u (carried (some now) (Calls.reset now u) u .state)
+  unfolding carried Calls.reset afterSettling quiet arm
   walk-reset u clr =
       let v : Uart ℕ ℕ = withControl (withPoweredDownAt Date.None (u .control)) u in
       let w : Uart ℕ ℕ = settleAt now v .state in
@@ -195,27 +143,35 @@ module _ (now : ℕ) (R : Uart ℕ ℕ → Uart ℕ ℕ → Type 0) (k : Walk no
       (k .on v w _ (walk-settled v) (k .on w (cleared w) _ (clr w)
       (k .on (cleared w) (levels (cleared w)) _ (k .raising (cleared w)) (k .alike (levels (cleared w)) _ refl))))
 
+-- what each call does where it is not refused
+carried-walk : (c : Request) (u : Uart ℕ ℕ) (R : Uart ℕ ℕ → Uart ℕ ℕ → Type 0) → Walk (dateOf c) R
+    → ((now : ℕ) (x : Written) → c ≡ Call.write now x → registerOf (u .map .offsets) (x .offset) ≡ Register.intClr
+    → (v : ℕ) (s : Uart ℕ ℕ) → R s (clearing v s .state)) → ((now : ℕ) → c ≡ Call.reset now → (s : Uart ℕ ℕ) → R s (cleared s))
+    → R u (carried (dateOf c) (plan c u) u .state)
+unfolding dateOf plan planBy replying carried afterSettling undated writing quiet arm dated Calls.read Calls.readPlaced Calls.receive
+    Calls.wake Calls.powerDown Calls.watch Calls.clockChange Calls.reset Calls.takeTx Calls.takeWritten Calls.hasLeft Calls.hostPending
+carried-walk (Call.read now r) u R k clr rst =
+    let p : Register = registerOf (u .map .offsets) r in walk-after now R k u (readAt p) (walk-read now R k p)
+carried-walk (Call.write now x) u R k clr rst = walk-write now R k x u (clr now x refl)
+carried-walk (Call.receive now at bs) u R k clr rst =
+    walk-after now R k u (λ s. quiet Done.Done (handOver (hostDate now at) bs s)) (walk-hand-over now R k _ bs)
+carried-walk (Call.wake now) u R k clr rst = walk-wake now R k u
+carried-walk (Call.reset now) u R k clr rst = walk-reset now R k u (rst now refl)
+carried-walk (Call.powerDown now) u R k clr rst = k .alike u _ refl
+carried-walk (Call.watch now b) u R k clr rst = k .alike u _ refl
+carried-walk (Call.clockChange now p) u R k clr rst = walk-clock now R k p u
+carried-walk (Call.takeTx now lent) u R k clr rst =
+    walk-after now R k u (λ s. quiet (filled (s .tx) lent) (withTx [] s)) (λ v. k .alike v _ refl)
+carried-walk (Call.takeWritten lent) u R k clr rst = k .alike u _ refl
+carried-walk Call.hasLeft u R k clr rst = k .alike u u refl
+carried-walk Call.hostPending u R k clr rst = k .alike u u refl
+
 -- every call leads from its state to the next
-pub every-call : (c : Request) (u : Uart ℕ ℕ) (R : Uart ℕ ℕ → Uart ℕ ℕ → Type 0) → Walk (nowOf c) R
-    → (Clears c u → (v : ℕ) (s : Uart ℕ ℕ) → R s (clearing v s .state)) → (Resets c → (s : Uart ℕ ℕ) → R s (cleared s))
+pub every-call : (c : Request) (u : Uart ℕ ℕ) (R : Uart ℕ ℕ → Uart ℕ ℕ → Type 0) → Walk (dateOf c) R
+    → ((now : ℕ) (x : Written) → c ≡ Call.write now x → registerOf (u .map .offsets) (x .offset) ≡ Register.intClr
+    → (v : ℕ) (s : Uart ℕ ℕ) → R s (clearing v s .state)) → ((now : ℕ) → c ≡ Call.reset now → (s : Uart ℕ ℕ) → R s (cleared s))
     → R u (step c u .state)
-unfolding nowOf step stepBy answering writing undated unsettled quiet arm Calls.read Calls.readPlaced Calls.readWork Calls.receive
-    Calls.receiveWork Calls.wake
-    Calls.powerDown Calls.powerDownWork Calls.watch Calls.watchWork Calls.clockChange Calls.reset Calls.takeTx Calls.takeTxWork
-    Calls.takeWritten
-    Calls.takeWrittenWork Calls.hasLeft Calls.hostPending
-every-call (Call.read now r) u R k clr rst =
-    let p : Register = registerOf (u .map .offsets) r in
-    walk-unless now R k _ _ (readWork now p) u (walk-after now R k u (readAt p) (walk-read now R k p))
-every-call (Call.write now x) u R k clr rst = walk-write now R k x u clr
-every-call (Call.receive now at bs) u R k clr rst =
-    walk-unless now R k _ Done.Refused _ u (walk-after now R k u _ (walk-hand-over now R k _ bs))
-every-call (Call.wake now) u R k clr rst = walk-unless now R k _ Done.Refused _ u (walk-wake now R k u)
-every-call (Call.reset now) u R k clr rst = walk-unless now R k _ Done.Refused _ u (walk-reset now R k u (rst tt))
-every-call (Call.powerDown now) u R k clr rst = walk-unless now R k _ Done.Refused _ u (k .alike u _ refl)
-every-call (Call.watch now b) u R k clr rst = walk-unless now R k _ Done.Refused _ u (k .alike u _ refl)
-every-call (Call.clockChange now p) u R k clr rst = walk-unless now R k _ Done.Refused _ u (walk-clock now R k p u)
-every-call (Call.takeTx now lent) u R k clr rst = walk-unless now R k _ _ _ u (walk-after now R k u _ (λ v. k .alike v _ refl))
-every-call (Call.takeWritten lent) u R k clr rst = walk-unless 0 R k _ _ _ u (k .alike u _ refl)
-every-call Call.hasLeft u R k clr rst = k .alike u u refl
-every-call Call.hostPending u R k clr rst = k .alike u u refl
+unfolding step stepped outcome refusing
+every-call c u R k clr rst =
+    unless-ind (λ (o : Outcome (Reply ℕ ℕ ℕ) ℕ ℕ). R u (o .state)) _ (plan c u .refuses) (carried (dateOf c) (plan c u)) u
+    (λ r. k .alike u u refl) (carried-walk c u R k clr rst)

@@ -1,19 +1,17 @@
--- What becomes of a host byte: which landings overflow, that a heard byte with room is stored and that the firmware then reads
--- it. Assumes nothing.
+-- What becomes of a host byte: a heard byte with room is stored, and the firmware then reads it. Assumes nothing.
 use mathlib.Core.Path.{_≡_, refl, sym, ap, ap₂, _∙_}
 use Prim.Native.Nat.{ℕ, suc, _*_, _<_, _≤_}
 use native.Mathlib.Numerals.{add-two}
 use native.Mathlib.Omega.{arith}
-use mathlib.Core.Bool.{Bool, true, false, _&&_, decide, not}
+use mathlib.Core.Bool.{Bool, true, false, decide}
 use mathlib.Core.Option.{Option, none, some}
 use mathlib.Core.List.{List, [], _∷_, _++_, append-nil, append-assoc}
-use lib.Dec.{ltb}
 use lib.ListN.{length}
 use borrow.Author.Tests.{le-ltb, lt-ltb}
 use Rattle.model.specs.Numbers.{choose, bit, dueBy}
 use Rattle.model.specs.State.{OnTheLine, Uart, lineOf}
 use Rattle.model.specs.Timing.{settings}
-use Rattle.model.specs.Events.{Event, departure, timeout, landing, nothing, goesOn, lost}
+use Rattle.model.specs.Events.{goesOn}
 use Rattle.model.specs.Line.{raiseIf, fifoBytes, afterDate, timeoutAt, frame, fate}
 use Rattle.model.specs.Settle.{Pass, txDone, leave, depart, received, nothingDue, timedOut, landed, inFrame, begun, passOn, pass}
 use Rattle.model.specs.Settle.{passesFrom, pending, passes, levels, leveled, settingsOf, settleTo}
@@ -21,9 +19,10 @@ use Rattle.model.specs.Settle.{settle, settlingDate}
 use Rattle.model.specs.Replies.{byte}
 use Rattle.model.specs.Map.{Register, registerOf}
 use Rattle.model.specs.Registers.{pop, looks, readRegister, readLooking, readAt}
-use Rattle.model.specs.Calls.{dated, settleAt, afterSettling, readWork}
+use Rattle.model.specs.Calls.{dated, settleAt, afterSettling, readPlaced, carried}
 use Rattle.model.specs.Call.{Call, reads}
-use Rattle.model.specs.Run.{Step, answering, step}
+use Rattle.model.specs.Run.{Step, step}
+use Rattle.model.specs.Laws.Plans.{answering}
 use Rattle.model.specs.Limits.{Within, isHeard}
 use Rattle.model.specs.Laws.Cases.{pass-cases, passes-on}
 use Rattle.model.specs.MeetsManual.Answers.{InTime, read-answer}
@@ -122,50 +121,9 @@ pub byte-read : (now offset : ℕ) (u : Uart ℕ ℕ) (l : OnTheLine ℕ) → In
     → l .frame .heard ≡ true → bit 25 (u .control .words .«clk_conf») ≡ true → bit 17 (u .control .words .conf0) ≡ false → u .rx ≡ []
     → lineOf u .«line_free_at» ≤ settlingDate now (u .control)
     → step (Call.read now offset) u .answer .reply ≡ reads (byte (l .byte))
-unfolding answering readWork afterSettling readAt looks decide readLooking readRegister settleAt settle settlingDate dated
+unfolding answering carried readPlaced afterSettling readAt looks decide readLooking readRegister settleAt settle settlingDate dated
 byte-read now offset u l t limits e on heard clock rst empty come =
     let closed : lineOf u .«idle_since» ≡ Date.None = limits .idleLine (ap isHeard on ∙ heard) in
     let stored = landing-settled (settlingDate now (u .control)) (dated now u) l closed on heard clock rst (rw empty (omega arith)) come in
     ap (λ (x : Step ℕ ℕ ℕ). x .answer .reply) (read-answer t offset Register.fifo e)
     ∙ ap reads (pop-first _ _ _ (l .byte) (stored .0) (stored .1 ∙ ap (λ (r : List ℕ). r ++ (l .byte ∷ []) ++ stored .0) empty))
-
--- ---- which landings overflow
-
-unfoldable pub isLanding : {H W : Type 0} → Event H W → Bool
-isLanding (departure at b) = false
-isLanding (timeout at) = false
-isLanding (landing at b f) = true
-isLanding (nothing at) = false
-
--- whether the byte that is on the line, or that starts now, is heard
-unfoldable pub heardOn : {H : Type 0} → Settings → Option (OnTheLine H) → Bool
-heardOn s none = s .«rx_sclk_en»
-heardOn s (some l) = l .frame .heard
-
-lost-when : {H : Type 0} (W : Type 0) (at : ℕ) (b : H) (h c r t : Bool)
-    → ltb 0 (lost {W = W} (landing at b (choose h (choose c (choose r Cleared (choose t Stored Overflowed)) ClockOff) Unheard)))
-    ≡ (h && c && not r && not t)
-unfolding lost choose
-lost-when W at b false c r t = refl
-lost-when W at b true false r t = refl
-lost-when W at b true true true t = refl
-lost-when W at b true true false true = refl
-lost-when W at b true true false false = refl
-
--- heard, with the clock on, RXFIFO_RST clear and 128 bytes held
-abbrev pub tooMany : Settings → Bool → ℕ → Bool
-tooMany s heard held = heard && s .«rx_sclk_en» && not (s .«rxfifo_rst») && not (ltb held 128)
-
--- a byte overflows exactly when it lands so
-pub overflows-when : {H W : Type 0} (s : Settings) (date : ℕ) (u : Uart H W)
-    → ltb 0 (lost (pass s date u .event)) ≡ (isLanding (pass s date u .event) && tooMany s (heardOn s (u .receiving)) (length (u .rx)))
-unfolding timedOut nothingDue landed begun isLanding lost heardOn fate frame
-overflows-when {W = W} s date =
-    pass-cases s date (λ (u : Uart _ _) (p : Pass _ _). ltb 0 (lost (p .event))
-    ≡ (isLanding (p .event) && tooMany s (heardOn s (u .receiving)) (length (u .rx))))
-    (λ u _. refl) (λ u. refl)
-    (λ u l e. lost-when W (lineOf u .«line_free_at») (l .byte) (l .frame .heard) (s .«rx_sclk_en») (s .«rxfifo_rst»)
-    (ltb (length (u .rx)) fifoBytes)
-    ∙ ap (λ (o : Option (OnTheLine _)). tooMany s (heardOn s o) (length (u .rx))) (sym e))
-    (λ u r rs b bs p e _ _ h. h ∙ ap (λ (o : Option (OnTheLine _)). isLanding (p .event) && tooMany s (heardOn s o) (length (u .rx)))
-    (sym e))

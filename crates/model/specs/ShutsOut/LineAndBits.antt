@@ -1,10 +1,10 @@
 -- Laws that shut out wrong definitions: no register write, and no other call before its landing date, touches the byte on the
 -- line or when it lands; no bit of INT_RAW falls but by INT_CLR and reset. Assumes nothing.
 use mathlib.Core.Path.{_≡_, refl, sym, ap, _∙_, subst}
-use Prim.Native.Nat.{ℕ, _%_, _<_}
+use Prim.Native.Nat.{ℕ, _%_, _≤_, _<_}
 use native.Mathlib.Nat.{not-le-of-lt, lt-of-le-of-lt}
 use mathlib.Core.Bool.{Bool, true, _&&_, _||_}
-use mathlib.Core.Option.{Option, some}
+use mathlib.Core.Option.{Option, none, some, Option·some-ne-none}
 use borrow.Author.Tests.{ltb-false}
 use Rattle.dates.specs.Dates.{subcycles}
 use Rattle.model.specs.Numbers.{bit}
@@ -16,18 +16,18 @@ use Rattle.model.specs.Arm.{arm}
 use Rattle.model.specs.Map.{Register, registerOf}
 use Rattle.model.specs.Registers.{Access, sendByte, sent, dropped, storing, clearing, resetFifos, writeRegister, concluded}
 use Rattle.model.specs.Calls
-use Rattle.model.specs.Calls.{Outcome, refusing, clearedLine, cleared, settleAt, afterSettling, sendWork, writeWork, writePlaced}
-use Rattle.model.specs.Calls.{send}
-use Rattle.model.specs.Call.{Call, Written, Request, writes}
-use Rattle.model.specs.Run.{Step, answering, stepBy, writing, step}
+use Rattle.model.specs.Calls.{carried, clearedLine, cleared, settleAt, afterSettling, send, writePlaced}
+use Rattle.model.specs.Call.{Call, dateOf, Written, Request, writes}
+use Rattle.model.specs.Run.{Step, numberOf, stepped, replying, planBy, writing, plan, step}
 use Rattle.model.specs.Laws.Choose.{choose-ind}
 use Rattle.model.specs.Laws.Cases.{passes-on}
 use Rattle.model.specs.MeetsManual.Rises.{rawBit, settleTo-raises, levels-raise}
-use Rattle.model.specs.Laws.AccessCases.{write-ind, unless-ind, writeRegister-ind}
-use Rattle.model.specs.ShutsOut.EveryCall.{nowOf, Clears, Resets, Walk, every-call}
+use Rattle.model.specs.Laws.AccessCases.{write-ind, writeRegister-ind}
+use Rattle.model.specs.Refuses.Refusals.{same-some}
+use Rattle.model.specs.Refuses.Exactly.{done-carried}
+use Rattle.model.specs.ShutsOut.EveryCall.{Walk, every-call}
 use Rattle.model.specs.declared.Line.{Line}
 use Rattle.model.specs.declared.Settings.{Settings}
-use Rattle.model.specs.declared.Refusal.{Refusal}
 use Rattle.model.specs.declared.Write.{Write}
 
 -- ---- a write leaves the byte on the line
@@ -50,32 +50,17 @@ module _ {H W : Type 0} where
   unfolding sendByte sent dropped
   send-line now b u = choose-ind (λ (a : Access Write H W). onLine (a .state) ≡ onLine u) _ (λ _. refl) (λ _. refl)
 
--- a refused write leaves all as it was; another leaves the byte on the line and its landing date as settling leaves them
-pub data LineLeft (now : ℕ) (u : Uart ℕ ℕ) (s : Step ℕ ℕ ℕ) : Type 0 where
-  refused : (r : Refusal) → s .answer .reply ≡ writes (Write.Refused r) → s .state ≡ u → LineLeft now u s
-  settled : onLine (s .state) ≡ onLine (settleAt now u .state) → LineLeft now u s
-
--- whatever is written wherever: CLKDIV too gives the byte on the line no new rate
-pub write-leaves-line : (now : ℕ) (x : Written) (u : Uart ℕ ℕ) → LineLeft now u (step (Call.write now x) u)
-unfolding step stepBy answering writing Calls.write send sendWork writePlaced writeWork afterSettling refusing
-write-leaves-line now x u =
-    write-ind Left now p (x .value) u
-    (λ _. unless-ind Left _ Write.Refused (sendWork now b) u (λ r. refused r refl refl)
-    (settled (concluded-line (sendByte now b v) ∙ send-line now b v)))
-    (λ _. unless-ind Left _ Write.Refused (writeWork now p (x .value)) u (λ r. refused r refl refl)
-    (settled (concluded-line (writeRegister p (x .value) v) ∙ register-line (x .value) v p)))
-  where
-    p : Register
-    p = registerOf (u .map .offsets) (x .offset)
-
-    b : ℕ
-    b = x .value % 256
-
-    v : Uart ℕ ℕ
-    v = settleAt now u .state
-
-    Left : Outcome Write ℕ ℕ → Type 0
-    Left o = LineLeft now u (answering writes o)
+-- whatever is written wherever, the byte on the line and its landing date are as settling leaves them: CLKDIV too gives it no new rate
+pub write-leaves-line : (now : ℕ) (x : Written) (u : Uart ℕ ℕ) → numberOf (step (Call.write now x) u .answer .reply) ≡ 0
+    → onLine (step (Call.write now x) u .state) ≡ onLine (settleAt now u .state)
+unfolding stepped plan planBy replying carried dateOf writing Calls.write send writePlaced afterSettling
+write-leaves-line now x u done =
+    let p : Register = registerOf (u .map .offsets) (x .offset) in
+    let v : Uart ℕ ℕ = settleAt now u .state in
+    ap (λ (s : Step ℕ ℕ ℕ). onLine (s .state)) (done-carried (Call.write now x) u done)
+    ∙ write-ind (λ q. onLine (carried (some now) (replying {L = ℕ} writes q) u .state) ≡ onLine v) now p (x .value) u
+    (λ _. concluded-line (sendByte now (x .value % 256) v) ∙ send-line now (x .value % 256) v)
+    (λ _. concluded-line (writeRegister p (x .value) v) ∙ register-line (x .value) v p)
 
 -- ---- a byte whose landing date has not come
 
@@ -110,23 +95,41 @@ module _ {H W : Type 0} (date : ℕ) where
       passes-on (Stayed date) (settingsOf u) date (λ v l e early. refl) stayed-on (pass-stayed (settingsOf u)) _ true
       (depart date u)
 
-stayed-walk : (now : ℕ) → Walk now (Stayed (subcycles now))
+stayed-walk : (now : ℕ) → Walk (some now) (Stayed (subcycles now))
 unfolding levels drive assertLevels raiseIf
 stayed-walk now = record {
   on = stayed-on (subcycles now);
   alike = λ u v e l o early. ap (λ x. (x .1, x .2)) e;
-  settling = λ date h u l e early. settling-stayed date u l e (lt-of-le-of-lt h early);
+  settling = λ now′ same date h u l e early.
+      settling-stayed date u l e (lt-of-le-of-lt (subst (λ (n : ℕ). date ≤ subcycles n) (sym (same-some same)) h) early);
   raising = λ u l e early. refl;
+}
+
+-- an undated call does not settle
+kept-walk : Walk none (λ u v. onLine v ≡ onLine u)
+unfolding levels drive assertLevels raiseIf
+kept-walk = record {
+  on = λ u v w a b. b ∙ a;
+  alike = λ u v e. ap (λ x. (x .1, x .2)) e;
+  settling = λ now e. absurd (Option·some-ne-none now (sym e));
+  raising = λ u. refl;
 }
 
 -- whatever is called before its landing date, the byte on the line stays and lands when it would have: no write, no clock change
 -- and no reset gives it a new rate
 pub byte-keeps-its-date : (c : Request) (u : Uart ℕ ℕ) (l : OnTheLine ℕ) → u .receiving ≡ some l
-    → subcycles (nowOf c) < lineOf u .«line_free_at»
+    → ((now : ℕ) → dateOf c ≡ some now → subcycles now < lineOf u .«line_free_at»)
     → onLine (step c u .state) ≡ onLine u
 unfolding clearing cleared clearedLine
-byte-keeps-its-date c u =
-    every-call c u (Stayed (subcycles (nowOf c))) (stayed-walk (nowOf c)) (λ _ v s l e early. refl) (λ _ s l e early. refl)
+byte-keeps-its-date c u l e early = by-date (dateOf c) refl
+  where
+    by-date : (d : Option ℕ) → dateOf c ≡ d → onLine (step c u .state) ≡ onLine u
+    by-date none is =
+        every-call c u (λ u v. onLine v ≡ onLine u) (subst (λ d. Walk d (λ u v. onLine v ≡ onLine u)) (sym is) kept-walk)
+        (λ now x _ _ v s. refl) (λ now _ s. refl)
+    by-date (some now) is =
+        every-call c u (Stayed (subcycles now)) (subst (λ d. Walk d (Stayed (subcycles now))) (sym is) (stayed-walk now))
+        (λ now x _ _ v s l e early. refl) (λ now _ s l e early. refl) l e (early now is)
 
 -- ---- no bit of INT_RAW falls but by INT_CLR and reset
 
@@ -137,14 +140,16 @@ StaySet u v = (n : ℕ) → rawBit n u ≡ true → rawBit n v ≡ true
 still-set : {x : Bool} (y : Bool) → x ≡ true → (x || y) ≡ true
 still-set y e = ap (λ (b : Bool). b || y) e
 
-set-walk : (now : ℕ) → Walk now StaySet
-set-walk now = record {
+set-walk : (d : Option ℕ) → Walk d StaySet
+set-walk d = record {
   on = λ u v w a b n e. b n (a n e);
   alike = λ u v p n e. ap (λ x. bit n (x .0)) p ∙ e;
-  settling = λ date h u n e. settleTo-raises n date u ∙ still-set _ (still-set _ (still-set _ (still-set _ e)));
+  settling = λ now _ date h u n e. settleTo-raises n date u ∙ still-set _ (still-set _ (still-set _ (still-set _ e)));
   raising = λ u n e. levels-raise n u ∙ still-set _ (still-set _ e);
 }
 
 -- RXFIFO_FULL and every other bit of INT_RAW, once set, falls only by a write to INT_CLR and by reset: no FIFO read lowers it
-pub no-bit-falls : (c : Request) (u : Uart ℕ ℕ) → (Clears c u → ⊥) → (Resets c → ⊥) → StaySet u (step c u .state)
-no-bit-falls c u a b = every-call c u StaySet (set-walk (nowOf c)) (λ h. absurd (a h)) (λ h. absurd (b h))
+pub no-bit-falls : (c : Request) (u : Uart ℕ ℕ)
+    → ((now : ℕ) (x : Written) → c ≡ Call.write now x → ¬ (registerOf (u .map .offsets) (x .offset) ≡ Register.intClr))
+    → ((now : ℕ) → ¬ (c ≡ Call.reset now)) → StaySet u (step c u .state)
+no-bit-falls c u a b = every-call c u StaySet (set-walk (dateOf c)) (λ now x e h. absurd (a now x e h)) (λ now e. absurd (b now e))

@@ -19,13 +19,13 @@ use Rattle.model.specs.Map.{Register, registerOf}
 use Rattle.model.specs.Registers.{Access, sourceNotes, goneAt, sent, dropped, sendByte, concluded}
 use Rattle.model.specs.Tests.{dateEnd, sentLimit, hostLimit, hostFull, runsFull, bufferTooShort, refuseIf}
 use Rattle.model.specs.Calls
-use Rattle.model.specs.Calls.{Outcome, afterSettling, quiet, settleAt, dated, filled, hostDate, lastDate, sendWork, takeTxWork}
-use Rattle.model.specs.Calls.{receiveWork}
-use Rattle.model.specs.Call.{Call, Written, writes, does, takes}
-use Rattle.model.specs.Run.{Step, answering, stepBy, step}
+use Rattle.model.specs.Calls.{afterSettling, quiet, settleAt, dated, filled, hostDate, lastDate, send, carried}
+use Rattle.model.specs.Call.{Call, dateOf, Written, writes, does, takes}
+use Rattle.model.specs.Run.{Step, planBy, plan, step}
+use Rattle.model.specs.Laws.Plans.{answering}
 use Rattle.model.specs.SetUp.{mapOf, newControl, new}
 use Rattle.model.specs.Keeps.Rest.{settleTo-inFlight, settleTo-tx}
-use Rattle.model.specs.MeetsManual.Answers.{settled, InTime, in-time, carried-out, fifo-answer, byte-taken, byte-dropped}
+use Rattle.model.specs.MeetsManual.Answers.{settled, InTime, carried-answer, fifo-answer, byte-taken, byte-dropped}
 use Rattle.model.specs.declared.Refusal.the-variants.{HostFull, RunsFull, BufferTooShort}
 use Rattle.model.specs.declared.Report.{Report}
 use Rattle.model.specs.declared.Unsupported.{Unsupported}
@@ -48,7 +48,7 @@ module _ (now : ℕ) (u : Uart ℕ ℕ) (x : Written) (t : InTime now u) (e : re
   send-answer : (a : Access Write ℕ ℕ) → sendByte now (x .value % 256) (settled now u) ≡ a
       → (given .answer .reply ≡ writes (a .reply)) × (given .state .inFlight ≡ a .state .inFlight)
       × (given .answer .report ≡ reported (a .notes))
-  unfolding answering sendWork afterSettling concluded arm levels
+  unfolding answering carried send afterSettling concluded arm levels
   send-answer a h =
       let q : given ≡ answering writes (afterSettling (settleAt now u) (λ _. concluded a)) =
       fifo-answer t x e room ∙ ap (λ (b : Access Write ℕ ℕ). answering writes (afterSettling (settleAt now u) (λ _. concluded b))) h in (
@@ -60,22 +60,24 @@ module _ (now : ℕ) (u : Uart ℕ ℕ) (x : Written) (t : InTime now u) (e : re
       )
 
   -- with 128 bytes in flight, and with fewer, the byte joins them, and no notice but the clock's is given
-  pub write-taken : length (settled now u .inFlight) ≤ 128
-      → (given .answer .reply ≡ writes Write.Accepted)
-      × (given .state .inFlight ≡ settled now u .inFlight ++ (record { goneAt = goneAt now (settled now u); byte = x .value % 256 } ∷ []))
-      × (given .answer .report ≡ reported (sourceNotes UartClock (unmodelledSource (settled now u .control .words .«clk_conf»))))
+  pub write-taken : length (settled now u .inFlight) ≤ 128 → let s : Step ℕ ℕ ℕ = step (Call.write now x) u in
+      (s .answer .reply ≡ writes Write.Accepted)
+      × (s .state .inFlight ≡ settled now u .inFlight ++ (record { goneAt = goneAt now (settled now u); byte = x .value % 256 } ∷ []))
+      × (s .answer .report ≡ report (passesIn (settleAt now u .events)) (overflowsIn (settleAt now u .events))
+      (sourceNotes UartClock (unmodelledSource (settled now u .control .words .«clk_conf»))) (s .state))
   unfolding sent
   write-taken h = send-answer (sent now (x .value % 256) (settled now u)) (byte-taken now (x .value % 256) (settled now u) h)
 
   -- so 129 may be in flight
-  pub write-at-128 : length (settled now u .inFlight) ≡ 128 → length (given .state .inFlight) ≡ 129
+  pub write-at-128 : length (settled now u .inFlight) ≡ 128 → length (step (Call.write now x) u .state .inFlight) ≡ 129
   write-at-128 h =
       ap length (write-taken (rw h (omega arith)) .1) ∙ length-append (settled now u .inFlight) _ ∙ ap (λ (k : ℕ). k + 1) h
 
   -- with 129 it is dropped, with UartOverflow
-  pub write-dropped : 128 < length (settled now u .inFlight)
-      → (given .answer .reply ≡ writes Write.Accepted) × (given .state .inFlight ≡ settled now u .inFlight)
-      × (given .answer .report ≡ reported (UartOverflow ∷ []))
+  pub write-dropped : 128 < length (settled now u .inFlight) → let s : Step ℕ ℕ ℕ = step (Call.write now x) u in
+      (s .answer .reply ≡ writes Write.Accepted) × (s .state .inFlight ≡ settled now u .inFlight)
+      × (s .answer .report
+      ≡ report (passesIn (settleAt now u .events)) (overflowsIn (settleAt now u .events)) (UartOverflow ∷ []) (s .state))
   unfolding dropped
   write-dropped h = send-answer (dropped (settled now u)) (byte-dropped now (x .value % 256) (settled now u) h)
 
@@ -103,11 +105,11 @@ pub byte-handed-out : (now : ℕ) (u : Uart ℕ ℕ) (lent : List ℕ) (s : Sent
     → s .goneAt ≤ settlingDate now (u .control)
     → step (Call.takeTx now lent) u .answer .reply
     ≡ takes (filled (u .tx ++ (s .byte ∷ map (λ x. x .byte) (take (gone (settlingDate now (u .control)) ss) ss))) lent)
-unfolding step stepBy answering Calls.takeTx takeTxWork afterSettling quiet settleAt settle settlingDate dated refuseIf bufferTooShort
+unfolding step plan planBy dateOf answering Calls.takeTx carried afterSettling quiet settle settlingDate dated refuseIf
 byte-handed-out now u lent s ss t long e h =
-    ap (λ (o : Outcome (Take ℕ ℕ) ℕ ℕ). takes (o .reply))
-    (carried-out _ (takeTxWork now lent) u
-    (in-time t _ ∙ ap (λ (b : Bool). refuseIf b BufferTooShort none) (le-ltb (length lent) sentLimit long)))
+    ap (λ (z : Step ℕ ℕ ℕ). z .answer .reply)
+    (carried-answer t takes (Calls.takeTx now lent u)
+    (ap (λ (b : Bool). refuseIf b BufferTooShort none) (le-ltb (length lent) sentLimit long)))
     ∙ ap (λ (l : List ℕ). takes (filled l lent)) (byte-leaves _ (dated now u) s ss e h .0)
 
 -- ---- a new UART takes bytes
@@ -144,10 +146,9 @@ module _ (offsets ws : List ℕ) (now : ℕ) (early : now < dateEnd) where
   -- neither 5 nor any other number at a first hand-over of up to 1,024 bytes
   pub first-hand-over : (at : ℕ) (bs : List ℕ) → length bs ≤ hostLimit
       → step (Call.receive now at bs) (new offsets ws) .answer .reply ≡ does Done.Done
-  unfolding step stepBy answering Calls.receive receiveWork afterSettling quiet new refuseIf hostFull lastDate
+  unfolding step plan planBy dateOf answering Calls.receive carried afterSettling quiet new refuseIf hostFull lastDate
   first-hand-over at bs h =
-      ap (λ (o : Outcome Done ℕ ℕ). does (o .reply))
-      (carried-out Done.Refused (receiveWork now at bs) fresh
-      (in-time new-in-time _
-      ∙ ap₂ (λ (a b : Bool). refuseIf a HostFull (refuseIf b RunsFull none)) (le-ltb hostLimit (0 + length bs) (omega arith))
+      ap (λ (z : Step ℕ ℕ ℕ). z .answer .reply)
+      (carried-answer new-in-time does (Calls.receive now at bs fresh)
+      (ap₂ (λ (a b : Bool). refuseIf a HostFull (refuseIf b RunsFull none)) (le-ltb hostLimit (0 + length bs) (omega arith))
       (no-run (length bs) (hostDate now at))))

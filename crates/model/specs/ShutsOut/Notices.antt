@@ -4,7 +4,7 @@ use mathlib.Core.Path.{_≡_, refl, ap, _∙_}
 use Prim.Native.Nat.{ℕ, _<_, _+_, _*_, _/_, _%_, _^_}
 use native.Mathlib.Omega.{arith}
 use mathlib.Core.Bool.{decide}
-use mathlib.Core.Option.{none}
+use mathlib.Core.Option.{some}
 use mathlib.Core.List.{List, [], _∷_, _++_, map}
 use lib.Dec.{eqb}
 use lib.ListN.{length}
@@ -16,11 +16,12 @@ use Rattle.model.specs.Replies.{notices, report}
 use Rattle.model.specs.Map.{Word, Register, registerOf, valueOf, wordsBy, replaced}
 use Rattle.model.specs.Registers.{noteIf, conf0Notes, storedNotes, storing, resetFifos, writeRegister, concluded}
 use Rattle.model.specs.Calls
-use Rattle.model.specs.Calls.{afterSettling, writeAt, writePlaced, writeWork}
+use Rattle.model.specs.Calls.{afterSettling, writeAt, writePlaced, carried}
 use Rattle.model.specs.Call.{Call, Written, writes}
-use Rattle.model.specs.Run.{Step, answering, stepBy, writing, step}
+use Rattle.model.specs.Run.{Step, step}
+use Rattle.model.specs.Laws.Plans.{answering}
 use Rattle.model.specs.Limits.{Chain, single, link}
-use Rattle.model.specs.MeetsManual.Answers.{InTime, in-time, carried-out}
+use Rattle.model.specs.MeetsManual.Answers.{InTime, write-answer}
 use Rattle.model.specs.declared.Feature.{Feature}
 use Rattle.model.specs.declared.Feature.the-variants.{Loopback, InvertedRx, Autobaud, NoStopBit, TxFlowControl, InvertedTx}
 use Rattle.model.specs.declared.Feature.the-variants.{Irda, TxBreak}
@@ -52,16 +53,14 @@ conf0-noted v = refl
 
 module _ (now : ℕ) (u : Uart ℕ ℕ) (x : Written) (t : InTime now u)
     (e : registerOf (u .map .offsets) (x .offset) ≡ Register.stored Word.conf0) where
-  pub conf0-answer : step (Call.write now x) u ≡ answering writes (writeWork now (Register.stored Word.conf0) (x .value) u)
-  unfolding step stepBy writing Calls.write writeAt writePlaced choose decide
-  conf0-answer =
-      ap (λ (q : Register). answering writes (writeAt now q (x .value) u)) e
-      ∙ ap (answering writes) (carried-out _ (writeWork now (Register.stored Word.conf0) (x .value)) u (in-time t none))
+  pub conf0-answer : step (Call.write now x) u ≡ answering writes (carried (some now) (writePlaced now (Register.stored Word.conf0) (x .value) u) u)
+  unfolding writeAt writePlaced choose decide
+  conf0-answer = write-answer t x (Register.stored Word.conf0) e refl
 
   -- a write to CONF0 gives these notices, in this order, and no other
   pub conf0-notices : (step (Call.write now x) u .answer .report .notices ≡ notices (conf0Noted (x .value)))
       × (step (Call.write now x) u .answer .report .noted ≡ length (conf0Noted (x .value)))
-  unfolding answering writeWork afterSettling concluded writeRegister storing storedNotes choose decide report
+  unfolding answering carried writePlaced afterSettling concluded writeRegister storing storedNotes choose decide report
   conf0-notices = (
     ap (λ (s : Step ℕ ℕ ℕ). s .answer .report .notices) conf0-answer ∙ ap notices (conf0-noted (x .value)),
     ap (λ (s : Step ℕ ℕ ℕ). s .answer .report .noted) conf0-answer ∙ ap length (conf0-noted (x .value)),
@@ -69,6 +68,6 @@ module _ (now : ℕ) (u : Uart ℕ ℕ) (x : Written) (t : InTime now u)
 
   -- the word is stored whole
   pub conf0-stored : step (Call.write now x) u .state .control .words .conf0 ≡ x .value
-  unfolding answering writeWork afterSettling concluded writeRegister storing replaced wordsBy valueOf resetFifos arm levels drive
+  unfolding answering carried writePlaced afterSettling concluded writeRegister storing replaced wordsBy valueOf resetFifos arm levels drive
       assertLevels choose decide
   conf0-stored = ap (λ (s : Step ℕ ℕ ℕ). s .state .control .words .conf0) conf0-answer

@@ -1,9 +1,9 @@
 -- A receive timeout: it comes only when the line has been idle so long, it closes the idle line whatever it raises, and
 -- disabled it raises nothing. Assumes nothing.
 use mathlib.Core.Path.{_≡_, refl, sym, ap, _∙_, subst}
-use Prim.Native.Nat.{ℕ, suc, _*_}
+use Prim.Native.Nat.{ℕ, suc, _*_, _≤_}
 use native.Mathlib.Numerals.{add-two}
-use mathlib.Core.Bool.{Bool, true, false, _&&_, _||_, false≢true, or-false}
+use mathlib.Core.Bool.{Bool, true, false, _&&_, _||_, or-false}
 use mathlib.Core.Option.{Option, none}
 use mathlib.Core.List.{List, [], _∷_}
 use lib.Dec.{ltb}
@@ -11,75 +11,40 @@ use lib.ListN.{length}
 use Rattle.model.specs.Numbers.{choose, bit, dueBy}
 use Rattle.model.specs.Manual
 use Rattle.model.specs.State.{Run, OnTheLine, Uart, lineOf}
-use Rattle.model.specs.Line.{raiseIf, noteSource, afterDate, timeoutAt, timeOut, start}
-use Rattle.model.specs.Settle.{Pass, txDone, leave, depart, nothingDue, timedOut, landed, begun, idle, lineFree, passOn}
+use Rattle.model.specs.Events.{timeout}
+use Rattle.model.specs.Line.{raiseIf, afterDate, timeoutAt}
+use Rattle.model.specs.Settle.{Pass, txDone, leave, depart, nothingDue, timedOut, idle, lineFree, passOn}
 use Rattle.model.specs.Settle.{pass, passesFrom, pending, passes, assertLevels, drive, levels, leveled, settingsOf}
 use Rattle.model.specs.Settle.{settleTo, settle, settlingDate}
 use Rattle.model.specs.Map.{Register, registerOf}
 use Rattle.model.specs.Registers.{Access, pop, readRegister, readLooking, readAt}
-use Rattle.model.specs.Calls.{dated, settleAt, afterSettling, readWork}
+use Rattle.model.specs.Calls.{dated, settleAt, afterSettling, readPlaced, carried}
 use Rattle.model.specs.Call.{Call}
-use Rattle.model.specs.Run.{Step, answering, step}
-use Rattle.model.specs.Laws.Choose.{choose-ind}
-use Rattle.model.specs.Laws.Cases.{pass-cases, passes-on}
+use Rattle.model.specs.Run.{Step, step}
+use Rattle.model.specs.Laws.Plans.{answering}
+use Rattle.model.specs.Laws.Cases.{passes-on}
+use Rattle.model.specs.Ends.Passes.{TakesTimeout, Takes, pass-law, timeOut-closes}
 use Rattle.model.specs.MeetsManual.Rises.{rawBit}
-use Rattle.model.specs.MeetsManual.FiveBits.{isTimeout, timeoutCame, no-pass, settling-rises}
+use Rattle.model.specs.MeetsManual.FiveBits.{no-timeout, settling-rises}
 use Rattle.model.specs.Laws.AccessCases.{readRegister-ind}
 use Rattle.model.specs.MeetsManual.Answers.{settled, InTime, read-answer}
 use Rattle.model.specs.declared.Date.{Date}
-use Rattle.model.specs.declared.Line.{Line}
 use Rattle.model.specs.declared.Unsupported.{Unsupported}
 use Rattle.model.specs.declared.Settings.{Settings}
-use Rattle.model.specs.declared.Fate.{Fate}
 
-module _ (s : Settings) where
-  -- the idle line closes, enabled or not, with a byte held or not
-  pub timeOut-closes : (held : ℕ) (l : Line) → timeOut s held l .«idle_since» ≡ Date.None
-  unfolding timeOut raiseIf noteSource
-  timeOut-closes held l =
-      choose-ind (λ (k : Line). k .«idle_since» ≡ Date.None) (s .«rx_tout_en» && s .«rx_sclk_en») (λ _. refl) (λ _. refl)
-
-  abbrev Due : ℕ → Line → Type 0
-  Due date l = dueBy date (timeoutAt s l) ≡ true
-
-  start-due : (date at : ℕ) (l : Line) → Due date (start s at l) → Due date l
-  unfolding start timeoutAt noteSource afterDate dueBy
-  start-due date at l = choose-ind (λ (k : Line). Due date k → Due date l) (s .«rx_sclk_en») (λ _ h. absurd (false≢true h)) (λ _ h. h)
-
-  module _ {H W : Type 0} where
-    -- a pass that is a timeout was due, and closes the idle line
-    pub record Closes (date : ℕ) (u : Uart H W) (p : Pass H W) : Type 0 where
-      pub due : isTimeout (p .event) ≡ true → Due date (lineOf u)
-      pub closed : isTimeout (p .event) ≡ true → lineOf (p .state) .«idle_since» ≡ Date.None
-
-    timedOut-closes : (date : ℕ) (u : Uart H W) → Due date (lineOf u) → Closes date u (timedOut s u)
-    unfolding timedOut
-    timedOut-closes date u h = record { due = λ _. h; closed = λ _. timeOut-closes _ _ }
-
-    nothingDue-closes : (date : ℕ) (u v : Uart H W) → Closes date u (nothingDue date v)
-    unfolding nothingDue isTimeout
-    nothingDue-closes date u v = record { due = λ h. absurd (false≢true h); closed = λ h. absurd (false≢true h) }
-
-    landed-closes : (date : ℕ) (u v : Uart H W) (f : Fate) (l : OnTheLine H) → Closes date u (landed s f l v)
-    unfolding landed isTimeout
-    landed-closes date u v f l = record { due = λ h. absurd (false≢true h); closed = λ h. absurd (false≢true h) }
-
-    begun-closes : (date : ℕ) (u : Uart H W) (at : ℕ) (b : H) (bs : List H) (p : Pass H W) → u .receiving ≡ none
-        → Closes date (begun s at b bs u) p → Closes date u p
-    unfolding begun
-    begun-closes date u at b bs p _ h = record { due = λ e. start-due date at (lineOf u) (h .due e); closed = h .closed }
-
-    -- a pass takes a timeout only when it is due, and then the idle line is closed
-    pub pass-closes : (date : ℕ) (u : Uart H W) → Closes date u (pass s date u)
-    pass-closes date =
-        pass-cases s date (Closes date) (timedOut-closes date) (λ u. nothingDue-closes date u u) (λ u l _. landed-closes date u u _ l)
-        (λ u r rs b bs p e _ _. begun-closes date u _ b bs p e)
+-- a pass takes a timeout only when it is due, and then the idle line is closed, enabled or not, with a byte held or not
+pub pass-closes : {H W : Type 0} (s : Settings) (date at : ℕ) (u : Uart H W) → pass s date u .event ≡ timeout at
+    → (timeoutAt s (lineOf u) ≡ Date.At at) × (at ≤ date) × (lineOf (pass s date u .state) .«idle_since» ≡ Date.None)
+pass-closes s date at u e =
+    let t : TakesTimeout s date u at (pass s date u .state) =
+    subst (λ x. Takes s date u x (pass s date u .state)) e (pass-law s date u .takes) in
+    (t .comes, t .due, t .closed)
 
 -- ---- with no host byte on the line or waiting
 
-pub record Still {H W : Type 0} (u : Uart H W) : Type 0 where
-  pub line : u .receiving ≡ none
-  pub waiting : u .host ≡ []
+record Still {H W : Type 0} (u : Uart H W) : Type 0 where
+  line : u .receiving ≡ none
+  waiting : u .host ≡ []
 
 record Closed {H W : Type 0} (u : Uart H W) : Type 0 where
   still : Still u
@@ -154,26 +119,25 @@ module _ {H W : Type 0} where
   looking-idle false p u = given-idle [] p u
 
 -- once its date has come, the timeout has closed the idle line, enabled or not: seen after a read anywhere
-pub timeout-closes-line : (now offset : ℕ) (u : Uart ℕ ℕ) → InTime now u → Still u
+pub timeout-closes-line : (now offset : ℕ) (u : Uart ℕ ℕ) → InTime now u → u .receiving ≡ none → u .host ≡ []
     → dueBy (settlingDate now (u .control)) (timeoutAt (settingsOf u) (lineOf u)) ≡ true
     → lineOf (step (Call.read now offset) u .state) .«idle_since» ≡ Date.None
-unfolding answering readWork afterSettling readAt settleAt settle settlingDate dated settingsOf
-timeout-closes-line now offset u t h due =
+unfolding answering carried readPlaced afterSettling readAt settleAt settle settlingDate dated settingsOf
+timeout-closes-line now offset u t line waiting due =
     let p : Register = registerOf (u .map .offsets) offset in
     ap (λ (x : Step ℕ ℕ ℕ). lineOf (x .state) .«idle_since») (read-answer t offset p refl)
     ∙ looking-idle _ p (settleAt now u .state)
-    ∙ settling-closes _ (dated now u) (record { line = h .line; waiting = h .waiting }) due
+    ∙ settling-closes _ (dated now u) (record { line = line; waiting = waiting }) due
 
-off-tout : (conf1 clkConf held : ℕ) (b : Bool) → bit 21 conf1 ≡ false → Manual.RXFIFO-TOUT conf1 clkConf b held ≡ false
+off-tout : (conf1 clkConf : ℕ) → bit 21 conf1 ≡ false → (held : ℕ) → Manual.RXFIFO-TOUT conf1 clkConf true held ≡ false
 unfolding Manual.RXFIFO-TOUT
-off-tout conf1 clkConf held true e = ap (λ (t : Bool). t && bit 25 clkConf && ltb 0 held) e
-off-tout conf1 clkConf held false e = refl
+off-tout conf1 clkConf e held = ap (λ (t : Bool). t && bit 25 clkConf && ltb 0 held) e
 
 -- with RX_TOUT_EN clear no settling raises RXFIFO_TOUT
 pub disabled-raises-nothing : (now : ℕ) (u : Uart ℕ ℕ) → bit 21 (u .control .words .conf1) ≡ false → rawBit 8 (settled now u) ≡ rawBit 8 u
-unfolding settleAt settle dated timeoutCame
+unfolding settleAt settle dated
 disabled-raises-nothing now u e =
     settling-rises _ (dated now u) .tout
-    ∙ ap (λ (b : Bool). rawBit 8 u || b) (no-pass _ _ _
-    (λ held f. off-tout (u .control .words .conf1) (u .control .words .«clk_conf») held (isTimeout f) e) _ true _)
+    ∙ ap (λ (b : Bool). rawBit 8 u || b)
+    (no-timeout _ (off-tout (u .control .words .conf1) (u .control .words .«clk_conf») e) (u .rx) _)
     ∙ or-false (rawBit 8 u)

@@ -7,7 +7,7 @@ use lib.Dec.{eqb}
 use lib.ListN.{length, getD}
 use Rattle.model.specs.Numbers.{choose}
 use Rattle.model.specs.Replies.{ReadOf, word, byte, noValue, refused, Take}
-use Rattle.model.specs.Call.{Call, Written, Request, Reply, reads, writes, does, takes, left, pends, Answer}
+use Rattle.model.specs.Call.{Call, Request, Reply, reads, writes, does, takes, left, pends, Answer}
 
 -- ---- alike
 
@@ -32,57 +32,34 @@ pub data Alike (fifo : ℕ) : Request → Request → Type 0 where
 
 -- ---- the numbering
 
-module _ {R X H L : Type 0} where
-  -- the host bytes that a call gives
-  unfoldable pub hostOf : Call R X H L → List H
-  hostOf (Call.read now r) = []
-  hostOf (Call.write now x) = []
-  hostOf (Call.receive now at bs) = bs
-  hostOf (Call.wake now) = []
-  hostOf (Call.reset now) = []
-  hostOf (Call.powerDown now) = []
-  hostOf (Call.watch now b) = []
-  hostOf (Call.clockChange now p) = []
-  hostOf (Call.takeTx now lent) = []
-  hostOf (Call.takeWritten lent) = []
-  hostOf Call.hasLeft = []
-  hostOf Call.hostPending = []
+-- what a call gives: the host bytes that it hands over, and what it writes
+unfoldable pub given : {R X H L : Type 0} → Call R X H L → List H × List X
+given (Call.read now r) = ([], [])
+given (Call.write now x) = ([], x ∷ [])
+given (Call.receive now at bs) = (bs, [])
+given (Call.wake now) = ([], [])
+given (Call.reset now) = ([], [])
+given (Call.powerDown now) = ([], [])
+given (Call.watch now b) = ([], [])
+given (Call.clockChange now p) = ([], [])
+given (Call.takeTx now lent) = ([], [])
+given (Call.takeWritten lent) = ([], [])
+given Call.hasLeft = ([], [])
+given Call.hostPending = ([], [])
 
-  -- what a call writes
-  unfoldable pub writesOf : Call R X H L → List X
-  writesOf (Call.read now r) = []
-  writesOf (Call.write now x) = x ∷ []
-  writesOf (Call.receive now at bs) = []
-  writesOf (Call.wake now) = []
-  writesOf (Call.reset now) = []
-  writesOf (Call.powerDown now) = []
-  writesOf (Call.watch now b) = []
-  writesOf (Call.clockChange now p) = []
-  writesOf (Call.takeTx now lent) = []
-  writesOf (Call.takeWritten lent) = []
-  writesOf Call.hasLeft = []
-  writesOf Call.hostPending = []
+abbrev pub hostOf : {R X H L : Type 0} → Call R X H L → List H
+hostOf c = given c .0
 
--- the byte of a write to FIFO: its word's low 8 bits
-unfoldable pub fifoByte : ℕ → Written → List ℕ
-fifoByte fifo x = choose (eqb (x .offset) fifo) (x .value % 256 ∷ []) []
-
+-- the byte of a write to FIFO is its word's low 8 bits
 abbrev pub fifoBytesOf : ℕ → Request → List ℕ
-fifoBytesOf fifo c = flatMap (fifoByte fifo) (writesOf c)
+fifoBytesOf fifo c = flatMap (λ x. choose (eqb (x .offset) fifo) (x .value % 256 ∷ []) []) (given c .1)
 
--- the host bytes that a list gives to `receive`, and the bytes that it writes to FIFO, in order: refused and dropped ones too
-abbrev pub hostGiven : List Request → List ℕ
-hostGiven cs = flatMap hostOf cs
-
-abbrev pub fifoWritten : ℕ → List Request → List ℕ
-fifoWritten fifo cs = flatMap (fifoBytesOf fifo) cs
-
--- the n-th host byte of a list, and the byte of its n-th FIFO write, both from 0
+-- of a list of calls the n-th host byte and the byte of the n-th FIFO write, both from 0, refused and dropped ones too
 abbrev pub hostByte : List Request → ℕ → ℕ
-hostByte cs n = getD (hostGiven cs) n 0
+hostByte cs n = getD (flatMap hostOf cs) n 0
 
 abbrev pub writeByte : ℕ → List Request → ℕ → ℕ
-writeByte fifo cs n = getD (fifoWritten fifo cs) n 0
+writeByte fifo cs n = getD (flatMap (fifoBytesOf fifo) cs) n 0
 
 -- ---- an answer with other bytes in it
 
@@ -112,10 +89,6 @@ itself a = a
 
 unfoldable pub forget : {A : Type 0} → A → Unit {0}
 forget a = tt
-
--- of the part of a lent buffer that a call does not write only the length is kept
-unfoldable pub withoutRest : Answer ℕ ℕ ℕ → Answer ℕ ℕ (Unit {0})
-withoutRest a = mapAnswer itself itself forget a
 
 -- each number replaced by the byte that has it in a list of calls
 unfoldable pub withBytesOf : ℕ → List Request → Answer ℕ ℕ (Unit {0}) → Answer ℕ ℕ (Unit {0})

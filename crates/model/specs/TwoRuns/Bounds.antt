@@ -2,12 +2,11 @@
 -- given keeps the answer, so no other number is in it. Assumes nothing.
 use mathlib.Core.Path.{_≡_, refl, sym, ap, ap₂, subst₂, _∙_}
 use Prim.Native.Nat.{ℕ, zero, suc, _+_, _<_, _≤_}
-use native.Mathlib.Nat.{add-assoc, le-trans}
 use native.Mathlib.Omega.{arith}
 use mathlib.Core.Bool.{Bool, true, false}
-use mathlib.Core.List.{List, [], _∷_, _++_, map, flatMap, map-id}
+use mathlib.Core.List.{List, [], _∷_, map, flatMap, map-id}
 use lib.Dec.{ltb}
-use lib.ListN.{length, take, length-append}
+use lib.ListN.{length}
 use borrow.Author.Tests.{ltb-true, lt-ltb}
 use Rattle.model.specs.Numbers.{choose}
 use Rattle.model.specs.State.{Uart, mapUart}
@@ -15,13 +14,14 @@ use Rattle.model.specs.Limits.{All}
 use Rattle.model.specs.Replies.{ReadOf, word, byte, noValue, refused}
 use Rattle.model.specs.Call.{Request, Reply, reads, writes, does, takes, left, pends}
 use Rattle.model.specs.Run.{Step, runBy}
-use Rattle.model.specs.TwoRuns.Alike.{hostOf, writesOf, fifoBytesOf, hostGiven, fifoWritten, itself, mapReadOf, mapTake, mapReply}
+use Rattle.model.specs.TwoRuns.Alike.{hostOf, itself, mapReadOf, mapTake, mapReply}
 use Rattle.model.specs.TwoRuns.Alike.{mapAnswer}
 use Rattle.model.specs.TwoRuns.Placed.{Put, Placed, placed, stepPlaced}
 use Rattle.model.specs.TwoRuns.NaturalCalls.{mapPut, mapPlaced, mapStep, stepPlaced-nat}
-use Rattle.model.specs.TwoRuns.Numbering.{changed-twice, putOf, writtenOf, upFrom, numbered, number, host-of-placed}
+use Rattle.model.specs.TwoRuns.Numbering.{writesOf, changed-twice, putOf, writtenOf, upFrom, numbered, number, host-of-placed}
 use Rattle.model.specs.TwoRuns.Numbering.{written-of-placed}
-use Rattle.model.specs.TwoRuns.Agree.{byteRead, bytesRead, bytesSent, Bare, Below, EachBelow}
+use Rattle.model.specs.TwoRuns.Agree.{Bare}
+use Rattle.model.specs.TwoRuns.Numbered.{byteRead, bytesRead, bytesSent, Below, EachBelow}
 
 -- ---- the bytes in an answer with other bytes
 
@@ -33,7 +33,7 @@ module _ {H H′ W W′ L L′ : Type 0} (f : H → H′) (g : W → W′) (h : 
   byteRead-nat noValue = refl
   byteRead-nat (refused r) = refl
 
-  pub bytesRead-nat : (r : Reply H W L) → bytesRead (mapReply f g h r) ≡ map f (bytesRead r)
+  bytesRead-nat : (r : Reply H W L) → bytesRead (mapReply f g h r) ≡ map f (bytesRead r)
   unfolding bytesRead mapReply
   bytesRead-nat (reads r) = byteRead-nat r
   bytesRead-nat (writes r) = refl
@@ -42,7 +42,7 @@ module _ {H H′ W W′ L L′ : Type 0} (f : H → H′) (g : W → W′) (h : 
   bytesRead-nat (left b) = refl
   bytesRead-nat (pends n) = refl
 
-  pub bytesSent-nat : (r : Reply H W L) → bytesSent (mapReply f g h r) ≡ map g (bytesSent r)
+  bytesSent-nat : (r : Reply H W L) → bytesSent (mapReply f g h r) ≡ map g (bytesSent r)
   unfolding bytesSent mapReply mapTake
   bytesSent-nat (reads r) = refl
   bytesSent-nat (writes r) = refl
@@ -154,26 +154,3 @@ module _ (fifo : ℕ) (others : List ℕ) where
       further : List Bare
       further =
           runBy stepPlaced (number (h + length (hostOf pc)) (w + length (writtenOf pc)) (map (placed (fifo ∷ others)) cs)) (next .state)
-
--- ---- on a first part of the list
-
-all-weaken : {n m : ℕ} → n ≤ m → (l : List ℕ) → All (λ k. k < n) l → All (λ k. k < m) l
-all-weaken le [] All.nil = All.nil
-all-weaken le (k ∷ l) (All.cons p ps) = All.cons (le-trans p le) (all-weaken le l ps)
-
-below-weaken : {h w h′ w′ : ℕ} {a : Bare} → h ≤ h′ → w ≤ w′ → Below h w a → Below h′ w′ a
-below-weaken p q b = record { read = all-weaken p _ (b .read); sent = all-weaken q _ (b .sent) }
-
--- the answers to the first calls of a list hold only numbers of bytes that these calls give
-pub first-below : (fifo h w : ℕ) (front back : List Request) {t : List Bare} → EachBelow fifo h w (front ++ back) t
-    → All (Below (h + length (hostGiven front)) (w + length (fifoWritten fifo front))) (take (length front) t)
-unfolding flatMap
-first-below fifo h w [] back bs = All.nil
-first-below fifo h w (c ∷ front) back (EachBelow.cons {t = t} b bs) =
-    rw (
-      length-append (hostOf c) (hostGiven front),
-      length-append (fifoBytesOf fifo c) (fifoWritten fifo front),
-      ← add-assoc h _ _,
-      ← add-assoc w _ _,
-    )
-    (All.cons (below-weaken (omega arith) (omega arith) b) (first-below fifo _ _ front back bs))

@@ -2,7 +2,7 @@
 use mathlib.Core.Path.{_≡_, refl, sym, ap, ap₂, subst, _∙_}
 use Prim.Native.Nat.{ℕ, _%_}
 use native.Mathlib.Nat.{suc-ne-zero}
-use mathlib.Core.Bool.{true, false, true≢false, decide}
+use mathlib.Core.Bool.{false, true≢false, decide}
 use mathlib.Core.List.{List, [], _∷_, _++_, map, flatMap}
 use lib.Dec.{eqb}
 use borrow.Author.Tests.{ne-eqb}
@@ -14,11 +14,11 @@ use Rattle.model.specs.SetUp.{mapOf, new}
 use Rattle.model.specs.Call.{Call, Request}
 use Rattle.model.specs.Run.{step, runBy, run}
 use Rattle.model.specs.Refuses.FifoPlace.{first-is-fifo}
-use Rattle.model.specs.TwoRuns.Alike.{Each, Alike, fifoOffset, hostOf, writesOf, fifoByte, fifoBytesOf, hostGiven, fifoWritten}
-use Rattle.model.specs.TwoRuns.Alike.{itself, mapAnswer, withoutRest, withBytesOf}
-use Rattle.model.specs.TwoRuns.Agree.{Agreeing}
+use Rattle.model.specs.TwoRuns.Alike.{Each, Alike, fifoOffset, given, hostOf, fifoBytesOf}
+use Rattle.model.specs.TwoRuns.Alike.{itself, mapAnswer, withBytesOf}
+use Rattle.model.specs.TwoRuns.Agree.{withoutRest, Agreeing}
 use Rattle.model.specs.TwoRuns.MapKept.{step-kept}
-use Rattle.model.specs.TwoRuns.Theorem.{OneList, two-runs, lists-agree}
+use Rattle.model.specs.TwoRuns.Theorem.{OneList, one-list, lists-agree}
 use Rattle.model.specs.TwoRuns.Unused.{takesWord, SameInUse, step-unused, new-unused}
 
 -- two calls that are alike, or write any two words to a place that is not FIFO and takes none
@@ -52,8 +52,8 @@ between offsets (Each.cons {a = c} (AlikeInUse.unusedWord f e) rest) =
     record { list = c ∷ b .list; first = Each.cons Alike.same (b .first); second = Each.cons (Same.unusedWord f e) (b .second) }
 
 -- it gives the same host bytes and the same bytes to FIFO
-host-same : (offsets : List ℕ) {es ds : List Request} → Each (Same offsets) es ds → hostGiven es ≡ hostGiven ds
-unfolding hostOf flatMap
+host-same : (offsets : List ℕ) {es ds : List Request} → Each (Same offsets) es ds → flatMap hostOf es ≡ flatMap hostOf ds
+unfolding given flatMap
 host-same offsets Each.nil = refl
 host-same offsets (Each.cons {a = c} Same.same rest) = ap (λ l. hostOf c ++ l) (host-same offsets rest)
 host-same offsets (Each.cons (Same.unusedWord f e) rest) = host-same offsets rest
@@ -65,8 +65,9 @@ not-first fifo others offset f =
     ∙ subst (λ o. isFifo (registerOf (fifo ∷ others) o) ≡ false) e f))
 
 module _ (fifo : ℕ) (others : List ℕ) where
-  written-same : {es ds : List Request} → Each (Same (fifo ∷ others)) es ds → fifoWritten fifo es ≡ fifoWritten fifo ds
-  unfolding writesOf fifoByte flatMap
+  written-same : {es ds : List Request} → Each (Same (fifo ∷ others)) es ds
+      → flatMap (fifoBytesOf fifo) es ≡ flatMap (fifoBytesOf fifo) ds
+  unfolding given flatMap
   written-same Each.nil = refl
   written-same (Each.cons {a = c} Same.same rest) = ap (λ l. fifoBytesOf fifo c ++ l) (written-same rest)
   written-same (Each.cons (Same.unusedWord {offset = o} {v = v} {v′ = v′} f e) rest) =
@@ -91,13 +92,13 @@ run-same offsets (Each.cons {a = c} {b = d} {m = ds} (Same.unusedWord {now = now
 -- ---- the theorem
 
 -- for every register map of sixteen offsets; the reset words may differ in what set-up does not use
-pub two-runs-in-use : (offsets ws : List ℕ) → length offsets ≡ 16 → (cs ds : List Request) → Each (AlikeInUse offsets) cs ds
+pub one-list-in-use : (offsets ws : List ℕ) → length offsets ≡ 16 → (cs ds : List Request) → Each (AlikeInUse offsets) cs ds
     → OneList offsets ws cs ds
 unfolding withBytesOf new mapOf
-two-runs-in-use [] ws e cs ds a = absurd (suc-ne-zero _ (sym e))
-two-runs-in-use (fifo ∷ others) ws e cs ds a =
+one-list-in-use [] ws e cs ds a = absurd (suc-ne-zero _ (sym e))
+one-list-in-use (fifo ∷ others) ws e cs ds a =
     let b : Between (fifo ∷ others) cs ds = between (fifo ∷ others) a in
-    let o : OneList (fifo ∷ others) ws cs (b .list) = two-runs (fifo ∷ others) ws e cs (b .list) (b .first) in
+    let o : OneList (fifo ∷ others) ws cs (b .list) = one-list (fifo ∷ others) ws e cs (b .list) (b .first) in
     record {
       answers = o .answers;
       first = o .first;
@@ -115,4 +116,4 @@ pub runs-agree-in-use : (offsets ws ws′ : List ℕ) → length offsets ≡ 16 
     → Agreeing (fifoOffset offsets) cs ds 0 0 cs (map withoutRest (run cs (new offsets ws))) (map withoutRest (run ds (new offsets ws′)))
 runs-agree-in-use offsets ws ws′ e s cs ds a =
     subst (λ u. Agreeing (fifoOffset offsets) cs ds 0 0 cs (map withoutRest (run cs (new offsets ws))) (map withoutRest (run ds u)))
-    (new-unused offsets ws ws′ s) (lists-agree offsets ws cs ds (two-runs-in-use offsets ws e cs ds a))
+    (new-unused offsets ws ws′ s) (lists-agree offsets ws cs ds (one-list-in-use offsets ws e cs ds a))

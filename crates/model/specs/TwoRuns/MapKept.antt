@@ -1,30 +1,35 @@
 -- Every call keeps the register map, so one map places a whole list of calls. Assumes nothing.
 use mathlib.Core.Path.{_≡_, refl, ap, ap₂, _∙_}
 use Prim.Native.Nat.{ℕ}
+use mathlib.Core.Option.{Option}
 use mathlib.Core.List.{List, [], _∷_, map}
 use Rattle.model.specs.State.{Uart}
 use Rattle.model.specs.Settle.{levels}
 use Rattle.model.specs.Registers.{clearing}
 use Rattle.model.specs.Calls.{cleared}
-use Rattle.model.specs.Call.{Request}
+use Rattle.model.specs.Call.{dateOf, Request}
 use Rattle.model.specs.Run.{step, runBy, run}
 use Rattle.model.specs.Keeps.Rest.{settleTo-map}
-use Rattle.model.specs.ShutsOut.EveryCall.{nowOf, Walk, every-call}
+use Rattle.model.specs.ShutsOut.EveryCall.{Walk, every-call}
 use Rattle.model.specs.TwoRuns.Placed.{placed, stepPlaced, step-placed}
 use Rattle.model.specs.declared.RegisterMap.{RegisterMap}
 
 abbrev SameMap : Uart ℕ ℕ → Uart ℕ ℕ → Type 0
 SameMap u v = v .map ≡ u .map
 
-map-walk : (now : ℕ) → Walk now SameMap
+map-walk : (d : Option ℕ) → Walk d SameMap
 unfolding levels
-map-walk now =
-    record { on = λ u v w a b. b ∙ a; alike = λ u v e. ap (λ x. x .3) e; settling = λ date h u. settleTo-map date u; raising = λ u. refl }
+map-walk d = record {
+  on = λ u v w a b. b ∙ a;
+  alike = λ u v e. ap (λ x. x .3) e;
+  settling = λ now _ date h u. settleTo-map date u;
+  raising = λ u. refl;
+}
 
 -- every call keeps the register map
 pub step-kept : (c : Request) (u : Uart ℕ ℕ) → step c u .state .map ≡ u .map
 unfolding clearing cleared
-step-kept c u = every-call c u SameMap (map-walk (nowOf c)) (λ _ v s. refl) (λ _ s. refl)
+step-kept c u = every-call c u SameMap (map-walk (dateOf c)) (λ now x _ _ v s. refl) (λ now _ s. refl)
 
 run-placed-by : (m : RegisterMap) (cs : List Request) (u : Uart ℕ ℕ) → u .map ≡ m
     → run cs u ≡ runBy stepPlaced (map (placed (m .offsets)) cs) u

@@ -5,8 +5,7 @@ use mathlib.Core.Bool.{Bool, true, false}
 use mathlib.Core.Option.{Option, none, some}
 use mathlib.Core.List.{List, [], _∷_, map, map-append}
 use lib.Dec.{leb}
-use lib.ListN.{take, drop, length-map}
-use Rattle.model.specs.Numbers.{choose}
+use lib.ListN.{take, length-map}
 use Rattle.model.specs.State.{Sent, Run, OnTheLine, Uart, lineOf, withLineOf, mapSent, mapOnTheLine, mapReceiving, mapUart}
 use Rattle.model.specs.Events.{Event, departure, timeout, landing, nothing, goesOn, onePass, lost, total, passesIn, overflowsIn}
 use Rattle.model.specs.Line.{frame}

@@ -8,19 +8,18 @@ use lib.Dec.{ltb}
 use lib.ListN.{length, take, length-map}
 use Rattle.model.specs.State.{Uart, withHost, mapSent, mapUart}
 use Rattle.model.specs.Events.{passesIn, overflowsIn}
-use Rattle.model.specs.Settle.{Settled, found, settle, levels}
+use Rattle.model.specs.Settle.{Settled, found, ended, settle, levels}
 use Rattle.model.specs.Arm.{arm}
 use Rattle.model.specs.Replies.{ReadOf, word, byte, report}
 use Rattle.model.specs.Map.{Word, Shown, Register}
 use Rattle.model.specs.Registers.{Access, gives, pop, shownIn, readRegister, readLooking, readAt, goneAt, sent, dropped, sendByte}
 use Rattle.model.specs.Registers.{resetFifos, storing, clearing, writeRegister, concluded}
 use Rattle.model.specs.Calls
-use Rattle.model.specs.Calls.{Outcome, refusing, unless, unsettled, afterSettling, undated, filled, notTaken, dated, settleAt, quiet}
-use Rattle.model.specs.Calls.{readWork, readPlaced, writeWork, writePlaced, sendWork, send, joined, handOver, receiveWork, wakeWork}
-use Rattle.model.specs.Calls.{watchWork, powerDownWork, clocked, reclocked, clockWork, cleared, resetWork, written, takeTxWork}
-use Rattle.model.specs.Calls.{takeWrittenWork}
-use Rattle.model.specs.Call.{Call, Reply}
-use Rattle.model.specs.Run.{Step, answering, stepBy, runBy}
+use Rattle.model.specs.Calls.{Outcome, Settling, Plan, dated, settles, settledBy, refusalBy, refusing, unless, afterSettling, undated}
+use Rattle.model.specs.Calls.{carried, outcome, filled, notTaken, quiet, readPlaced, writePlaced, send, joined, handOver, clocked}
+use Rattle.model.specs.Calls.{cleared, written}
+use Rattle.model.specs.Call.{Call, dateOf, Reply}
+use Rattle.model.specs.Run.{Step, stepped, replying, planBy, stepBy, runBy}
 use Rattle.model.specs.TwoRuns.Natural.{mapEvent, mapSettled, found-nat, passes-in-nat, overflows-in-nat, bytes-nat}
 use Rattle.model.specs.TwoRuns.Natural.{lastGone-nat, pending-nat, levels-nat, settle-nat, arm-nat}
 use Rattle.model.specs.TwoRuns.Placed.{Put, Placed, changed, putting, stepPlaced}
@@ -55,6 +54,16 @@ module _ {R R′ H H′ W W′ : Type 0} (m : R → R′) (f : H → H′) (g : 
         (o .events);
   }
 
+  unfoldable mapSettling : Settling H W → Settling H′ W′
+  mapSettling s = record { now = s .now; begins = mapUart f g (s .begins) }
+
+  -- the second plan is the first with other bytes
+  record Natural (p : Plan R H W) (p′ : Plan R′ H′ W′) : Type 0 where
+    test : p′ .test ≡ p .test
+    refuses : (r : Refusal) → p′ .refuses r ≡ m (p .refuses r)
+    settlings : p′ .settlings ≡ map mapSettling (p .settlings)
+    work : (v : Uart H W) → p′ .work (mapUart f g v) ≡ mapAccess (p .work v)
+
   unless-nat : (o : Option Refusal) (reply : Refusal → R) (reply′ : Refusal → R′) (work : Uart H W → Outcome R H W)
       (work′ : Uart H′ W′ → Outcome R′ H′ W′) (u : Uart H W)
       → ((r : Refusal) → reply′ r ≡ m (reply r)) → work′ (mapUart f g u) ≡ mapOutcome (work u)
@@ -76,21 +85,28 @@ module _ {R R′ H H′ W W′ : Type 0} (m : R → R′) (f : H → H′) (g : 
       }) (p (t .state))
       ∙ rw (passes-in-nat f g (t .events), overflows-in-nat f g (t .events))
 
-  -- settled, and then the work
-  settled-nat : (now : ℕ) (u : Uart H W) (work : Uart H W → Access R H W) (work′ : Uart H′ W′ → Access R′ H′ W′)
-      → ((v : Uart H W) → work′ (mapUart f g v) ≡ mapAccess (work v))
-      → afterSettling (settle now (mapUart f g u)) work′ ≡ mapOutcome (afterSettling (settle now u) work)
-  settled-nat now u work work′ p = ap (λ t. afterSettling t work′) (settle-nat f g now u) ∙ after-nat (settle now u) work work′ p
+  settledBy-nat : (ss : List (Settling H W)) (t : Settled H W)
+      → settledBy (map mapSettling ss) (mapSettled f g t) ≡ mapSettled f g (settledBy ss t)
+  unfolding mapSettled mapSettling
+  settledBy-nat [] t = refl
+  settledBy-nat (s ∷ ss) t =
+      ap (λ x. settledBy (map mapSettling ss) (found (mapSettled f g t .events) x)) (settle-nat f g (s .now) (s .begins))
+      ∙ ap (settledBy (map mapSettling ss)) (found-nat f g (t .events) (settles s)) ∙ settledBy-nat ss (found (t .events) (settles s))
 
-  undated-nat : (r : R) (u : Uart H W) {r′ : R′} {u′ : Uart H′ W′} → r′ ≡ m r → u′ ≡ mapUart f g u
-      → undated r′ u′ ≡ mapOutcome (undated r u)
-  unfolding undated mapOutcome
-  undated-nat r u p q = ap₂ undated p q
+  module _ {p : Plan R H W} {p′ : Plan R′ H′ W′} (n : Natural p p′) (u : Uart H W) where
+    carried-nat : (d : Option ℕ) → carried d p′ (mapUart f g u) ≡ mapOutcome (carried d p u)
+    unfolding carried undated mapAccess mapOutcome dated mapSettled
+    carried-nat none = ap undated (n .work u)
+    carried-nat (some now) =
+        ap (λ ss. afterSettling (settledBy ss (ended (dated now (mapUart f g u)))) (p′ .work)) (n .settlings)
+        ∙ ap (λ t. afterSettling t (p′ .work)) (settledBy-nat (p .settlings) (ended (dated now u)))
+        ∙ after-nat _ (p .work) (p′ .work) (n .work)
 
-  unsettled-nat : (r : R) (u : Uart H W) {r′ : R′} {u′ : Uart H′ W′} → r′ ≡ m r → u′ ≡ mapUart f g u
-      → unsettled r′ u′ ≡ mapOutcome (unsettled r u)
-  unfolding unsettled mapOutcome report
-  unsettled-nat r u p q = ap₂ unsettled p q
+    outcome-nat : (d : Option ℕ) → outcome d p′ (mapUart f g u) ≡ mapOutcome (outcome d p u)
+    unfolding outcome
+    outcome-nat d =
+        ap (λ t. unless (refusalBy d t (u .control)) (p′ .refuses) (carried d p′) (mapUart f g u)) (n .test)
+        ∙ unless-nat _ (p .refuses) (p′ .refuses) (carried d p) (carried d p′) u (n .refuses) (carried-nat d)
 
   quiet-nat : (r : R) (u : Uart H W) {r′ : R′} {u′ : Uart H′ W′} → r′ ≡ m r → u′ ≡ mapUart f g u → quiet r′ u′ ≡ mapAccess (quiet r u)
   unfolding quiet mapAccess
@@ -135,10 +151,9 @@ module _ {H H′ W W′ : Type 0} (f : H → H′) (g : W → W′) where
   readLooking-nat false k u = readRegister-nat _ k u
 
   readPlaced-nat : (now : ℕ) (p : Register) (u : Uart H W)
-      → readPlaced now p (mapUart f g u) ≡ mapOutcome (mapReadOf f) f g (readPlaced now p u)
-  unfolding readPlaced readWork readAt settleAt dated mapReadOf
-  readPlaced-nat now p u =
-      unless-nat (mapReadOf f) f g _ _ _ _ _ u (λ r. refl) (settled-nat (mapReadOf f) f g now _ _ _ (λ v. readLooking-nat _ p v))
+      → Natural (mapReadOf f) f g (readPlaced now p u) (readPlaced now p (mapUart f g u))
+  unfolding readPlaced readAt dated mapReadOf mapSettling
+  readPlaced-nat now p u = record { test = refl; refuses = λ r. refl; settlings = refl; work = λ v. readLooking-nat _ p v }
 
   storing-nat : (x : Word) (v : ℕ) (u : Uart H W) → storing x v (mapUart f g u) ≡ mapAccess itself f g (storing x v u)
   unfolding storing mapAccess
@@ -176,15 +191,20 @@ module _ {H H′ W W′ : Type 0} (f : H → H′) (g : W → W′) where
   unfolding sendByte
   sendByte-nat now b u = rw (length-map (u .inFlight) (mapSent g)) (choose-nat (mapAccess itself f g) _ (dropped-nat u) (sent-nat now b u))
 
-  putting-nat : (now : ℕ) (x : Put W) (u : Uart H W) → putting now (mapPut g x) (mapUart f g u) ≡ mapOutcome itself f g (putting now x u)
-  unfolding putting mapPut send sendWork writePlaced writeWork settleAt dated
-  putting-nat now (Put.byte b) u =
-      rw (length-map (u .tx) g, length-map (u .inFlight) (mapSent g))
-      (unless-nat itself f g _ _ _ _ _ u (λ r. refl)
-      (settled-nat itself f g now _ _ _ (λ v. ap concluded (sendByte-nat now b v) ∙ concluded-nat itself f g _)))
-  putting-nat now (Put.word p x) u =
-      unless-nat itself f g _ _ _ _ _ u (λ r. refl)
-      (settled-nat itself f g now _ _ _ (λ v. ap concluded (writeRegister-nat p x v) ∙ concluded-nat itself f g _))
+  putting-nat : (now : ℕ) (x : Put W) (u : Uart H W) → Natural itself f g (putting now x u) (putting now (mapPut g x) (mapUart f g u))
+  unfolding putting mapPut send writePlaced dated mapSettling
+  putting-nat now (Put.byte b) u = record {
+    test = rw (length-map (u .tx) g, length-map (u .inFlight) (mapSent g));
+    refuses = λ r. refl;
+    settlings = refl;
+    work = λ v. ap concluded (sendByte-nat now b v) ∙ concluded-nat itself f g _;
+  }
+  putting-nat now (Put.word p x) u = record {
+    test = refl;
+    refuses = λ r. refl;
+    settlings = refl;
+    work = λ v. ap concluded (writeRegister-nat p x v) ∙ concluded-nat itself f g _;
+  }
 
   -- ---- the host
 
@@ -196,66 +216,73 @@ module _ {H H′ W W′ : Type 0} (f : H → H′) (g : W → W′) where
       (arm-nat f g (withHost (u .host ++ (b ∷ bs)) (joined date (length (b ∷ bs)) (u .hostRuns)) u))
 
   receive-nat : (now at : ℕ) (bs : List H) (u : Uart H W)
-      → Calls.receive now at (map f bs) (mapUart f g u) ≡ mapOutcome itself f g (Calls.receive now at bs u)
-  unfolding Calls.receive receiveWork settleAt dated
-  receive-nat now at bs u =
-      rw (length-map (u .host) f, length-map bs f)
-      (unless-nat itself f g _ _ _ _ _ u (λ r. refl)
-      (settled-nat itself f g now _ _ _ (λ v. quiet-nat itself f g Done.Done _ refl (handOver-nat _ bs v))))
+      → Natural itself f g (Calls.receive now at bs u) (Calls.receive now at (map f bs) (mapUart f g u))
+  unfolding Calls.receive dated mapSettling
+  receive-nat now at bs u = record {
+    test = rw (length-map (u .host) f, length-map bs f);
+    refuses = λ r. refl;
+    settlings = refl;
+    work = λ v. quiet-nat itself f g Done.Done _ refl (handOver-nat _ bs v);
+  }
 
-  hostPending-nat : (u : Uart H W) → Calls.hostPending (mapUart f g u) ≡ mapOutcome itself f g (Calls.hostPending u)
+  hostPending-nat : (u : Uart H W) → Natural itself f g (Calls.hostPending u) (Calls.hostPending (mapUart f g u))
   unfolding Calls.hostPending
-  hostPending-nat u = undated-nat itself f g _ u (pending-nat f g u) refl
+  hostPending-nat u = record {
+    test = refl;
+    refuses = λ r. pending-nat f g u;
+    settlings = refl;
+    work = λ v. quiet-nat itself f g _ v (pending-nat f g v) refl;
+  }
 
   -- ---- wake, watch, clock, power-down, reset
 
   armed-nat : (v : Uart H W) → quiet Done.Done (arm (mapUart f g v)) ≡ mapAccess itself f g (quiet Done.Done (arm v))
   armed-nat v = quiet-nat itself f g Done.Done (arm v) refl (arm-nat f g v)
 
-  wake-nat : (now : ℕ) (u : Uart H W) → Calls.wake now (mapUart f g u) ≡ mapOutcome itself f g (Calls.wake now u)
-  unfolding Calls.wake wakeWork settleAt dated
-  wake-nat now u = unless-nat itself f g _ _ _ _ _ u (λ r. refl) (settled-nat itself f g now _ _ _ armed-nat)
+  wake-nat : (now : ℕ) (u : Uart H W) → Natural itself f g (Calls.wake now u) (Calls.wake now (mapUart f g u))
+  unfolding Calls.wake dated mapSettling
+  wake-nat now u = record { test = refl; refuses = λ r. refl; settlings = refl; work = armed-nat }
 
-  watch-nat : (now : ℕ) (b : Bool) (u : Uart H W) → Calls.watch now b (mapUart f g u) ≡ mapOutcome itself f g (Calls.watch now b u)
-  unfolding Calls.watch watchWork
-  watch-nat now b u = unless-nat itself f g _ _ _ _ _ u (λ r. refl) (unsettled-nat itself f g Done.Done _ refl (arm-nat f g _))
+  watch-nat : (now : ℕ) (b : Bool) (u : Uart H W) → Natural itself f g (Calls.watch now b u) (Calls.watch now b (mapUart f g u))
+  unfolding Calls.watch
+  watch-nat now b u = record { test = refl; refuses = λ r. refl; settlings = refl; work = λ v. armed-nat _ }
 
-  powerDown-nat : (now : ℕ) (u : Uart H W) → Calls.powerDown now (mapUart f g u) ≡ mapOutcome itself f g (Calls.powerDown now u)
-  unfolding Calls.powerDown powerDownWork
-  powerDown-nat now u = unless-nat itself f g _ _ _ _ _ u (λ r. refl) (unsettled-nat itself f g Done.Done _ refl refl)
-
-  clocked-nat : (period : ℕ) (t : Settled H W) → clocked period (mapSettled f g t .state) ≡ mapUart f g (clocked period (t .state))
-  unfolding clocked mapSettled
-  clocked-nat period t = refl
-
-  reclocked-nat : (now period : ℕ) (t : Settled H W) → reclocked now period (mapSettled f g t) ≡ mapSettled f g (reclocked now period t)
-  unfolding reclocked mapSettled
-  reclocked-nat now period t =
-      ap (λ v. found (mapSettled f g t .events) (settle now v)) (clocked-nat period t)
-      ∙ ap (found (mapSettled f g t .events)) (settle-nat f g now (clocked period (t .state)))
-      ∙ found-nat f g (t .events) (settle now (clocked period (t .state)))
+  powerDown-nat : (now : ℕ) (u : Uart H W) → Natural itself f g (Calls.powerDown now u) (Calls.powerDown now (mapUart f g u))
+  unfolding Calls.powerDown
+  powerDown-nat now u =
+      record { test = refl; refuses = λ r. refl; settlings = refl; work = λ v. quiet-nat itself f g Done.Done _ refl refl }
 
   clockChange-nat : (now period : ℕ) (u : Uart H W)
-      → Calls.clockChange now period (mapUart f g u) ≡ mapOutcome itself f g (Calls.clockChange now period u)
-  unfolding Calls.clockChange clockWork settleAt dated
-  clockChange-nat now period u =
-      unless-nat itself f g _ _ _ _ _ u (λ r. refl)
-      (ap (λ t. afterSettling (reclocked now period t) (λ s. quiet Done.Done (arm s))) (settle-nat f g now (dated now u))
-      ∙ ap (λ t. afterSettling t (λ s. quiet Done.Done (arm s))) (reclocked-nat now period (settle now (dated now u)))
-      ∙ after-nat itself f g _ _ _ armed-nat)
+      → Natural itself f g (Calls.clockChange now period u) (Calls.clockChange now period (mapUart f g u))
+  unfolding Calls.clockChange dated clocked mapSettling mapSettled
+  clockChange-nat now period u = record {
+    test = refl;
+    refuses = λ r. refl;
+    settlings =
+        ap (λ t. record { now = now; begins = dated now (mapUart f g u) } ∷ record { now = now; begins = clocked period (t .state) } ∷ [])
+        (settle-nat f g now (dated now u));
+    work = armed-nat;
+  }
 
-  reset-nat : (now : ℕ) (u : Uart H W) → Calls.reset now (mapUart f g u) ≡ mapOutcome itself f g (Calls.reset now u)
-  unfolding Calls.reset resetWork settleAt dated cleared
-  reset-nat now u =
-      unless-nat itself f g _ _ _ _ _ u (λ r. refl)
-      (settled-nat itself f g now _ _ _ (λ v. ap (λ w. quiet Done.Done (arm w)) (levels-nat f g (cleared v))
-      ∙ armed-nat (levels (cleared v))))
+  reset-nat : (now : ℕ) (u : Uart H W) → Natural itself f g (Calls.reset now u) (Calls.reset now (mapUart f g u))
+  unfolding Calls.reset dated cleared mapSettling
+  reset-nat now u = record {
+    test = refl;
+    refuses = λ r. refl;
+    settlings = refl;
+    work = λ v. ap (λ w. quiet Done.Done (arm w)) (levels-nat f g (cleared v)) ∙ armed-nat (levels (cleared v));
+  }
 
   -- ---- taking what was sent
 
-  hasLeft-nat : (u : Uart H W) → Calls.hasLeft (mapUart f g u) ≡ mapOutcome itself f g (Calls.hasLeft u)
+  hasLeft-nat : (u : Uart H W) → Natural itself f g (Calls.hasLeft u) (Calls.hasLeft (mapUart f g u))
   unfolding Calls.hasLeft
-  hasLeft-nat u = undated-nat itself f g _ u (ap (ltb 0) (length-map (u .tx) g)) refl
+  hasLeft-nat u = record {
+    test = refl;
+    refuses = λ r. ap (ltb 0) (length-map (u .tx) g);
+    settlings = refl;
+    work = λ v. quiet-nat itself f g _ v (ap (ltb 0) (length-map (v .tx) g)) refl;
+  }
 
   written-nat : (u : Uart H W) → written (mapUart f g u) ≡ map g (written u)
   unfolding written
@@ -271,56 +298,81 @@ module _ {H H′ W W′ : Type 0} (f : H → H′) (g : W → W′) where
     notTaken-nat lent r = refl
 
     takeTx-nat : (now : ℕ) (lent : List L) (u : Uart H W)
-        → Calls.takeTx now (map h lent) (mapUart f g u) ≡ mapOutcome (mapTake g h) f g (Calls.takeTx now lent u)
-    unfolding Calls.takeTx takeTxWork settleAt dated
-    takeTx-nat now lent u =
-        rw (length-map lent h)
-        (unless-nat (mapTake g h) f g _ _ _ _ _ u (notTaken-nat lent)
-        (settled-nat (mapTake g h) f g now _ _ _ (λ v. quiet-nat (mapTake g h) f g _ _ (filled-nat (v .tx) lent) refl)))
+        → Natural (mapTake g h) f g (Calls.takeTx now lent u) (Calls.takeTx now (map h lent) (mapUart f g u))
+    unfolding Calls.takeTx dated mapSettling
+    takeTx-nat now lent u = record {
+      test = rw (length-map lent h);
+      refuses = notTaken-nat lent;
+      settlings = refl;
+      work = λ v. quiet-nat (mapTake g h) f g _ _ (filled-nat (v .tx) lent) refl;
+    }
 
     takeWritten-nat : (lent : List L) (u : Uart H W)
-        → Calls.takeWritten (map h lent) (mapUart f g u) ≡ mapOutcome (mapTake g h) f g (Calls.takeWritten lent u)
-    unfolding Calls.takeWritten takeWrittenWork
-    takeWritten-nat lent u =
-        rw (length-map lent h)
-        (unless-nat (mapTake g h) f g _ _ _ _ _ u (notTaken-nat lent)
-        (undated-nat (mapTake g h) f g _ _ (ap (λ o. filled o (map h lent)) (written-nat u) ∙ filled-nat (written u) lent) refl))
+        → Natural (mapTake g h) f g (Calls.takeWritten lent u) (Calls.takeWritten (map h lent) (mapUart f g u))
+    unfolding Calls.takeWritten
+    takeWritten-nat lent u = record {
+      test = rw (length-map lent h);
+      refuses = notTaken-nat lent;
+      settlings = refl;
+      work = λ v. quiet-nat (mapTake g h) f g _ _ (ap (λ o. filled o (map h lent)) (written-nat v) ∙ filled-nat (written v) lent) refl;
+    }
 
     -- ---- a call
 
-    answering-nat : {R R′ : Type 0} (m : R → R′) (k : R → Reply H W L) (k′ : R′ → Reply H′ W′ L′) (o : Outcome R H W)
-        (o′ : Outcome R′ H′ W′)
-        → ((r : R) → k′ (m r) ≡ mapReply f g h (k r)) → o′ ≡ mapOutcome m f g o → answering k′ o′ ≡ mapStep f g h (answering k o)
-    unfolding answering mapStep mapAnswer mapOutcome
-    answering-nat m k k′ o o′ p q =
-        ap (answering k′) q ∙ ap (λ r. record {
-          answer = record { reply = r; report = o .report };
-          state = mapUart f g (o .state);
-          events = map (mapEvent f g) (o .events);
-        }) (p (o .reply))
+    replying-nat : {R R′ : Type 0} (m : R → R′) (k : R → Reply H W L) (k′ : R′ → Reply H′ W′ L′) {p : Plan R H W} {p′ : Plan R′ H′ W′}
+        → ((r : R) → k′ (m r) ≡ mapReply f g h (k r)) → Natural m f g p p′ → Natural (mapReply f g h) f g (replying k p) (replying k′ p′)
+    unfolding replying mapAccess mapSettling
+    replying-nat m k k′ {p} q n = record {
+      test = n .test;
+      refuses = λ r. ap k′ (n .refuses r) ∙ q (p .refuses r);
+      settlings = n .settlings;
+      work = λ v. ap (λ a. gives (a .notes) (a .state) (k′ (a .reply))) (n .work v)
+          ∙ ap (gives (p .work v .notes) (mapUart f g (p .work v .state))) (q (p .work v .reply));
+    }
 
-    -- a call is natural where its read and its write are
-    stepBy-nat : {R R′ X X′ : Type 0} (a : R → R′) (b : X → X′) (rd : ℕ → R → Uart H W → Outcome (ReadOf H) H W)
-        (rd′ : ℕ → R′ → Uart H′ W′ → Outcome (ReadOf H′) H′ W′)
-        (wr : ℕ → X → Uart H W → Outcome Write H W) (wr′ : ℕ → X′ → Uart H′ W′ → Outcome Write H′ W′)
-        → ((now : ℕ) (r : R) (u : Uart H W) → rd′ now (a r) (mapUart f g u) ≡ mapOutcome (mapReadOf f) f g (rd now r u))
-        → ((now : ℕ) (x : X) (u : Uart H W) → wr′ now (b x) (mapUart f g u) ≡ mapOutcome itself f g (wr now x u))
-        → (c : Call R X H L) (u : Uart H W) → stepBy rd′ wr′ (changed a b (map f) (map h) c) (mapUart f g u)
-        ≡ mapStep f g h (stepBy rd wr c u)
-    unfolding stepBy changed mapReply
-    stepBy-nat a b rd rd′ wr wr′ p q (Call.read now r) u = answering-nat (mapReadOf f) _ _ _ _ (λ x. refl) (p now r u)
-    stepBy-nat a b rd rd′ wr wr′ p q (Call.write now x) u = answering-nat itself _ _ _ _ (λ y. refl) (q now x u)
-    stepBy-nat a b rd rd′ wr wr′ p q (Call.receive now at bs) u = answering-nat itself _ _ _ _ (λ y. refl) (receive-nat now at bs u)
-    stepBy-nat a b rd rd′ wr wr′ p q (Call.wake now) u = answering-nat itself _ _ _ _ (λ y. refl) (wake-nat now u)
-    stepBy-nat a b rd rd′ wr wr′ p q (Call.reset now) u = answering-nat itself _ _ _ _ (λ y. refl) (reset-nat now u)
-    stepBy-nat a b rd rd′ wr wr′ p q (Call.powerDown now) u = answering-nat itself _ _ _ _ (λ y. refl) (powerDown-nat now u)
-    stepBy-nat a b rd rd′ wr wr′ p q (Call.watch now w) u = answering-nat itself _ _ _ _ (λ y. refl) (watch-nat now w u)
-    stepBy-nat a b rd rd′ wr wr′ p q (Call.clockChange now period) u =
-        answering-nat itself _ _ _ _ (λ y. refl) (clockChange-nat now period u)
-    stepBy-nat a b rd rd′ wr wr′ p q (Call.takeTx now lent) u = answering-nat (mapTake g h) _ _ _ _ (λ y. refl) (takeTx-nat now lent u)
-    stepBy-nat a b rd rd′ wr wr′ p q (Call.takeWritten lent) u = answering-nat (mapTake g h) _ _ _ _ (λ y. refl) (takeWritten-nat lent u)
-    stepBy-nat a b rd rd′ wr wr′ p q Call.hasLeft u = answering-nat itself _ _ _ _ (λ y. refl) (hasLeft-nat u)
-    stepBy-nat a b rd rd′ wr wr′ p q Call.hostPending u = answering-nat itself _ _ _ _ (λ y. refl) (hostPending-nat u)
+    -- the plan of a call is natural where those of reads and writes are
+    module _ {R R′ X X′ : Type 0} (a : R → R′) (b : X → X′) (rd : ℕ → R → Uart H W → Plan (ReadOf H) H W)
+        (rd′ : ℕ → R′ → Uart H′ W′ → Plan (ReadOf H′) H′ W′) (wr : ℕ → X → Uart H W → Plan Write H W)
+        (wr′ : ℕ → X′ → Uart H′ W′ → Plan Write H′ W′)
+        (rd-nat : (now : ℕ) (r : R) (u : Uart H W) → Natural (mapReadOf f) f g (rd now r u) (rd′ now (a r) (mapUart f g u)))
+        (wr-nat : (now : ℕ) (x : X) (u : Uart H W) → Natural itself f g (wr now x u) (wr′ now (b x) (mapUart f g u))) where
+      planBy-nat : (c : Call R X H L) (u : Uart H W)
+          → Natural (mapReply f g h) f g (planBy rd wr c u) (planBy rd′ wr′ (changed a b (map f) (map h) c) (mapUart f g u))
+      unfolding planBy changed mapReply
+      planBy-nat (Call.read now r) u = replying-nat (mapReadOf f) _ _ (λ y. refl) (rd-nat now r u)
+      planBy-nat (Call.write now x) u = replying-nat itself _ _ (λ y. refl) (wr-nat now x u)
+      planBy-nat (Call.receive now at bs) u = replying-nat itself _ _ (λ y. refl) (receive-nat now at bs u)
+      planBy-nat (Call.wake now) u = replying-nat itself _ _ (λ y. refl) (wake-nat now u)
+      planBy-nat (Call.reset now) u = replying-nat itself _ _ (λ y. refl) (reset-nat now u)
+      planBy-nat (Call.powerDown now) u = replying-nat itself _ _ (λ y. refl) (powerDown-nat now u)
+      planBy-nat (Call.watch now w) u = replying-nat itself _ _ (λ y. refl) (watch-nat now w u)
+      planBy-nat (Call.clockChange now period) u = replying-nat itself _ _ (λ y. refl) (clockChange-nat now period u)
+      planBy-nat (Call.takeTx now lent) u = replying-nat (mapTake g h) _ _ (λ y. refl) (takeTx-nat now lent u)
+      planBy-nat (Call.takeWritten lent) u = replying-nat (mapTake g h) _ _ (λ y. refl) (takeWritten-nat lent u)
+      planBy-nat Call.hasLeft u = replying-nat itself _ _ (λ y. refl) (hasLeft-nat u)
+      planBy-nat Call.hostPending u = replying-nat itself _ _ (λ y. refl) (hostPending-nat u)
+
+      date-nat : (c : Call R X H L) → dateOf (changed a b (map f) (map h) c) ≡ dateOf c
+      unfolding dateOf changed
+      date-nat (Call.read now r) = refl
+      date-nat (Call.write now x) = refl
+      date-nat (Call.receive now at bs) = refl
+      date-nat (Call.wake now) = refl
+      date-nat (Call.reset now) = refl
+      date-nat (Call.powerDown now) = refl
+      date-nat (Call.watch now w) = refl
+      date-nat (Call.clockChange now period) = refl
+      date-nat (Call.takeTx now lent) = refl
+      date-nat (Call.takeWritten lent) = refl
+      date-nat Call.hasLeft = refl
+      date-nat Call.hostPending = refl
+
+      stepBy-nat : (c : Call R X H L) (u : Uart H W) → stepBy rd′ wr′ (changed a b (map f) (map h) c) (mapUart f g u)
+          ≡ mapStep f g h (stepBy rd wr c u)
+      unfolding stepBy stepped mapStep mapAnswer mapOutcome
+      stepBy-nat c u =
+          ap (λ d. stepped (outcome d (planBy rd′ wr′ (changed a b (map f) (map h) c) (mapUart f g u)) (mapUart f g u))) (date-nat c)
+          ∙ ap stepped (outcome-nat (mapReply f g h) f g (planBy-nat c u) u (dateOf c))
 
     -- a placed call commutes with a change of bytes
     pub stepPlaced-nat : (c : Placed H W L) (u : Uart H W) → stepPlaced (mapPlaced f g h c) (mapUart f g u) ≡ mapStep f g h (stepPlaced c u)

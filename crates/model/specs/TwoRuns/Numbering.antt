@@ -15,9 +15,12 @@ use Rattle.model.specs.Laws.Choose.{choose-true, choose-false}
 use Rattle.model.specs.Refuses.FifoPlace.{after-first}
 use Rattle.model.specs.Call.{Call, Written, Request}
 use Rattle.model.specs.TwoRuns.Placed.{Put, Placed, changed, putAt, placed}
-use Rattle.model.specs.TwoRuns.Alike.{Each, Alike, same, hostBytes, fifoWord, lentToTakeTx, lentToTakeWritten, hostOf, writesOf}
-use Rattle.model.specs.TwoRuns.Alike.{fifoByte, hostGiven, fifoWritten, itself, forget}
+use Rattle.model.specs.TwoRuns.Alike.{Each, Alike, same, hostBytes, fifoWord, lentToTakeTx, lentToTakeWritten, given, hostOf}
+use Rattle.model.specs.TwoRuns.Alike.{fifoBytesOf, itself, forget}
 use Rattle.model.specs.TwoRuns.NaturalCalls.{mapPut, mapPlaced}
+
+abbrev pub writesOf : {R X H L : Type 0} → Call R X H L → List X
+writesOf c = given c .1
 
 -- ---- laws of a call with other parts
 
@@ -27,7 +30,7 @@ module _ {R X X′ X″ H H′ H″ L L′ L″ : Type 0} (x : X → X′) (h : 
   pub changed-twice : (c : Call R X H L) → ((a : X) → writesOf c ≡ a ∷ [] → x′ (x a) ≡ x″ a) → h′ (h (hostOf c)) ≡ h″ (hostOf c)
       → ((bs : List L) → l′ (l bs) ≡ l″ bs)
       → changed itself x′ h′ l′ (changed itself x h l c) ≡ changed itself x″ h″ l″ c
-  unfolding changed writesOf hostOf
+  unfolding changed given
   changed-twice (Call.read now a) p q s = refl
   changed-twice (Call.write now a) p q s = ap (Call.write now) (p a refl)
   changed-twice (Call.receive now at bs) p q s = ap (Call.receive now at) q
@@ -43,7 +46,7 @@ module _ {R X X′ X″ H H′ H″ L L′ L″ : Type 0} (x : X → X′) (h : 
 
 module _ {R R′ X X′ H L : Type 0} (r : R → R′) (x : X → X′) where
   host-kept : (c : Call R X H L) → hostOf (changed r x itself itself c) ≡ hostOf c
-  unfolding changed hostOf
+  unfolding changed given
   host-kept (Call.read now a) = refl
   host-kept (Call.write now a) = refl
   host-kept (Call.receive now at bs) = refl
@@ -58,7 +61,7 @@ module _ {R R′ X X′ H L : Type 0} (r : R → R′) (x : X → X′) where
   host-kept Call.hostPending = refl
 
   writes-changed : (c : Call R X H L) → writesOf (changed r x itself itself c) ≡ map x (writesOf c)
-  unfolding changed writesOf
+  unfolding changed given
   writes-changed (Call.read now a) = refl
   writes-changed (Call.write now a) = refl
   writes-changed (Call.receive now at bs) = refl
@@ -117,12 +120,13 @@ pub host-of-placed : (offsets : List ℕ) (c : Request) → hostOf (placed offse
 unfolding placed
 host-of-placed offsets c = host-kept _ _ c
 
-pub host-placed : (offsets : List ℕ) (cs : List Request) → flatMap hostOf (map (placed offsets) cs) ≡ hostGiven cs
+pub host-placed : (offsets : List ℕ) (cs : List Request) → flatMap hostOf (map (placed offsets) cs) ≡ flatMap hostOf cs
 host-placed offsets cs = flatMap-map hostOf (placed offsets) hostOf (host-of-placed offsets) cs
 
 module _ (fifo : ℕ) (others : List ℕ) where
-  put-placed : (x : Written) → putOf (putAt (registerOf (fifo ∷ others) (x .offset)) (x .value)) ≡ fifoByte fifo x
-  unfolding fifoByte choose putOf putAt decide
+  put-placed : (x : Written) → putOf (putAt (registerOf (fifo ∷ others) (x .offset)) (x .value))
+      ≡ choose (eqb (x .offset) fifo) (x .value % 256 ∷ []) []
+  unfolding choose putOf putAt decide
   put-placed x = go (eqb (x .offset) fifo) refl
     where
       go : (b : Bool) → eqb (x .offset) fifo ≡ b → putOf (putAt (registerOf (fifo ∷ others) (x .offset)) (x .value))
@@ -130,11 +134,11 @@ module _ (fifo : ℕ) (others : List ℕ) where
       go true e = ap (λ p. putOf (putAt p (x .value))) (fifo-place fifo others (x .offset) e)
       go false e = ap putOf (choose-false _ _ (other-place fifo others (x .offset) e))
 
-  pub written-of-placed : (c : Request) → writtenOf (placed (fifo ∷ others) c) ≡ flatMap (fifoByte fifo) (writesOf c)
+  pub written-of-placed : (c : Request) → writtenOf (placed (fifo ∷ others) c) ≡ fifoBytesOf fifo c
   unfolding writtenOf placed
-  written-of-placed c = ap (flatMap putOf) (writes-changed _ _ c) ∙ flatMap-map putOf _ (fifoByte fifo) put-placed (writesOf c)
+  written-of-placed c = ap (flatMap putOf) (writes-changed _ _ c) ∙ flatMap-map putOf _ _ put-placed (writesOf c)
 
-  pub written-placed : (cs : List Request) → flatMap writtenOf (map (placed (fifo ∷ others)) cs) ≡ fifoWritten fifo cs
+  pub written-placed : (cs : List Request) → flatMap writtenOf (map (placed (fifo ∷ others)) cs) ≡ flatMap (fifoBytesOf fifo) cs
   written-placed cs = flatMap-map writtenOf (placed (fifo ∷ others)) _ written-of-placed cs
 
 -- ---- the bytes looked up by their numbers give the list back
@@ -204,7 +208,7 @@ module _ (fifo : ℕ) (others : List ℕ) where
     call-alike (lentToTakeWritten {lent = l} {lent′ = l′} e) = ap Call.takeWritten (forget-alike l l′ e)
 
   host-alike : {c d : Request} → Alike fifo c d → length (hostOf (placed (fifo ∷ others) c)) ≡ length (hostOf (placed (fifo ∷ others) d))
-  unfolding placed changed hostOf
+  unfolding placed changed given
   host-alike same = refl
   host-alike (hostBytes e) = e
   host-alike fifoWord = refl
@@ -213,7 +217,7 @@ module _ (fifo : ℕ) (others : List ℕ) where
 
   written-alike : {c d : Request} → Alike fifo c d
       → length (writtenOf (placed (fifo ∷ others) c)) ≡ length (writtenOf (placed (fifo ∷ others) d))
-  unfolding writtenOf placed changed writesOf flatMap putOf
+  unfolding writtenOf placed changed given flatMap putOf
   written-alike same = refl
   written-alike (hostBytes e) = refl
   written-alike (fifoWord {v = v} {v′ = v′}) =

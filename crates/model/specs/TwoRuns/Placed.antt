@@ -2,14 +2,15 @@
 -- what a caller's call does. Assumes nothing.
 use mathlib.Core.Path.{_≡_, refl, ap}
 use Prim.Native.Nat.{ℕ, _%_}
+use mathlib.Core.Option.{some}
 use mathlib.Core.List.{List}
 use Rattle.model.specs.Numbers.{choose}
 use Rattle.model.specs.State.{Uart}
 use Rattle.model.specs.Map.{Register, isFifo, registerOf}
 use Rattle.model.specs.Calls
-use Rattle.model.specs.Calls.{Outcome, readPlaced, writePlaced, send, writeAt}
-use Rattle.model.specs.Call.{Call, Request}
-use Rattle.model.specs.Run.{Step, answering, stepBy, writing, step}
+use Rattle.model.specs.Calls.{Plan, outcome, readPlaced, writePlaced, send, writeAt}
+use Rattle.model.specs.Call.{Call, dateOf, Request, writes}
+use Rattle.model.specs.Run.{Step, stepped, replying, planBy, stepBy, writing, plan, step}
 use Rattle.model.specs.Laws.Choose.{choose-nat}
 use Rattle.model.specs.declared.Write.{Write}
 
@@ -47,7 +48,7 @@ unfoldable pub placed : List ℕ → Request → Placed ℕ ℕ ℕ
 placed offsets c = changed (registerOf offsets) (λ x. putAt (registerOf offsets (x .offset)) (x .value)) (λ bs. bs) (λ lent. lent) c
 
 module _ {H W : Type 0} where
-  unfoldable pub putting : ℕ → Put W → Uart H W → Outcome Write H W
+  unfoldable pub putting : ℕ → Put W → Uart H W → Plan Write H W
   putting now (Put.byte b) u = send now b u
   putting now (Put.word p v) u = writePlaced now p v u
 
@@ -60,9 +61,10 @@ writeAt-placed now p v u = choose-nat (λ (x : Put ℕ). putting now x u) (isFif
 
 -- a caller's call does what the placed one does
 pub step-placed : (c : Request) (u : Uart ℕ ℕ) → step c u ≡ stepPlaced (placed (u .map .offsets) c) u
-unfolding step stepPlaced placed changed stepBy writing Calls.read Calls.write
+unfolding step plan stepPlaced placed changed stepBy planBy dateOf writing Calls.read Calls.write
 step-placed (Call.read now o) u = refl
-step-placed (Call.write now x) u = ap (answering _) (writeAt-placed now (registerOf (u .map .offsets) (x .offset)) (x .value) u)
+step-placed (Call.write now x) u =
+    ap (λ p. stepped (outcome (some now) (replying writes p) u)) (writeAt-placed now (registerOf (u .map .offsets) (x .offset)) (x .value) u)
 step-placed (Call.receive now at bs) u = refl
 step-placed (Call.wake now) u = refl
 step-placed (Call.reset now) u = refl

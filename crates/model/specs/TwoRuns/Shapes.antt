@@ -6,109 +6,136 @@ use mathlib.Core.Bool.{Bool, true, false, decide}
 use mathlib.Core.Option.{Option, none, some}
 use mathlib.Core.List.{List, [], _∷_, map}
 use lib.Dec.{eqb}
-use lib.ListN.{length, length-map}
-use lib.Seq.{take-at}
+use borrow.Author.Tests.{eqb-true, eqb-false}
 use Rattle.model.specs.State.{Uart, lineOf}
-use Rattle.model.specs.Replies.{refused, notices, report}
+use Rattle.model.specs.Replies.{ReadOf, byte, refused, Take, report}
 use Rattle.model.specs.Map.{Register, sameRegister, registerOf}
-use Rattle.model.specs.Registers.{looks, pop, readRegister, readLooking, readAt}
+use Rattle.model.specs.Registers.{sourceNotes, looks, pop, readRegister, readLooking, readAt}
 use Rattle.model.specs.Tests.{refuseDate}
-use Rattle.model.specs.Calls.{refusing, unless, afterSettling, settleAt, readWork, readPlaced}
-use Rattle.model.specs.Call.{Call, Request, reads}
-use Rattle.model.specs.Run.{answering, stepBy, runBy}
+use Rattle.model.specs.Calls.{Plan, refusing, unless, afterSettling, carried, outcome, settleAt, readPlaced}
+use Rattle.model.specs.Call.{Call, dateOf, Request, Reply, reads, writes, does, takes, left, pends}
+use Rattle.model.specs.Run.{Step, stepped, replying, planBy, stepBy, runBy}
+use Rattle.model.specs.Laws.Plans.{answering, replied}
 use Rattle.model.specs.Ends.Passes.{apart}
 use Rattle.model.specs.TwoRuns.Placed.{changed, placed, stepPlaced}
 use Rattle.model.specs.TwoRuns.Alike.{Each}
 use Rattle.model.specs.TwoRuns.Numbering.{other-place, fifo-place, numbered, number}
-use Rattle.model.specs.TwoRuns.Agree.{byteRead, bytesRead, bytesSent, readsFifo, noted, mistimed, noticesOf, Shape}
+use Rattle.model.specs.TwoRuns.Numbered.{NotFifo, Shape}
 use Rattle.model.specs.declared.Refusal.{Refusal}
+use Rattle.model.specs.declared.Report.{Report}
 use Rattle.model.specs.declared.Source.{Source}
 use Rattle.model.specs.declared.Unsupported.{Unsupported}
-
--- a report notes what it is given
-noted-report : (passes overflows : ℕ) (ns : List Unsupported) (u : Uart ℕ ℕ) → noted (report passes overflows ns u) ≡ noticesOf ns
-unfolding noted report notices noticesOf
-noted-report passes overflows ns u = take-at (map (λ n. record { what = n }) ns) _ (length ns) (length-map ns (λ n. record { what = n }))
+use Rattle.model.specs.declared.Unsupported.the-variants.{UartReceiveClock}
 
 -- ---- a read of FIFO
 
-module _ (fifo : ℕ) (c : Request) (e : readsFifo fifo c ≡ true) where
+module _ (fifo now : ℕ) where
   pop-shape : (passes overflows : ℕ) (s : Source) (bs : List ℕ) (u : Uart ℕ ℕ)
-      → Shape fifo c (record {
-        reply = reads (pop (mistimed s) bs u .reply);
-        report = report passes overflows (pop (mistimed s) bs u .notes) (pop (mistimed s) bs u .state);
-      })
-  unfolding pop
-  pop-shape passes overflows s [] u = Shape.fifoEmpty s e (noted-report passes overflows _ _)
-  pop-shape passes overflows s (b ∷ bs) u = Shape.fifoByte s e (noted-report passes overflows _ _)
+      → let a = pop (sourceNotes UartReceiveClock s) bs u in
+      Shape fifo (Call.read now fifo) (record { reply = reads (a .reply); report = report passes overflows (a .notes) (a .state) })
+  unfolding pop report
+  pop-shape passes overflows s [] u = Shape.fifoEmpty s (refl, refl)
+  pop-shape passes overflows s (b ∷ bs) u = Shape.fifoByte s (refl, refl)
 
-  fifo-shape : (now : ℕ) (u : Uart ℕ ℕ) → Shape fifo c (stepPlaced (Call.read now Register.fifo) u .answer)
-  unfolding stepPlaced stepBy answering readPlaced unless refusing readWork afterSettling readAt looks decide readLooking readRegister
-      mistimed
-  fifo-shape now u = go (refuseDate now (u .control) none)
+  fifo-shape : (u : Uart ℕ ℕ) → Shape fifo (Call.read now fifo) (stepPlaced (Call.read now Register.fifo) u .answer)
+  unfolding stepPlaced stepBy planBy dateOf stepped outcome carried replying readPlaced unless refusing afterSettling readAt looks decide
+      readLooking readRegister
+  fifo-shape u = go (refuseDate now (u .control) none)
     where
-      go : (o : Option Refusal) → Shape fifo c (record {
-        reply = reads (unless o refused (readWork now Register.fifo) u .reply);
-        report = unless o refused (readWork now Register.fifo) u .report;
+      go : (o : Option Refusal) → Shape fifo (Call.read now fifo) (record {
+        reply = unless o (λ r. reads (refused r)) (carried (some now) (replying reads (readPlaced now Register.fifo u))) u .reply;
+        report = unless o (λ r. reads (refused r)) (carried (some now) (replying {L = Unit {0}} reads (readPlaced now Register.fifo u))) u
+            .report;
       })
-      go (some r) = Shape.fifoRefused e
+      go (some r) = Shape.fifoRefused
       go none = pop-shape _ _ (lineOf (settleAt now u .state) .«rx_mistimed») (settleAt now u .state .rx) _
 
 -- ---- a read of another register
 
-abbrev NoByte : Register → Type 0
-NoByte k = (ns : List Unsupported) (u : Uart ℕ ℕ) → byteRead (readRegister ns k u .reply) ≡ []
+abbrev NoByte : ReadOf ℕ → Type 0
+NoByte r = (b : ℕ) → ¬ (r ≡ byte b)
+
+abbrev NoneAt : Register → Type 0
+NoneAt k = (ns : List Unsupported) (u : Uart ℕ ℕ) → NoByte (readRegister ns k u .reply)
 
 -- only FIFO gives a byte
-register-noByte : (k : Register) → sameRegister k Register.fifo ≡ false → NoByte k
-unfolding readRegister byteRead decide
+register-noByte : (k : Register) → sameRegister k Register.fifo ≡ false → NoneAt k
+unfolding readRegister decide
 register-noByte Register.fifo e ns u = apart (cc)
-register-noByte Register.intClr e ns u = refl
-register-noByte Register.unknown e ns u = refl
-register-noByte (Register.shown s) e ns u = refl
-register-noByte (Register.stored x) e ns u = refl
+register-noByte Register.intClr e ns u = λ b f. apart (cc)
+register-noByte Register.unknown e ns u = λ b f. apart (cc)
+register-noByte (Register.shown s) e ns u = λ b f. apart (cc)
+register-noByte (Register.stored x) e ns u = λ b f. apart (cc)
 
-looking-noByte : (k : Register) → NoByte k → (b : Bool) (u : Uart ℕ ℕ) → byteRead (readLooking b k u .reply) ≡ []
+looking-noByte : (k : Register) → NoneAt k → (b : Bool) (u : Uart ℕ ℕ) → NoByte (readLooking b k u .reply)
 unfolding readLooking
 looking-noByte k n true u = n _ _
 looking-noByte k n false u = n _ _
 
-placed-noByte : (p : Register) → NoByte p → (now : ℕ) (u : Uart ℕ ℕ) → byteRead (readPlaced now p u .reply) ≡ []
-unfolding readPlaced unless refusing readWork afterSettling readAt byteRead
+placed-noByte : (p : Register) → NoneAt p → (now : ℕ) (u : Uart ℕ ℕ) → NoByte (outcome (some now) (readPlaced now p u) u .reply)
+unfolding outcome carried readPlaced unless refusing afterSettling readAt
 placed-noByte p n now u = go (refuseDate now (u .control) none)
   where
-    go : (o : Option Refusal) → byteRead (unless o refused (readWork now p) u .reply) ≡ []
-    go (some r) = refl
+    go : (o : Option Refusal) → NoByte (unless o refused (carried (some now) (readPlaced now p u)) u .reply)
+    go (some r) = λ b f. apart (cc)
     go none = looking-noByte p n _ (settleAt now u .state)
+
+reads-noByte : (r : ReadOf ℕ) → NoByte r → (b : ℕ) → ¬ (_≡_ {A = Reply ℕ ℕ (Unit {0})} (reads r) (reads (byte b)))
+reads-noByte r n b f = n b (cc)
 
 -- ---- every call
 
 module _ (fifo : ℕ) (others : List ℕ) where
-  other-noByte : (o : ℕ) → eqb o fifo ≡ false → NoByte ((registerOf (fifo ∷ others) o))
+  -- the shape of an answer, from what the call itself gives
+  shaped : {R : Type 0} (as-reply : R → Reply ℕ ℕ (Unit {0})) (c : Request) (d : Option ℕ) (p : Plan R ℕ ℕ) (u : Uart ℕ ℕ)
+      → Shape fifo c (answering as-reply (outcome d p u) .answer) → Shape fifo c (stepped (outcome d (replying as-reply p) u) .answer)
+  shaped as-reply c d p u a = subst (λ (s : Step ℕ ℕ (Unit {0})). Shape fifo c (s .answer)) (sym (replied as-reply p u d)) a
+
+  other-noByte : (o : ℕ) → eqb o fifo ≡ false → NoneAt (registerOf (fifo ∷ others) o)
   other-noByte o e = register-noByte _ (other-place fifo others o e)
+
+  not-fifo : (now o : ℕ) → eqb o fifo ≡ false → NotFifo fifo (Call.read now o)
+  not-fifo now o e n f = eqb-false o fifo e (cc)
 
   read-shape : (now o : ℕ) (u : Uart ℕ ℕ) (b : Bool) → eqb o fifo ≡ b
       → Shape fifo (Call.read now o) (stepPlaced (Call.read now (registerOf (fifo ∷ others) o)) u .answer)
-  unfolding readsFifo stepPlaced stepBy answering bytesRead bytesSent
+  unfolding stepPlaced stepBy planBy dateOf answering
   read-shape now o u true e =
       subst (λ p. Shape fifo (Call.read now o) (stepPlaced (Call.read now p) u .answer)) (sym (fifo-place fifo others o e))
-      (fifo-shape fifo (Call.read now o) e now u)
-  read-shape now o u false e = Shape.noByte e (placed-noByte _ (other-noByte o e) now u) refl
+      (subst (λ i. Shape fifo (Call.read now i) (stepPlaced (Call.read now Register.fifo) u .answer)) (sym (eqb-true o fifo e))
+      (fifo-shape fifo now u))
+  read-shape now o u false e =
+      shaped reads _ _ _ u
+      (Shape.noByte (not-fifo now o e) (reads-noByte _ (placed-noByte _ (other-noByte o e) now u)) (λ t f. apart (cc)))
+
+  -- the reply of a call that neither reads nor takes
+  no-byte : (c : Request) (x : Reply ℕ ℕ (Unit {0})) {r : Report} → NotFifo fifo c → ((b : ℕ) → ¬ (x ≡ reads (byte b)))
+      → ((t : Take ℕ (Unit {0})) → ¬ (x ≡ takes t)) → Shape fifo c (record { reply = x; report = r })
+  no-byte c x e p q = Shape.noByte e p q
 
   step-shape : (h w : ℕ) (c : Request) (u : Uart ℕ ℕ) → Shape fifo c (stepPlaced (numbered h w (placed (fifo ∷ others) c)) u .answer)
-  unfolding numbered placed changed readsFifo stepPlaced stepBy answering bytesRead bytesSent
+  unfolding numbered placed changed stepPlaced stepBy planBy dateOf answering
   step-shape h w (Call.read now o) u = read-shape now o u (eqb o fifo) refl
-  step-shape h w (Call.write now x) u = Shape.noByte refl refl refl
-  step-shape h w (Call.receive now at bs) u = Shape.noByte refl refl refl
-  step-shape h w (Call.wake now) u = Shape.noByte refl refl refl
-  step-shape h w (Call.reset now) u = Shape.noByte refl refl refl
-  step-shape h w (Call.powerDown now) u = Shape.noByte refl refl refl
-  step-shape h w (Call.watch now b) u = Shape.noByte refl refl refl
-  step-shape h w (Call.clockChange now p) u = Shape.noByte refl refl refl
-  step-shape h w (Call.takeTx now lent) u = Shape.handedOut refl
-  step-shape h w (Call.takeWritten lent) u = Shape.handedOut refl
-  step-shape h w Call.hasLeft u = Shape.noByte refl refl refl
-  step-shape h w Call.hostPending u = Shape.noByte refl refl refl
+  step-shape h w (Call.write now x) u =
+      shaped writes _ _ _ u (no-byte (Call.write now x) (writes _) (λ n e. apart (cc)) (λ b e. apart (cc)) (λ t e. apart (cc)))
+  step-shape h w (Call.receive now at bs) u =
+      shaped does _ _ _ u (no-byte (Call.receive now at bs) (does _) (λ n e. apart (cc)) (λ b e. apart (cc)) (λ t e. apart (cc)))
+  step-shape h w (Call.wake now) u =
+      shaped does _ _ _ u (no-byte (Call.wake now) (does _) (λ n e. apart (cc)) (λ b e. apart (cc)) (λ t e. apart (cc)))
+  step-shape h w (Call.reset now) u =
+      shaped does _ _ _ u (no-byte (Call.reset now) (does _) (λ n e. apart (cc)) (λ b e. apart (cc)) (λ t e. apart (cc)))
+  step-shape h w (Call.powerDown now) u =
+      shaped does _ _ _ u (no-byte (Call.powerDown now) (does _) (λ n e. apart (cc)) (λ b e. apart (cc)) (λ t e. apart (cc)))
+  step-shape h w (Call.watch now b) u =
+      shaped does _ _ _ u (no-byte (Call.watch now b) (does _) (λ n e. apart (cc)) (λ b e. apart (cc)) (λ t e. apart (cc)))
+  step-shape h w (Call.clockChange now p) u =
+      shaped does _ _ _ u (no-byte (Call.clockChange now p) (does _) (λ n e. apart (cc)) (λ b e. apart (cc)) (λ t e. apart (cc)))
+  step-shape h w (Call.takeTx now lent) u = shaped takes _ _ _ u (Shape.handedOut {c = Call.takeTx now lent} (λ n e. apart (cc)))
+  step-shape h w (Call.takeWritten lent) u = shaped takes _ _ _ u (Shape.handedOut {c = Call.takeWritten lent} (λ n e. apart (cc)))
+  step-shape h w Call.hasLeft u =
+      shaped left _ _ _ u (no-byte Call.hasLeft (left _) (λ n e. apart (cc)) (λ b e. apart (cc)) (λ t e. apart (cc)))
+  step-shape h w Call.hostPending u =
+      shaped pends _ _ _ u (no-byte Call.hostPending (pends _) (λ n e. apart (cc)) (λ b e. apart (cc)) (λ t e. apart (cc)))
 
   -- every answer of a numbered list has its call's shape
   pub run-shape : (h w : ℕ) (cs : List Request) (u : Uart ℕ ℕ)

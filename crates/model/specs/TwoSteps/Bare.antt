@@ -9,7 +9,7 @@ use lib.ListN.{length}
 use Rattle.model.specs.Numbers.{choose}
 use Rattle.model.specs.State.{Run, OnTheLine, Uart, withLineOf, lineOf}
 use Rattle.model.specs.Events.{Event, departure, timeout, landing, nothing}
-use Rattle.model.specs.Line.{raiseIf, noteSource, afterDate, timeoutAt, timeOut, start, fate}
+use Rattle.model.specs.Line.{afterDate, timeoutAt, start, fate}
 use Rattle.model.specs.Settle.{Pass, nothingDue, timedOut, landed, inFrame, begun, beforeStart, idle, lineFree, passOn, pass}
 use Rattle.model.specs.Laws.Choose.{choose-ind, choose-true, choose-false, choose-nat}
 use Rattle.model.specs.Ends.Passes.{apart, Takes, pass-law, timeOut-free, land-free}

@@ -93,7 +93,7 @@ looked-within = record {
 
 pub looked-exception : Exception looked
 unfolding settingsOf settings
-looked-exception = record { byte = _; onLine = refl; unheard = refl; since = 0; opened = refl; clock = refl }
+looked-exception = (_, refl, refl, 0, refl, refl)
 
 -- RXFIFO_TOUT, bit 8, is raised
 one-step : lineOf (settle 40 looked .state) .«int_raw» ≡ 259

@@ -13,20 +13,17 @@ use Rattle.model.specs.declared.Date.{Date}
 use Rattle.model.specs.declared.Date.the-variants.{None, At}
 
 -- a byte that is not heard is on the line, an idle line is open, and the receiver's clock is on
-pub record Exception {H W : Type 0} (u : Uart H W) : Type 0 where
-  pub byte : OnTheLine H
-  pub onLine : u .receiving ≡ some byte
-  pub unheard : byte .frame .heard ≡ false
-  pub since : ℕ
-  pub opened : lineOf u .«idle_since» ≡ At since
-  pub clock : settingsOf u .«rx_sclk_en» ≡ true
+abbrev pub Exception : {H W : Type 0} → Uart H W → Type 0
+Exception {H} u =
+    (l : OnTheLine H) × (u .receiving ≡ some l) × (l .frame .heard ≡ false)
+    × (since : ℕ) × (lineOf u .«idle_since» ≡ At since) × (settingsOf u .«rx_sclk_en» ≡ true)
 
 module _ {H W : Type 0} (u : Uart H W) (w : Within u) (n : ¬ Exception u) where
   -- with the clock on no idle line is open beside a byte on the line: a heard one closes it
   module _ (on : settingsOf u .«rx_sclk_en» ≡ true) (l : OnTheLine H) (e : u .receiving ≡ some l) where
     by-idle : l .frame .heard ≡ false → (d : Date) → lineOf u .«idle_since» ≡ d → lineOf u .«idle_since» ≡ None
     by-idle h None i = i
-    by-idle h (At t) i = absurd (n (record { byte = l; onLine = e; unheard = h; since = t; opened = i; clock = on }))
+    by-idle h (At t) i = absurd (n (l, e, h, t, i, on))
 
     by-heard : (t : Bool) → l .frame .heard ≡ t → lineOf u .«idle_since» ≡ None
     by-heard true h = w .idleLine (ap isHeard e ∙ h)

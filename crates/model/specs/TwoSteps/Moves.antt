@@ -5,36 +5,37 @@ use Prim.Native.Nat.{ℕ, _≤_}
 use mathlib.Core.Bool.{Bool, true, false, true≢false, false≢true}
 use mathlib.Core.List.{List, [], _∷_, _++_}
 use Rattle.model.specs.State.{Uart, lineOf}
-use Rattle.model.specs.Events.{Event, departure, timeout, landing, nothing, goesOn}
+use Rattle.model.specs.Events.{Event, departure, timeout, landing, nothing, goesOn, landingsIn}
 use Rattle.model.specs.Settle.{Pass, pass, passes}
 use Rattle.model.specs.Ends.Through.{Through, ends, goes, through}
-use Rattle.model.specs.TwoSteps.Among.{landingsIn}
 use Rattle.model.specs.TwoSteps.Later.{start-closed, Follows, pass-later}
 use Rattle.model.specs.TwoSteps.Bare.{bare, barePass, move, MovedTo, Moved, pass-moves, as-bare}
 use Rattle.model.specs.declared.Settings.{Settings}
+use Rattle.model.specs.declared.Fate.{Fate}
 
 module _ {H W : Type 0} (s : Settings) (date : ℕ) where
   -- a move after another, as long as a byte lands: what landed, and the state that the last one leaves
-  data Moves : Uart H W → List (Event H W) → Uart H W → Type 0 where
+  data Moves : Uart H W → List (ℕ × H × Fate) → Uart H W → Type 0 where
     stop : {u v : Uart H W} {e : Event H W} → move s date u ≡ record { event = e; state = v } → goesOn e ≡ false → Moves u [] v
-    next : {u v w : Uart H W} {e : Event H W} {es : List (Event H W)}
-        → move s date u ≡ record { event = e; state = v } → goesOn e ≡ true → Moves v es w → Moves u (e ∷ es) w
+    next : {u v w : Uart H W} {at : ℕ} {b : H} {f : Fate} {ls : List (ℕ × H × Fate)}
+        → move s date u ≡ record { event = landing at b f; state = v } → Moves v ls w → Moves u ((at, b, f) ∷ ls) w
 
   same-move : (u : Uart H W) {p q : Pass H W} → move s date u ≡ p → move s date u ≡ q → (p .event ≡ q .event) × (p .state ≡ q .state)
   same-move u e f = (ap (λ (p : Pass H W). p .event) (sym e ∙ f), ap (λ (p : Pass H W). p .state) (sym e ∙ f))
 
-  moves-one : {u v w : Uart H W} {es fs : List (Event H W)} → Moves u es v → Moves u fs w → (es ≡ fs) × (v ≡ w)
+  moves-one : {u v w : Uart H W} {ks ls : List (ℕ × H × Fate)} → Moves u ks v → Moves u ls w → (ks ≡ ls) × (v ≡ w)
+  unfolding goesOn landingsIn
   moves-one (stop {u = u} e g) (stop e′ g′) = (refl, same-move u e e′ .1)
-  moves-one (stop {u = u} e g) (next e′ g′ t) = absurd (false≢true (sym g ∙ ap goesOn (same-move u e e′ .0) ∙ g′))
-  moves-one (next {u = u} e g t) (stop e′ g′) = absurd (true≢false (sym g ∙ ap goesOn (same-move u e e′ .0) ∙ g′))
-  moves-one (next {u = u} e g t) (next {w = w} {es = fs} e′ g′ t′) =
+  moves-one (stop {u = u} e g) (next e′ t) = absurd (false≢true (sym g ∙ ap goesOn (same-move u e e′ .0)))
+  moves-one (next {u = u} e t) (stop e′ g′) = absurd (true≢false (ap goesOn (same-move u e e′ .0) ∙ g′))
+  moves-one (next {u = u} e t) (next {w = w} {ls = ls} e′ t′) =
       let (x, y) = same-move u e e′ in
-      let (p, q) = moves-one t (subst (λ v. Moves v fs w) (sym y) t′) in
-      (ap₂ _∷_ x p, q)
+      let (p, q) = moves-one t (subst (λ v. Moves v ls w) (sym y) t′) in
+      (ap₂ (λ (a : Event H W) l. landingsIn (a ∷ []) ++ l) x p, q)
 
-  resume : {u v w : Uart H W} {es : List (Event H W)} → move s date v ≡ move s date u → Moves v es w → Moves u es w
+  resume : {u v w : Uart H W} {ls : List (ℕ × H × Fate)} → move s date v ≡ move s date u → Moves v ls w → Moves u ls w
   resume h (stop e g) = stop (sym h ∙ e) g
-  resume h (next e g t) = next (sym h ∙ e) g t
+  resume h (next e t) = next (sym h ∙ e) t
 
   -- the passes are moves, timeouts aside
   ends-moves : (u v : Uart H W) (e : Event H W) → MovedTo s date u e v → goesOn e ≡ false → Moves u (landingsIn (e ∷ [])) (bare v)
@@ -49,7 +50,7 @@ module _ {H W : Type 0} (s : Settings) (date : ℕ) where
   unfolding landingsIn goesOn
   goes-moves u v (departure at b) es m g t = absurd (false≢true g)
   goes-moves u v (timeout at) es m g t = resume m t
-  goes-moves u v (landing at b f) es m g t = next m refl (resume refl t)
+  goes-moves u v (landing at b f) es m g t = next m (resume refl t)
   goes-moves u v (nothing at) es m g t = absurd (false≢true g)
 
   through-moves : {u v : Uart H W} {es : List (Event H W)} → Through s date u es v → Moves u (landingsIn es) (bare v)
@@ -78,9 +79,10 @@ module _ {H W : Type 0} (s : Settings) (a b : ℕ) (le : a ≤ b) where
       → Onward u (record { event = e; state = v }) go
   moved-later u m g = subst (Onward u _) g (subst (λ p. Onward u p (goesOn (p .event))) m (move-later u))
 
-  moves-on : {u v w : Uart H W} {es fs : List (Event H W)} → Moves s a u es v → Moves s b v fs w → Moves s b u (es ++ fs) w
+  moves-on : {u v w : Uart H W} {ks ls : List (ℕ × H × Fate)} → Moves s a u ks v → Moves s b v ls w → Moves s b u (ks ++ ls) w
+  unfolding goesOn
   moves-on (stop {u = u} e g) t = resume s b (moved-later u e g) t
-  moves-on (next {u = u} e g t) t′ = next (moved-later u e g) g (moves-on t t′)
+  moves-on (next {u = u} e t) t′ = next (moved-later u e refl) (moves-on t t′)
 
   -- from every state, what lands and what waits
   pub passes-bare : (u : Uart H W)

@@ -7,87 +7,75 @@
 use mathlib.Core.Path.{_≡_, sym, ap, ap₂, subst, _∙_}
 use Prim.Native.Nat.{ℕ, _+_, _≤_}
 use native.Mathlib.Omega.{arith}
-use mathlib.Core.List.{List, _++_}
+use mathlib.Core.List.{_++_}
 use Rattle.dates.specs.Dates.{subcycles}
 use Rattle.model.specs.State.{Uart, lineOf}
-use Rattle.model.specs.Events.{Event, overflowsIn}
+use Rattle.model.specs.Events.{landingsIn, overflowsIn}
 use Rattle.model.specs.Line.{raiseIf}
-use Rattle.model.specs.Settle.{depart, passes, assertLevels, drive, noLaterThan, settlingDate, levels, leveled}
+use Rattle.model.specs.Settle.{depart, departures, passes, assertLevels, drive, noLaterThan, settlingDate, levels, leveled}
 use Rattle.model.specs.Settle.{settingsOf, settleTo, settle}
 use Rattle.model.specs.Limits.{Within}
-use Rattle.model.specs.Laws.Events.{overflows-append}
+use Rattle.model.specs.Laws.Events.{landings-append, lostIn, overflows-append, overflows-land, departures-land}
 use Rattle.model.specs.Keeps.Kept.{settle-keeps}
-use Rattle.model.specs.TwoSteps.Among.{landingsIn, departuresIn, landings-append, departures-append, overflows-land}
-use Rattle.model.specs.TwoSteps.Among.{landings-settled, departures-settled}
 use Rattle.model.specs.TwoSteps.Departures.{departures-twice}
 use Rattle.model.specs.TwoSteps.Bare.{bare}
 use Rattle.model.specs.TwoSteps.Moves.{passes-bare}
 use Rattle.model.specs.TwoSteps.Exception.{Exception, passes-agree}
-use Rattle.model.specs.TwoSteps.Together.{between, settled-state, first-events, second-events}
+use Rattle.model.specs.TwoSteps.Together.{settled-state, first-events, second-departures, second-events}
 use Rattle.model.specs.TwoSteps.Differs.{looked, looked-within, looked-exception, looked-differs}
 use Rattle.model.specs.declared.Date.{Date}
 use Rattle.model.specs.declared.Date.the-variants.{None, At}
 
 -- the queues, what is in flight and sent, the byte on the line with its frame, and when the line is free
-pub record SameQueues {H W : Type 0} (u v : Uart H W) : Type 0 where
-  pub rx : u .rx ≡ v .rx
-  pub host : u .host ≡ v .host
-  pub hostRuns : u .hostRuns ≡ v .hostRuns
-  pub receiving : u .receiving ≡ v .receiving
-  pub lineFreeAt : lineOf u .«line_free_at» ≡ lineOf v .«line_free_at»
-  pub inFlight : u .inFlight ≡ v .inFlight
-  pub tx : u .tx ≡ v .tx
+abbrev SameQueues : {H W : Type 0} → Uart H W → Uart H W → Type 0
+SameQueues v w =
+    (v .rx ≡ w .rx) × (v .host ≡ w .host) × (v .hostRuns ≡ w .hostRuns) × (v .receiving ≡ w .receiving)
+    × (lineOf v .«line_free_at» ≡ lineOf w .«line_free_at») × (v .inFlight ≡ w .inFlight) × (v .tx ≡ w .tx)
 
 -- levels move none of these
 same-levels : {H W : Type 0} (u v : Uart H W) → bare u ≡ bare v → SameQueues (levels u) (levels v)
 unfolding levels assertLevels drive raiseIf
-same-levels u v e = record {
-  rx = ap (λ w. w .rx) e;
-  host = ap (λ w. w .host) e;
-  hostRuns = ap (λ w. w .hostRuns) e;
-  receiving = ap (λ w. w .receiving) e;
-  lineFreeAt = ap (λ w. lineOf w .«line_free_at») e;
-  inFlight = ap (λ w. w .inFlight) e;
-  tx = ap (λ w. w .tx) e;
-}
+same-levels u v e = (
+  ap (λ w. w .rx) e,
+  ap (λ w. w .host) e,
+  ap (λ w. w .hostRuns) e,
+  ap (λ w. w .receiving) e,
+  ap (λ w. lineOf w .«line_free_at») e,
+  ap (λ w. w .inFlight) e,
+  ap (λ w. w .tx) e,
+)
 
 -- ---- to the subcycle
 
 module _ {H W : Type 0} (a b : ℕ) (u : Uart H W) (le : a ≤ b) where
-  abbrev both : List (Event H W)
-  both = settleTo a u .events ++ settleTo b (settleTo a u .state) .events
-
   -- 1. landings: dates, bytes and fates, in order
-  pub settleTo-landings : landingsIn both ≡ landingsIn (settleTo b u .events)
+  pub settleTo-landings : landingsIn (settleTo a u .events ++ settleTo b (settleTo a u .state) .events)
+      ≡ landingsIn (settleTo b u .events)
   unfolding settleTo leveled
   settleTo-landings =
       landings-append (settleTo a u .events) (settleTo b (settleTo a u .state) .events)
       ∙ ap₂ (λ x y. x ++ y)
-      (ap landingsIn (first-events a b le u) ∙ landings-settled a u _)
-      (ap landingsIn (second-events a b le u) ∙ landings-settled b (depart a u) _)
+      (ap landingsIn (first-events a b le u) ∙ departures-land a u _)
+      (ap landingsIn (second-events a b le u) ∙ departures-land b (depart a u) _)
       ∙ passes-bare (settingsOf u) a b le (depart b u) .0
-      ∙ sym (landings-settled b u (passes (settingsOf u) b (depart b u) .events))
+      ∙ sym (departures-land b u (passes (settingsOf u) b (depart b u) .events))
 
   -- 1. departures: dates and bytes, in order
-  pub settleTo-departures : departuresIn both ≡ departuresIn (settleTo b u .events)
-  unfolding settleTo leveled
-  settleTo-departures =
-      departures-append (settleTo a u .events) (settleTo b (settleTo a u .state) .events)
-      ∙ ap₂ (λ x y. x ++ y)
-      (ap departuresIn (first-events a b le u) ∙ departures-settled a u (settingsOf u) a (depart b u))
-      (ap departuresIn (second-events a b le u) ∙ departures-settled b (depart a u) (settingsOf u) b (between a b le u))
-      ∙ departures-twice a b le u
-      ∙ sym (departures-settled b u (settingsOf u) b (depart b u))
+  pub settleTo-departures : departures a u ++ departures b (settleTo a u .state) ≡ departures b u
+  settleTo-departures = ap (λ es. departures a u ++ es) (second-departures a b le u) ∙ departures-twice a b le u
 
   -- 1. overflows add up
   pub settleTo-overflows : overflowsIn (settleTo a u .events) + overflowsIn (settleTo b (settleTo a u .state) .events)
       ≡ overflowsIn (settleTo b u .events)
   settleTo-overflows =
       sym (overflows-append (settleTo a u .events) (settleTo b (settleTo a u .state) .events))
-      ∙ sym (overflows-land both) ∙ ap overflowsIn settleTo-landings ∙ overflows-land (settleTo b u .events)
+      ∙ overflows-land (settleTo a u .events ++ settleTo b (settleTo a u .state) .events)
+      ∙ ap (lostIn W) settleTo-landings ∙ sym (overflows-land (settleTo b u .events))
 
   -- 2. from every state, the exception too
-  pub settleTo-queues : SameQueues (settleTo b (settleTo a u .state) .state) (settleTo b u .state)
+  pub settleTo-queues : let v : Uart H W = settleTo b (settleTo a u .state) .state in let w : Uart H W = settleTo b u .state in
+      (v .rx ≡ w .rx) × (v .host ≡ w .host) × (v .hostRuns ≡ w .hostRuns) × (v .receiving ≡ w .receiving)
+      × (lineOf v .«line_free_at» ≡ lineOf w .«line_free_at») × (v .inFlight ≡ w .inFlight) × (v .tx ≡ w .tx)
   unfolding settleTo leveled
   settleTo-queues =
       subst (λ v. SameQueues v (settleTo b u .state)) (sym (settled-state a b le u))
@@ -123,9 +111,13 @@ module _ {H W : Type 0} (m n : ℕ) (u : Uart H W) (le : m ≤ n) where
   unfolding settle
   settle-landings = ap (λ t. landingsIn (settle m u .events ++ t .events)) again ∙ settleTo-landings (dateOf m) (dateOf n) u dates
 
-  pub settle-departures : departuresIn (settle m u .events ++ settle n (settle m u .state) .events) ≡ departuresIn (settle n u .events)
-  unfolding settle
-  settle-departures = ap (λ t. departuresIn (settle m u .events ++ t .events)) again ∙ settleTo-departures (dateOf m) (dateOf n) u dates
+  pub settle-departures : departures (settlingDate m (u .control)) u
+      ++ departures (settlingDate n (settle m u .state .control)) (settle m u .state)
+      ≡ departures (settlingDate n (u .control)) u
+  unfolding settle settlingDate
+  settle-departures =
+      ap (λ d. departures (dateOf m) u ++ departures (noLaterThan d (subcycles n)) (settle m u .state)) (settle-keeps m u .poweredDownAt)
+      ∙ settleTo-departures (dateOf m) (dateOf n) u dates
 
   pub settle-overflows : overflowsIn (settle m u .events) + overflowsIn (settle n (settle m u .state) .events)
       ≡ overflowsIn (settle n u .events)
@@ -133,7 +125,9 @@ module _ {H W : Type 0} (m n : ℕ) (u : Uart H W) (le : m ≤ n) where
   settle-overflows =
       ap (λ t. overflowsIn (settle m u .events) + overflowsIn (t .events)) again ∙ settleTo-overflows (dateOf m) (dateOf n) u dates
 
-  pub settle-queues : SameQueues (settle n (settle m u .state) .state) (settle n u .state)
+  pub settle-queues : let v : Uart H W = settle n (settle m u .state) .state in let w : Uart H W = settle n u .state in
+      (v .rx ≡ w .rx) × (v .host ≡ w .host) × (v .hostRuns ≡ w .hostRuns) × (v .receiving ≡ w .receiving)
+      × (lineOf v .«line_free_at» ≡ lineOf w .«line_free_at») × (v .inFlight ≡ w .inFlight) × (v .tx ≡ w .tx)
   unfolding settle
   settle-queues =
       subst (λ t. SameQueues (t .state) (settle n u .state)) (sym again) (settleTo-queues (dateOf m) (dateOf n) u dates)
@@ -142,6 +136,6 @@ module _ {H W : Type 0} (m n : ℕ) (u : Uart H W) (le : m ≤ n) where
   unfolding settle
   settle-unexcepted w x = ap (λ t. t .state) again ∙ settleTo-unexcepted (dateOf m) (dateOf n) u dates w x
 
--- 4. a state within the limits, in the exception, that a settling at cycle 28 changes for the one at 40
-pub excepted-differs : Within looked × Exception looked × (¬ (settle 40 (settle 28 looked .state) .state ≡ settle 40 looked .state))
-excepted-differs = (looked-within, looked-exception, looked-differs)
+-- 4. in some state within the limits, in the exception, a settling at cycle 28 changes the one at 40
+pub excepted-differs : (u : Uart ℕ ℕ) × Within u × Exception u × (¬ (settle 40 (settle 28 u .state) .state ≡ settle 40 u .state))
+excepted-differs = (looked, looked-within, looked-exception, looked-differs)

@@ -4,9 +4,10 @@ use mathlib.Core.Path.{_≡_, refl, sym, ap, ap₂, _∙_}
 use Prim.Native.Nat.{ℕ, _^_, _≤_}
 use native.Mathlib.Omega.{arith}
 use mathlib.Core.Bool.{true}
-use mathlib.Core.List.{[], _++_}
+use mathlib.Core.List.{[], _++_, map}
 use lib.ListN.{length, take, length-drop, length-append}
 use Rattle.model.specs.State.{Uart, withIntRaw, withControl, withLine, withLevel, lineOf}
+use Rattle.model.specs.Events.{departure}
 use Rattle.model.specs.Timing.{settings}
 use Rattle.model.specs.Line.{TX-DONE, raiseIf}
 use Rattle.model.specs.Settle.{gone, txDone, leave, depart, departures, pass, passes}
@@ -16,7 +17,6 @@ use Rattle.model.specs.Laws.Cases.{passes-on}
 use Rattle.model.specs.Ends.Passes.{Kept}
 use Rattle.model.specs.Ends.Through.{through, through-kept}
 use Rattle.model.specs.ShutsOut.Landings.{pass-grows}
-use Rattle.model.specs.TwoSteps.Among.{asDepartures}
 use Rattle.model.specs.TwoSteps.Dressed.{dressed, passes-dressed}
 use Rattle.model.specs.TwoSteps.Departures.{departing, depart-dressed, depart-twice}
 use Rattle.model.specs.TwoSteps.Levels.{leveling, levels-dressed, levels-again}
@@ -103,9 +103,9 @@ module _ {H W : Type 0} (a b : ℕ) (le : a ≤ b) (u : Uart H W) where
   unfolding settleTo leveled
   settled-state = ap (λ t. levels (t .state)) second-passes ∙ second-levels ∙ ap (λ v. levels (passes s b v .state)) first-left
 
-  second-departures : departures b (levels first) ≡ departures b (depart a u)
-  unfolding departures levels
-  second-departures = ap (λ fl. asDepartures (take (gone b fl) fl)) (first-kept .inFlight)
+  pub second-departures : departures b (settleTo a u .state) ≡ departures b (depart a u)
+  unfolding departures levels settleTo leveled
+  second-departures = ap (λ fl. map (λ s. departure (s .goneAt) (s .byte)) (take (gone b fl) fl)) (first-kept .inFlight)
 
   pub second-events : settleTo b (settleTo a u .state) .events ≡ departures b (depart a u) ++ passes s b between .events
   unfolding settleTo leveled

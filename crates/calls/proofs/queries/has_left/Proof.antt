@@ -1,10 +1,13 @@
 -- `queries::has_left` meets its contract. Assumes nothing.
-use Rattle.calls.specs.Undated.{has-left-of}
+use mathlib.Core.Path.{ap}
+use Rattle.model.specs.Replies.{leftNumber}
+use Rattle.calls.specs.Undated.{leftReply, has-left-of}
 use Rattle.calls.proofs.queries.has_left.Statement.{statement}
 use Rattle.calls.proofs.queries.has_left.Tie as tie
 
 returns : tie.Need-returns
-returns c = λ a. has-left-of (c .before .args .core) a
+unfolding leftNumber
+returns c = λ a. ap leftReply (has-left-of (c .before .args .core) a)
 
 pub has-left-spec : {M : Type 1} → statement M
 has-left-spec = tie.close (tie.spec returns)

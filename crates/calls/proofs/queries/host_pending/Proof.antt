@@ -1,14 +1,14 @@
--- `queries::host_pending` meets its contract, by cases on the line. Assumes nothing.
-use Rattle.calls.specs.Undated.{pending-free, pending-on}
+-- `queries::host_pending` meets its contract. Assumes nothing.
+use mathlib.Core.Path.{ap}
+use Rattle.model.specs.Replies.{pendingNumber}
+use Rattle.calls.specs.Undated.{pendingReply}
 use borrow.Author.Needs.{needs}
 use Rattle.calls.proofs.queries.host_pending.Statement.{statement}
 use Rattle.calls.proofs.queries.host_pending.Tie as tie
 
 returns : tie.Need-returns
-returns c = λ a. pending-free (c .before .before .args .core) a (c .enum-told .given .1)
-
-returns-2 : tie.Need-returns-2
-returns-2 c = λ a. pending-on (c .before .before .before .args .core) a _ (c .before .enum-told2 .given .1)
+unfolding pendingNumber
+returns c = λ a. ap pendingReply (c .pending .ensures a)
 
 pub host-pending-spec : {M : Type 1} → statement M
-host-pending-spec = tie.close (tie.spec (λ c. search needs) (λ c. search needs) (λ c. search needs) returns returns-2)
+host-pending-spec = tie.close (tie.spec (λ c κs. search needs) returns)

@@ -1,12 +1,15 @@
 -- `watch::watch` meets its contract: refused as the tests say, or armed. Assumes nothing.
 use mathlib.Core.Path.{refl}
+use Rattle.model.specs.State.{withWatched, withControl}
+use Rattle.model.specs.Arm.{arm}
 use Rattle.model.specs.Replies.{doneNumber}
-use Rattle.model.specs.declared.Done.{Done}
-use Rattle.calls.specs.Answers.{carried, turned-away, passes, refuses, unsettled-works}
-use Rattle.model.specs.Calls.{watchWork, unsettled}
+use Rattle.model.specs.Calls.{dated, afterSettling, carried, quiet, watch}
 use Rattle.model.specs.Keeps.EachCall.{watch-within}
 use Rattle.replies.specs.Calls.{watch-tests}
-use Rattle.calls.specs.Changes.{shape-of}
+use Rattle.device.specs.Holds.{abs}
+use Rattle.calls.specs.Answers.{passes, refuses, unsettled-works}
+use Rattle.calls.specs.Changes.{ready, shape-of}
+use Rattle.calls.specs.Done.{done-carried, done-refused}
 use Rattle.calls.proofs.watch.watch.Statement.{statement}
 use Rattle.calls.proofs.watch.watch.Tie as tie
 
@@ -27,30 +30,31 @@ with-watched-requires c κs = tt
 
 arm-requires : tie.Need-arm-requires
 arm-requires c κs =
-    let p = c .before .before .before .before .before .pre in
-    rw (c .with-watched .ensures) (record { flight = p .0 .flight; slots = p .0 .slots; period = p .0 .period }, p .1, p .2)
+    let ok = c .before .before .before .before .before .pre in
+    rw (c .with-watched .ensures) (ready _ _ (shape-of _ _ _ (ok .shape)) (ok .within .periodHigh))
 
 done-requires : tie.Need-done-requires
 done-requires c κs = tt
 
 returns : tie.Need-returns
-returns c = λ a eg ed ok.
-    let o = c .before .before .before .before .before .before .args in
-    rw (c .refuse .ensures)
-    (turned-away (λ x. x) doneNumber Done.Refused (watchWork (o .cycle) (o .on)) _ a (watch-tests (o .cycle) _ (o .on))
-    (refuses (c .before .before .before .before .date-refusal .ensures) (c .before .before .tests .given .1)) ok)
+returns c =
+    let start = c .before .before .before .before .before .before in
+    let o = start .args in
+    done-refused (o .cycle) (watch (o .cycle) (o .on)) (start .pre) (watch-tests (o .cycle) _ (o .on))
+    (refuses (c .before .before .before .before .date-refusal .ensures) (c .before .before .tests .given .1)) (c .refuse .ensures)
 
 returns-2 : tie.Need-returns-2
-unfolding watchWork unsettled doneNumber
-returns-2 c = λ a eg ed ok.
-    let o = c .before .before .before .before .before .before .before .args in
+unfolding carried watch dated afterSettling quiet doneNumber
+returns-2 c =
+    let start = c .before .before .before .before .before .before .before in
+    let o = start .args in
     let armed = rw (c .before .before .with-watched .ensures) at (c .before .arm .ensures) in
-    let works = armed a eg ed (shape-of _ a _ (ok .shape)) in
+    let works = armed _ refl refl (shape-of _ _ _ (start .pre .shape)) in
     rw (c .done .ensures)
-    (carried (λ x. x) doneNumber Done.Refused (watchWork (o .cycle) (o .on)) _ a (watch-tests (o .cycle) _ (o .on))
+    (done-carried (o .cycle) (watch (o .cycle) (o .on)) (start .pre) (watch-tests (o .cycle) _ (o .on))
     (passes (c .before .before .before .before .before .date-refusal .ensures) (c .before .before .before .enum-told .given .1))
-    (watch-within (o .cycle) (o .on) _ (ok .within)) refl
-    (unsettled-works (λ x. x) (works .shape) (works .same)))
+    (watch-within (o .cycle) (o .on) _ (start .pre .within)) refl
+    (unsettled-works (λ x. x) {u = dated (o .cycle) (abs (o .core) _)} (λ s. arm (withControl (withWatched (o .on) (s .control)) s)) (works .shape) (works .same)))
 
 pub watch-spec : {M : Type 1} → statement M
 watch-spec =

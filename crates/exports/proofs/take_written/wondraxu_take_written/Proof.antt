@@ -8,15 +8,15 @@ core-of-requires : tie.Need-core-of-requires
 core-of-requires c κs = tt
 
 take-written-requires : tie.Need-take-written-requires
-take-written-requires c κs = rw (c .before .core-of .ensures) (c .before .before .before .pre)
+take-written-requires c κs = ok-of _ (c .before .core-of .ensures) (c .before .before .before .pre)
 
 taken-answer-requires : tie.Need-taken-answer-requires
 taken-answer-requires c κs = tt
 
 returns : tie.Need-returns
-returns c = λ a g d ok.
-    let e = c .before .before .before .before .before .core-of .ensures in
-    plainly _ e (c .before .before .before .take-written .ensures a g d (ok-of _ e ok)) (c .taken-answer .ensures)
+returns c =
+    plainly _ (c .before .before .before .before .before .core-of .ensures)
+    (c .before .before .before .take-written .ensures) (c .taken-answer .ensures)
 
 pub wondraxu-take-written-spec : {M : Type 1} → statement M
 wondraxu-take-written-spec = tie.close (tie.spec core-of-requires take-written-requires taken-answer-requires (λ c. search needs) returns)

@@ -7,15 +7,13 @@ core-of-requires : tie.Need-core-of-requires
 core-of-requires c κs = tt
 
 watch-requires : tie.Need-watch-requires
-watch-requires c κs = rw (c .core-of .ensures) (c .before .pre)
+watch-requires c κs = ok-of _ (c .core-of .ensures) (c .before .pre)
 
 done-answer-requires : tie.Need-done-answer-requires
 done-answer-requires c κs = tt
 
 returns : tie.Need-returns
-returns c = λ a g d ok.
-    let e = c .before .before .core-of .ensures in
-    plainly _ e (c .before .watch .ensures a g d (ok-of _ e ok)) (c .done-answer .ensures)
+returns c = plainly _ (c .before .before .core-of .ensures) (c .before .watch .ensures) (c .done-answer .ensures)
 
 pub wondraxu-watch-spec : {M : Type 1} → statement M
 wondraxu-watch-spec = tie.close (tie.spec core-of-requires watch-requires done-answer-requires returns)

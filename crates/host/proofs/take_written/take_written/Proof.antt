@@ -10,7 +10,7 @@ use Rattle.replies.specs.Refusals.{takingWritten}
 use Rattle.replies.specs.Calls.{written-tests}
 use Rattle.calls.specs.Answers.{passes, refuses}
 use Rattle.host.specs.Takes.{take-carried, take-refused}
-use Rattle.host.specs.TakesWritten.{took-written}
+use Rattle.host.specs.TakesWritten.{sent-few, took-written}
 use borrow.Author.Needs.{needs}
 use Rattle.host.proofs.take_written.take_written.Statement.{statement}
 use Rattle.host.proofs.take_written.take_written.Tie as tie
@@ -30,12 +30,12 @@ enum-told c = c .match .keys2
 fill-requires : tie.Need-fill-requires
 unfolding takingWritten
 fill-requires c κs =
-    let p = c .before .before .before .before .before .pre in (
-      p .0,
-      p .1,
-      p .2,
-      p .3,
-      p .4,
+    let ok = c .before .before .before .before .before .pre in (
+      ok .shape .flight,
+      ok .shape .tx,
+      ok .shape .flightSlots,
+      ok .shape .txSlots,
+      sent-few _ _ ok,
       ltb-false _ _ (not-refused _ _ none
           (passes (c .before .before .before .written-refusal .ensures) (c .before .enum-told .given .1)) .0),
     )
@@ -50,21 +50,24 @@ undated-requires : tie.Need-undated-requires
 undated-requires c κs = tt
 
 returns : tie.Need-returns
-returns c = λ a ef et ok.
-    let o = c .before .before .before .before .before .before .args in
-    take-refused (o .out .now) (takeWrittenWork (o .out .now)) _ a (written-tests (o .out .now) _)
-    (refuses (c .before .before .before .before .written-refusal .ensures) (c .before .before .tests .given .1)) ok (c .refuse .ensures)
+returns c =
+    let start = c .before .before .before .before .before .before in
+    let o = start .args in
+    take-refused (o .out .now) (takeWrittenWork (o .out .now)) _ _ (written-tests (o .out .now) _)
+    (refuses (c .before .before .before .before .written-refusal .ensures) (c .before .before .tests .given .1)) (start .pre)
+    (c .refuse .ensures)
 
 returns-2 : tie.Need-returns-2
 unfolding takeWrittenWork undated filled takenNumber
-returns-2 c = λ a ef et ok.
-    let o = c .before .before .before .before .before .before .before .before .before .before .before .args in
+returns-2 c =
+    let start = c .before .before .before .before .before .before .before .before .before .before .before in
+    let o = start .args in
     rw (c .undated .ensures, c .before .before .new .ensures, c .before .new2 .ensures)
-    (take-carried (o .out .now) (takeWrittenWork (o .out .now)) _ a (written-tests (o .out .now) _)
+    (take-carried (o .out .now) (takeWrittenWork (o .out .now)) _ _ (written-tests (o .out .now) _)
     (passes (c .before .before .before .before .before .before .before .before .before .written-refusal .ensures)
     (c .before .before .before .before .before .before .before .enum-told .given .1))
-    (takeWritten-within (o .out .now) _ (ok .within)) refl
-    (took-written (o .out .now) (o .core) a (ok .shape) (rw (ef, et) (c .before .before .before .before .before .fill .ensures))))
+    (takeWritten-within (o .out .now) _ (start .pre .within)) refl
+    (took-written (o .out .now) (o .core) _ (start .pre .shape) (c .before .before .before .before .before .fill .ensures)))
 
 pub take-written-spec : {M : Type 1} → statement M
 take-written-spec =

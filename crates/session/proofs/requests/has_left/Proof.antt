@@ -7,7 +7,7 @@ use Rattle.session.proofs.requests.has_left.Tie as tie
 returns : tie.Need-returns
 returns c =
     let far = c .before .before .before .before .before in
-    left-gives _ (far .before .before .pre) (c .in-use .ensures) (c .before .before .before .before .has-left .ensures)
+    left-gives _ (far .before .before .pre) (c .in-use .ensures) (far .has-left .ensures)
     (c .before .before .before .put-has-left .ensures)
 
 pub has-left-spec : {M : Type 1} → statement M

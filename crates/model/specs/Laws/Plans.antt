@@ -1,0 +1,29 @@
+-- A plan whose own result is turned into a reply gives the same outcome, so turned. Assumes nothing.
+use mathlib.Core.Path.{_≡_, refl}
+use Prim.Native.Nat.{ℕ}
+use mathlib.Core.Option.{Option, none, some}
+use Rattle.model.specs.State.{Uart}
+use Rattle.model.specs.Calls.{Outcome, Plan, refusalBy, refusing, unless, undated, afterSettling, carried, outcome}
+use Rattle.model.specs.Call.{Reply}
+use Rattle.model.specs.Run.{Step, stepped, replying}
+use Rattle.model.specs.declared.Refusal.{Refusal}
+
+module _ {R H W L : Type 0} (as-reply : R → Reply H W L) where
+  unfoldable pub answering : Outcome R H W → Step H W L
+  answering o = record { answer = record { reply = as-reply (o .reply); report = o .report }; state = o .state; events = o .events }
+
+  module _ (p : Plan R H W) (u : Uart H W) where
+    carried-replies : (d : Option ℕ) → stepped (carried d (replying as-reply p) u) ≡ answering (carried d p u)
+    unfolding stepped carried replying answering undated afterSettling
+    carried-replies none = refl
+    carried-replies (some now) = refl
+
+    by-test : (d : Option ℕ) (o : Option Refusal)
+        → stepped (unless o (replying as-reply p .refuses) (carried d (replying as-reply p)) u) ≡ answering (unless o (p .refuses) (carried d p) u)
+    unfolding stepped replying answering unless refusing
+    by-test d none = carried-replies d
+    by-test d (some r) = refl
+
+    pub replied : (d : Option ℕ) → stepped (outcome d (replying as-reply p) u) ≡ answering (outcome d p u)
+    unfolding replying outcome
+    replied d = by-test d (refusalBy d (p .test) (u .control))

@@ -1,0 +1,76 @@
+-- One list of answers with numbers for bytes, which the proof of demand 3 makes: which numbers an answer may hold, and what a
+-- read of FIFO gives. Assumes nothing.
+use mathlib.Core.Path.{_≡_}
+use Prim.Native.Nat.{ℕ, _+_, _<_}
+use mathlib.Core.List.{List, [], _∷_, _++_}
+use lib.ListN.{length}
+use Rattle.model.specs.Limits.{All}
+use Rattle.model.specs.Replies.{ReadOf, word, byte, noValue, refused, Take}
+use Rattle.model.specs.Registers.{sourceNotes}
+use Rattle.model.specs.Call.{Call, Request, Reply, reads, writes, does, takes, left, pends}
+use Rattle.model.specs.TwoRuns.Alike.{hostOf, fifoBytesOf}
+use Rattle.model.specs.TwoRuns.Agree.{Bare, Notes}
+use Rattle.model.specs.declared.Refusal.{Refusal}
+use Rattle.model.specs.declared.Report.{Report}
+use Rattle.model.specs.declared.Source.{Source}
+use Rattle.model.specs.declared.Unsupported.the-variants.{UartEmptyRead, UartReceiveClock}
+
+-- ---- the bytes in an answer
+
+-- the byte that a read gives
+unfoldable pub byteRead : {H : Type 0} → ReadOf H → List H
+byteRead (word n) = []
+byteRead (byte b) = b ∷ []
+byteRead noValue = []
+byteRead (refused r) = []
+
+module _ {H W L : Type 0} where
+  unfoldable pub bytesRead : Reply H W L → List H
+  bytesRead (reads r) = byteRead r
+  bytesRead (writes r) = []
+  bytesRead (does r) = []
+  bytesRead (takes t) = []
+  bytesRead (left b) = []
+  bytesRead (pends n) = []
+
+  -- the bytes handed out as sent
+  unfoldable pub bytesSent : Reply H W L → List W
+  bytesSent (reads r) = []
+  bytesSent (writes r) = []
+  bytesSent (does r) = []
+  bytesSent (takes t) = t .front
+  bytesSent (left b) = []
+  bytesSent (pends n) = []
+
+-- ---- numbers for bytes
+
+-- the number of a host byte is below h, and that of a written one below w
+pub record Below (h w : ℕ) (a : Bare) : Type 0 where
+  pub read : All (λ n. n < h) (bytesRead (a .reply))
+  pub sent : All (λ n. n < w) (bytesSent (a .reply))
+
+-- before the calls, h host bytes and w FIFO writes were given: each answer's numbers are below what is given once its own
+-- call is made
+pub data EachBelow (fifo : ℕ) : ℕ → ℕ → List Request → List Bare → Type 0 where
+  nil : {h w : ℕ} → EachBelow fifo h w [] []
+  cons : {h w : ℕ} {c : Request} {cs : List Request} {a : Bare} {t : List Bare}
+      → Below (h + length (hostOf c)) (w + length (fifoBytesOf fifo c)) a
+      → EachBelow fifo (h + length (hostOf c)) (w + length (fifoBytesOf fifo c)) cs t
+      → EachBelow fifo h w (c ∷ cs) (a ∷ t)
+
+-- ---- reads of FIFO
+
+abbrev pub NotFifo : ℕ → Request → Type 0
+NotFifo fifo c = (now : ℕ) → ¬ (c ≡ Call.read now fifo)
+
+-- a read of FIFO gives a byte without UartEmptyRead, or 0 with UartEmptyRead at the end, or is refused; no other call gives
+-- a byte of the host
+pub data Shape (fifo : ℕ) : Request → Bare → Type 0 where
+  fifoByte : {now n : ℕ} {r : Report} (s : Source) → Notes r (sourceNotes UartReceiveClock s)
+      → Shape fifo (Call.read now fifo) (record { reply = reads (byte n); report = r })
+  fifoEmpty : {now : ℕ} {r : Report} (s : Source) → Notes r (sourceNotes UartReceiveClock s ++ (UartEmptyRead ∷ []))
+      → Shape fifo (Call.read now fifo) (record { reply = reads (word 0); report = r })
+  fifoRefused : {now : ℕ} {x : Refusal} {r : Report} → Shape fifo (Call.read now fifo) (record { reply = reads (refused x); report = r })
+  handedOut : {c : Request} {t : Take ℕ (Unit {0})} {r : Report} → NotFifo fifo c → Shape fifo c (record { reply = takes t; report = r })
+  noByte : {c : Request} {a : Bare} → NotFifo fifo c → ((b : ℕ) → ¬ (a .reply ≡ reads (byte b)))
+      → ((t : Take ℕ (Unit {0})) → ¬ (a .reply ≡ takes t)) → Shape fifo c a
