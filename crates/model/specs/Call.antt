@@ -8,33 +8,32 @@ use Rattle.model.specs.declared.Write.{Write}
 use Rattle.model.specs.declared.Done.{Done}
 use Rattle.model.specs.declared.Report.{Report}
 
--- R says which register is read and X what is written where; H are the host's bytes, L those of a lent buffer. The first
--- number of a dated call is its cycle now
-pub data Call (R X H L : Type 0) : Type 0 where
-  read : ℕ → R → Call R X H L
-  write : ℕ → X → Call R X H L
-  receive : ℕ → ℕ → List H → Call R X H L
-  wake reset powerDown : ℕ → Call R X H L
-  watch : ℕ → Bool → Call R X H L
-  clockChange : ℕ → ℕ → Call R X H L
-  takeTx : ℕ → List L → Call R X H L
-  takeWritten : List L → Call R X H L
-  hasLeft hostPending : Call R X H L
+-- what the machine around the UART does
+pub data Machine : Type 0 where
+  wake reset powerDown : Machine
+  watch : Bool → Machine
+  clockChange : ℕ → Machine
 
--- now of a dated call; has_left, host_pending and take_written are undated
+-- R says which register is read and X what is written where; H are the host's bytes, L those of a lent buffer
+pub data Dated (R X H L : Type 0) : Type 0 where
+  read : R → Dated R X H L
+  write : X → Dated R X H L
+  receive : ℕ → List H → Dated R X H L
+  takeTx : List L → Dated R X H L
+  machine : Machine → Dated R X H L
+
+pub data Undated (L : Type 0) : Type 0 where
+  takeWritten : List L → Undated L
+  hasLeft hostPending : Undated L
+
+-- a dated call takes the cycle now
+pub data Call (R X H L : Type 0) : Type 0 where
+  at : ℕ → Dated R X H L → Call R X H L
+  undated : Undated L → Call R X H L
+
 unfoldable pub dateOf : {R X H L : Type 0} → Call R X H L → Option ℕ
-dateOf (Call.read now r) = some now
-dateOf (Call.write now x) = some now
-dateOf (Call.receive now at bs) = some now
-dateOf (Call.wake now) = some now
-dateOf (Call.reset now) = some now
-dateOf (Call.powerDown now) = some now
-dateOf (Call.watch now b) = some now
-dateOf (Call.clockChange now p) = some now
-dateOf (Call.takeTx now lent) = some now
-dateOf (Call.takeWritten lent) = none
-dateOf Call.hasLeft = none
-dateOf Call.hostPending = none
+dateOf (Call.at now c) = some now
+dateOf (Call.undated c) = none
 
 -- a write names an offset and a 32-bit word
 pub record Written : Type 0 where

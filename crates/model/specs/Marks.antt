@@ -1,7 +1,7 @@
 -- Document 01's marked lines P1 to P10 on its bench settings, as rows of one list, and one claim over the list.
 -- Assumes nothing.
 use mathlib.Core.Path.{_≡_, refl}
-use Prim.Native.Nat.{ℕ}
+use Prim.Native.Nat.{ℕ, _*_}
 use mathlib.Core.Bool.{decide}
 use mathlib.Core.List.{List, [], _∷_, _++_, map}
 use lib.ListN.{take, drop, replicate}
@@ -19,18 +19,20 @@ use Rattle.model.specs.Arm.{called, nthGone, firstGone, lastGone, belowT
 use Rattle.model.specs.Arm.{armAll, arm}
 use Rattle.model.specs.Replies.{number, notices, noReport, report, word, byte, readNumber, writeNumber}
 use Rattle.model.specs.Replies.{doneNumber, takenNumber}
-use Rattle.model.specs.Map.{registerAmong, registerOf, valueOf, placeAmong, wordsBy, replaced}
-use Rattle.model.specs.Registers.{noteIf, sourceNotes, statusWord, fsmStatus, looks, pop, shownIn, readRegister, readLooking, readAt}
+use Rattle.model.specs.Map.{Register, fifo, intClr, shown, stored, conf1, intRaw, status, fsmStatus, registers, registerAmong}
+use Rattle.model.specs.Map.{registerOf, valueOf, placeAmong, wordsBy, replaced}
+use Rattle.model.specs.Registers.{noteIf, sourceNotes, statusWord, looks, pop, shownIn, readRegister, readLooking, readAt}
 use Rattle.model.specs.Registers.{conf0Notes, storedNotes, startsAt, goneAt, sent, dropped, sendByte, resetFifos, storing, clearing}
 use Rattle.model.specs.Registers.{writeRegister, concluded}
+use Rattle.model.specs.Registers
 use Rattle.model.specs.Tests.{among, repeated, pastEnd, wentBack, transmitFull, hostFull, runsFull, periodTooLong, bufferTooShort}
 use Rattle.model.specs.Tests.{refuseIf, refuseDate}
 use Rattle.model.specs.Calls.{dated, refusing, unless, afterSettling, carried, outcome, joined, lastDate, hostDate, quiet, readPlaced}
 use Rattle.model.specs.Calls.{writePlaced, send, handOver, writeAt}
 use Rattle.model.specs.Calls
 use Rattle.model.specs.SetUp.{wordsAmong, mapOf, newControl, new}
-use Rattle.model.specs.Call.{Call, dateOf, Request, Reply, read, receive, wake, reads, writes, does}
-use Rattle.model.specs.Run.{numberOf, stepped, replying, planBy, writing, plan, step, runBy, run}
+use Rattle.model.specs.Call.{wake, Dated, receive, machine, at, dateOf, Request, Reply, reads, writes, does}
+use Rattle.model.specs.Run.{numberOf, stepped, replying, machinePlan, planBy, writing, plan, step, runBy, run}
 use Rattle.model.specs.declared.Date.{Date}
 use Rattle.model.specs.declared.Date.the-variants.{At}
 use Rattle.model.specs.declared.Unsupported.{Unsupported}
@@ -43,32 +45,19 @@ use Rattle.model.specs.declared.Done.the-variants.{Done}
 unfoldable pub benchWords : List ℕ
 benchWords = 0 ∷ 0 ∷ 0 ∷ 0 ∷ 0 ∷ 0x0080000A ∷ 0 ∷ 0 ∷ 0x1C ∷ 0xC060 ∷ 0x02300000 ∷ 0 ∷ 0 ∷ 0 ∷ 0x000A0012 ∷ 0 ∷ []
 
+abbrev pub offset : Register → ℕ
+offset r = 4 * placeAmong r registers
+
 unfoldable pub bench : Uart ℕ ℕ
-bench = new (0 ∷ 4 ∷ 8 ∷ 12 ∷ 16 ∷ 20 ∷ 24 ∷ 28 ∷ 32 ∷ 36 ∷ 40 ∷ 44 ∷ 48 ∷ 52 ∷ 56 ∷ 60 ∷ []) benchWords
-
--- the places that the rows name, by their bench offsets
-abbrev pub FIFO : ℕ
-FIFO = 0
-
-abbrev pub INT-RAW : ℕ
-INT-RAW = 4
-
-abbrev pub INT-CLR : ℕ
-INT-CLR = 16
-
-abbrev pub STATUS : ℕ
-STATUS = 24
-
-abbrev pub FSM-STATUS : ℕ
-FSM-STATUS = 28
-
-abbrev pub CONF1 : ℕ
-CONF1 = 36
+bench = new (map offset registers) benchWords
 
 -- ---- what calls on the bench answer, call by call
 
-abbrev pub write : ℕ → ℕ → ℕ → Request
-write now offset v = Call.write now (record { offset = offset; value = v })
+abbrev pub read : ℕ → Register → Request
+read now r = at now (Dated.read (offset r))
+
+abbrev pub write : ℕ → Register → ℕ → Request
+write now r v = at now (Dated.write (record { offset = offset r; value = v }))
 
 abbrev pub value : ℕ → Reply ℕ ℕ ℕ
 value n = reads (word n)
@@ -96,7 +85,7 @@ Hold (x is y ∷ rs) = (x ≡ y) × Hold rs
 
 -- P7's calls: the timeout enabled, and a byte received at 100
 unfoldable pub p7 : List Request
-p7 = write 0 CONF1 0x20C060 ∷ receive 100 100 (0x55 ∷ []) ∷ []
+p7 = write 0 (stored conf1) 0x20C060 ∷ at 100 (receive 100 (0x55 ∷ [])) ∷ []
 
 unfoldable pub marks : List Row
 marks =
@@ -105,30 +94,30 @@ marks =
     -- P2: a bit and a byte in subcycles
     ∷ bitTime (wordsAmong benchWords) 8 is 1344 ∷ byteTime (wordsAmong benchWords) 8 is 13440
     -- P3: one byte sent
-    ∷ replies (write 100 FIFO 0x41 ∷ read 519 FSM-STATUS ∷ read 520 FSM-STATUS ∷ read 520 INT-RAW ∷ [])
+    ∷ replies (write 100 fifo 0x41 ∷ read 519 (shown fsmStatus) ∷ read 520 (shown fsmStatus) ∷ read 520 (shown intRaw) ∷ [])
     is (writes Accepted ∷ value 0x10 ∷ value 0 ∷ value 0x4002 ∷ [])
     -- P4: 129 writes, and the 130th
-    ∷ noted (replicate 129 (write 100 FIFO 0x41) ++ read 100 STATUS ∷ write 100 FIFO 0x42 ∷ read 100 STATUS ∷ [])
+    ∷ noted (replicate 129 (write 100 fifo 0x41) ++ read 100 (shown status) ∷ write 100 fifo 0x42 ∷ read 100 (shown status) ∷ [])
     is (replicate 129 (writes Accepted, []) ++ (value 0x00800000, []) ∷ (writes Accepted, UartOverflow ∷ []) ∷ (value 0x00800000, []) ∷ [])
     -- P5: the wake after P4's 130 writes
-    ∷ drop 130 (wakes (replicate 130 (write 100 FIFO 0x41) ++ write 100 INT-CLR 2 ∷ read 100 INT-RAW ∷ wake 520 ∷ read 13960 INT-RAW ∷ []))
+    ∷ drop 130 (wakes (replicate 130 (write 100 fifo 0x41) ++ write 100 intClr 2 ∷ read 100 (shown intRaw) ∷ at 520 (machine wake) ∷ read 13960 (shown intRaw) ∷ []))
     is ((writes Accepted, At 520) ∷ (value 0, At 520) ∷ (does Done, At 13960) ∷ (value 2, At 13960) ∷ [])
     -- P6: one byte received
-    ∷ noted (receive 100 100 (0x55 ∷ []) ∷ read 519 STATUS ∷ read 520 STATUS ∷ read 520 FIFO ∷ read 520 FIFO ∷ [])
+    ∷ noted (at 100 (receive 100 (0x55 ∷ [])) ∷ read 519 (shown status) ∷ read 520 (shown status) ∷ read 520 fifo ∷ read 520 fifo ∷ [])
     is ((does Done, []) ∷ (value 0, []) ∷ (value 1, []) ∷ (reads (byte 0x55), []) ∷ (value 0, UartEmptyRead ∷ []) ∷ [])
     -- P7: the receive timeout
-    ∷ replies (p7 ++ read 939 INT-RAW ∷ read 940 INT-RAW ∷ []) is (writes Accepted ∷ does Done ∷ value 2 ∷ value 0x102 ∷ [])
+    ∷ replies (p7 ++ read 939 (shown intRaw) ∷ read 940 (shown intRaw) ∷ []) is (writes Accepted ∷ does Done ∷ value 2 ∷ value 0x102 ∷ [])
     -- P8: a second byte at the timeout, and one cycle before it
-    ∷ replies (p7 ++ receive 100 940 (0x56 ∷ []) ∷ read 940 INT-RAW ∷ []) is (writes Accepted ∷ does Done ∷ does Done ∷ value 0x102 ∷ [])
-    ∷ drop 2 (replies (p7 ++ receive 100 939 (0x56 ∷ []) ∷ read 940 INT-RAW ∷ read 1358 STATUS ∷ read 1359 STATUS
-    ∷ read 1778 INT-RAW ∷ read 1779 INT-RAW ∷ [])) is (does Done ∷ value 2 ∷ value 1 ∷ value 2 ∷ value 2 ∷ value 0x102 ∷ [])
+    ∷ replies (p7 ++ at 100 (receive 940 (0x56 ∷ [])) ∷ read 940 (shown intRaw) ∷ []) is (writes Accepted ∷ does Done ∷ does Done ∷ value 0x102 ∷ [])
+    ∷ drop 2 (replies (p7 ++ at 100 (receive 939 (0x56 ∷ [])) ∷ read 940 (shown intRaw) ∷ read 1358 (shown status) ∷ read 1359 (shown status)
+    ∷ read 1778 (shown intRaw) ∷ read 1779 (shown intRaw) ∷ [])) is (does Done ∷ value 2 ∷ value 1 ∷ value 2 ∷ value 2 ∷ value 0x102 ∷ [])
     -- P9: RXFIFO_FULL at its threshold of 96, and above; and each of the 97 landings is a pass
-    ∷ replies (receive 0 0 (replicate 97 7) ∷ read 40320 STATUS ∷ read 40320 INT-RAW ∷ read 40740 STATUS ∷ read 40740 INT-RAW ∷ [])
+    ∷ replies (at 0 (receive 0 (replicate 97 7)) ∷ read 40320 (shown status) ∷ read 40320 (shown intRaw) ∷ read 40740 (shown status) ∷ read 40740 (shown intRaw) ∷ [])
     is (does Done ∷ value 96 ∷ value 2 ∷ value 97 ∷ value 3 ∷ [])
-    ∷ map (λ a. a .report .passes) (run (receive 0 0 (replicate 97 7) ∷ read 40740 STATUS ∷ []) bench) is (1 ∷ 98 ∷ [])
+    ∷ map (λ a. a .report .passes) (run (at 0 (receive 0 (replicate 97 7)) ∷ read 40740 (shown status) ∷ []) bench) is (1 ∷ 98 ∷ [])
     -- P10: the host queue's last free byte
-    ∷ map numberOf (replies (receive 0 0 (replicate 1024 7) ∷ [])) is (0 ∷ [])
-    ∷ map numberOf (replies (receive 0 0 (replicate 1025 7) ∷ [])) is (5 ∷ [])
+    ∷ map numberOf (replies (at 0 (receive 0 (replicate 1024 7)) ∷ [])) is (0 ∷ [])
+    ∷ map numberOf (replies (at 0 (receive 0 (replicate 1025 7)) ∷ [])) is (5 ∷ [])
     ∷ []
 
 pub marks-hold : Hold marks
@@ -138,10 +127,10 @@ unfolding benchWords bench Hold p7 marks choose dueBy instantOf onlyIf earliest 
     total goesOn onePass lost passesIn overflowsIn onTheLine passesFrom pending departures passes aboveFull inFifo emptyThreshold belowEmpty
     assertLevels intStatus drive noLaterThan settlingDate levels leveled settingsOf settleTo settle called nthGone firstGone lastGone
     belowThresholdAt nextStart landingOf nextLanding instants armAll arm number notices noReport report readNumber writeNumber doneNumber
-    takenNumber registerAmong registerOf placeAmong decide valueOf wordsBy replaced noteIf sourceNotes statusWord fsmStatus looks pop shownIn
+    takenNumber registerAmong registerOf placeAmong decide valueOf wordsBy replaced noteIf sourceNotes statusWord Registers.fsmStatus looks pop shownIn
     readRegister readLooking readAt conf0Notes storedNotes startsAt goneAt sent dropped sendByte resetFifos storing clearing writeRegister
     concluded among repeated pastEnd wentBack transmitFull hostFull runsFull periodTooLong bufferTooShort refuseIf refuseDate refusing
     unless afterSettling carried outcome joined lastDate hostDate dated quiet readPlaced writePlaced send handOver Calls.receive Calls.wake
-    writeAt Calls.read Calls.write wordsAmong mapOf newControl new numberOf dateOf stepped replying planBy writing plan step runBy run
+    writeAt Calls.read Calls.write wordsAmong mapOf newControl new numberOf dateOf stepped replying machinePlan planBy writing plan step runBy run
 marks-hold =
     (refl, (refl, (refl, (refl, (refl, (refl, (refl, (refl, (refl, (refl, (refl, (refl, (refl, (refl, (refl, (refl, (refl, tt)))))))))))))))))

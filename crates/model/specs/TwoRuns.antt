@@ -7,7 +7,6 @@ pub mod Placed
 pub mod MapKept
 pub mod NaturalCalls
 pub mod Numbering
-pub mod StepCases
 pub mod Bounds
 pub mod Shapes
 pub mod Theorem

@@ -6,7 +6,7 @@ use mathlib.Core.List.{List, map}
 use Rattle.dates.specs.Dates
 use Rattle.model.specs.State.{OnTheLine, Uart, lineOf}
 use Rattle.model.specs.Map.{Word, valueOf}
-use Rattle.model.specs.Call.{Call, Request}
+use Rattle.model.specs.Call.{Dated, Call, Request}
 use Rattle.model.specs.Limits.{All, NoLater}
 use Rattle.model.specs.declared.Words.{Words}
 
@@ -39,15 +39,9 @@ pub record Widths (u : Uart ℕ ℕ) : Type 0 where
 
 -- the same of what a call gives: a word written, and host bytes
 abbrev pub Given : Request → Type 0
-Given (Call.read now offset) = Unit {0}
-Given (Call.write now x) = Word32 (x .value)
-Given (Call.receive now at bs) = Bytes bs
-Given (Call.wake now) = Unit {0}
-Given (Call.reset now) = Unit {0}
-Given (Call.powerDown now) = Unit {0}
-Given (Call.watch now b) = Unit {0}
-Given (Call.clockChange now p) = Unit {0}
-Given (Call.takeTx now lent) = Unit {0}
-Given (Call.takeWritten lent) = Unit {0}
-Given Call.hasLeft = Unit {0}
-Given Call.hostPending = Unit {0}
+Given (Call.at now (Dated.read offset)) = Unit {0}
+Given (Call.at now (Dated.write x)) = Word32 (x .value)
+Given (Call.at now (Dated.receive date bs)) = Bytes bs
+Given (Call.at now (Dated.takeTx lent)) = Unit {0}
+Given (Call.at now (Dated.machine m)) = Unit {0}
+Given (Call.undated c) = Unit {0}

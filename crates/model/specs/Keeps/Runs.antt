@@ -16,8 +16,8 @@ use Rattle.model.specs.Tests.{repeated}
 use Rattle.model.specs.Calls
 use Rattle.model.specs.Calls.{Plan, outcome}
 use Rattle.model.specs.SetUp.{fifoCounts, mapOf, newControl, new}
-use Rattle.model.specs.Call.{Call, dateOf, Request, Reply, Answer}
-use Rattle.model.specs.Run.{Step, stepped, replying, planBy, stepBy, writing, plan, step, runBy}
+use Rattle.model.specs.Call.{Machine, Dated, Undated, Call, dateOf, Request, Reply, Answer}
+use Rattle.model.specs.Run.{Step, stepped, replying, machinePlan, planBy, stepBy, writing, plan, step, runBy}
 use Rattle.model.specs.Limits.{Chain, All, sum, Within}
 use Rattle.model.specs.Laws.Plans.{answering, replied}
 use Rattle.model.specs.Keeps.Parts.{together}
@@ -58,6 +58,14 @@ new-within offsets ws sixteen different =
 
 -- ---- one call
 
+machine-within : {H W : Type 0} (now : ℕ) (m : Machine) (u : Uart H W) → Within u → Within (outcome (some now) (machinePlan now m u) u .state)
+unfolding machinePlan
+machine-within now Machine.wake u w = wake-within now u w
+machine-within now Machine.reset u w = reset-within now u w
+machine-within now Machine.powerDown u w = powerDown-within now u w
+machine-within now (Machine.watch b) u w = watch-within now b u w
+machine-within now (Machine.clockChange period) u w = clockChange-within now period u w
+
 module _ {R X H W : Type 0} (rd : ℕ → R → Uart H W → Plan (ReadOf H) H W) (wr : ℕ → X → Uart H W → Plan Write H W)
     (rd-within : (now : ℕ) (r : R) (u : Uart H W) → Within u → Within (outcome (some now) (rd now r u) u .state))
     (wr-within : (now : ℕ) (x : X) (u : Uart H W) → Within u → Within (outcome (some now) (wr now x u) u .state)) where
@@ -69,18 +77,14 @@ module _ {R X H W : Type 0} (rd : ℕ → R → Uart H W → Plan (ReadOf H) H W
   -- a call keeps a state within the limits where its reads and writes do
   pub stepBy-within : {L : Type 0} (c : Call R X H L) (u : Uart H W) → Within u → Within (stepBy rd wr c u .state)
   unfolding stepBy planBy dateOf
-  stepBy-within (Call.read now r) u w = replying-within _ _ _ u (rd-within now r u w)
-  stepBy-within (Call.write now x) u w = replying-within _ _ _ u (wr-within now x u w)
-  stepBy-within (Call.receive now at bs) u w = replying-within _ _ _ u (receive-within now at bs u w)
-  stepBy-within (Call.wake now) u w = replying-within _ _ _ u (wake-within now u w)
-  stepBy-within (Call.reset now) u w = replying-within _ _ _ u (reset-within now u w)
-  stepBy-within (Call.powerDown now) u w = replying-within _ _ _ u (powerDown-within now u w)
-  stepBy-within (Call.watch now b) u w = replying-within _ _ _ u (watch-within now b u w)
-  stepBy-within (Call.clockChange now period) u w = replying-within _ _ _ u (clockChange-within now period u w)
-  stepBy-within (Call.takeTx now lent) u w = replying-within _ _ _ u (takeTx-within now lent u w)
-  stepBy-within (Call.takeWritten lent) u w = replying-within _ _ _ u (takeWritten-within lent u w)
-  stepBy-within Call.hasLeft u w = replying-within _ _ _ u (hasLeft-within u w)
-  stepBy-within Call.hostPending u w = replying-within _ _ _ u (hostPending-within u w)
+  stepBy-within (Call.at now (Dated.read r)) u w = replying-within _ _ _ u (rd-within now r u w)
+  stepBy-within (Call.at now (Dated.write x)) u w = replying-within _ _ _ u (wr-within now x u w)
+  stepBy-within (Call.at now (Dated.receive date bs)) u w = replying-within _ _ _ u (receive-within now date bs u w)
+  stepBy-within (Call.at now (Dated.takeTx lent)) u w = replying-within _ _ _ u (takeTx-within now lent u w)
+  stepBy-within (Call.at now (Dated.machine m)) u w = replying-within _ _ _ u (machine-within now m u w)
+  stepBy-within (Call.undated (Undated.takeWritten lent)) u w = replying-within _ _ _ u (takeWritten-within lent u w)
+  stepBy-within (Call.undated Undated.hasLeft) u w = replying-within _ _ _ u (hasLeft-within u w)
+  stepBy-within (Call.undated Undated.hostPending) u w = replying-within _ _ _ u (hostPending-within u w)
 
 -- every call keeps a state within the limits
 pub step-within : (c : Request) (u : Uart ℕ ℕ) → Within u → Within (step c u .state)

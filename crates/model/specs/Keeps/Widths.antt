@@ -23,8 +23,8 @@ use Rattle.model.specs.Registers.{clearing, writeRegister, concluded}
 use Rattle.model.specs.Calls
 use Rattle.model.specs.Calls.{Settling, settledBy, afterSettling, undated, carried, quiet, dated, clocked, cleared, clearedLine}
 use Rattle.model.specs.Calls.{handOver, readPlaced, send, writePlaced}
-use Rattle.model.specs.Call.{Call, dateOf, Request}
-use Rattle.model.specs.Run.{Step, stepped, replying, planBy, writing, plan, step}
+use Rattle.model.specs.Call.{Machine, Dated, Undated, Call, dateOf, Request}
+use Rattle.model.specs.Run.{Step, stepped, replying, machinePlan, planBy, writing, plan, step}
 use Rattle.model.specs.SetUp.{wordsAmong, fifoCounts, mapOf, newControl, new}
 use Rattle.model.specs.Limits.{All, nil, cons, NoLater}
 use Rattle.model.specs.Widths.{Word32, Words32, Bytes, ByteOn, Given, Widths}
@@ -33,11 +33,11 @@ use Rattle.model.specs.Laws.Cases.{KeptOnLine, passes-ind}
 use Rattle.model.specs.Laws.AccessCases.{write-ind, readRegister-ind, writeRegister-ind}
 use Rattle.model.specs.Refuses.Conditions.{Result, refusal, done}
 use Rattle.model.specs.Refuses.Refusals.{step-result}
-use Rattle.model.specs.Ends.Settlings.{settlings}
+use Rattle.model.specs.Ends.Settlings.{settlings, undated-settles}
 use Rattle.model.specs.TwoRuns.Alike.{itself}
 use Rattle.model.specs.TwoRuns.Natural.{bytes-nat}
 use Rattle.model.specs.TwoRuns.NaturalCalls.{mapPut, mapPlaced, mapStep, stepPlaced-nat}
-use Rattle.model.specs.TwoRuns.Placed.{Put, changed, putAt, placed, stepPlaced, step-placed}
+use Rattle.model.specs.TwoRuns.Placed.{Put, changedDated, changedUndated, changed, putAt, placed, stepPlaced, step-placed}
 use Rattle.model.specs.TwoRuns.MapKept.{step-kept}
 use Rattle.model.specs.declared.Line.{Line}
 use Rattle.model.specs.declared.Frame.{Frame}
@@ -172,47 +172,51 @@ settled-numbers (s ∷ ss) t n (cons p a) = settled-numbers ss _ (settle-numbers
 
 -- ---- every call
 
+machine-begins : (now : ℕ) (m : Machine) (u : Uart ℕ ℕ) → Numbers u → All (λ s. Numbers (s .begins)) (machinePlan now m u .settlings)
+unfolding machinePlan dated clocked Calls.wake Calls.reset Calls.powerDown Calls.watch Calls.clockChange
+machine-begins now Machine.wake u n = cons (withRaw refl refl refl (n .raw) n) nil
+machine-begins now Machine.reset u n = cons (record { reset = n .reset; words = n .words; raw = n .raw; down = tt }) nil
+machine-begins now Machine.powerDown u n = nil
+machine-begins now (Machine.watch b) u n = nil
+machine-begins now (Machine.clockChange period) u n =
+    let first = settle-numbers now (dated now u) (withRaw refl refl refl (n .raw) n) in
+    cons (withRaw refl refl refl (n .raw) n) (cons (withRaw refl refl refl (first .raw) first) nil)
+
 begins-numbers : (c : Request) (u : Uart ℕ ℕ) → Numbers u → All (λ s. Numbers (s .begins)) (settlings c u)
-unfolding plan planBy replying writing dated clocked Calls.read readPlaced Calls.write send writePlaced Calls.receive Calls.wake Calls.reset
-    Calls.powerDown Calls.watch Calls.clockChange Calls.takeTx Calls.takeWritten Calls.hasLeft Calls.hostPending
-begins-numbers (Call.read now offset) u n = cons (withRaw refl refl refl (n .raw) n) nil
-begins-numbers (Call.write now x) u n =
+unfolding plan planBy replying writing dated Calls.read readPlaced Calls.write send writePlaced Calls.receive Calls.takeTx
+begins-numbers (Call.at now (Dated.read offset)) u n = cons (withRaw refl refl refl (n .raw) n) nil
+begins-numbers (Call.at now (Dated.write x)) u n =
     let one = cons (withRaw refl refl refl (n .raw) n) nil in
     write-ind (λ p. All (λ s. Numbers (s .begins)) (p .settlings)) now (registerOf (u .map .offsets) (x .offset)) (x .value) u (λ _. one)
     (λ _. one)
-begins-numbers (Call.receive now at bs) u n = cons (withRaw refl refl refl (n .raw) n) nil
-begins-numbers (Call.wake now) u n = cons (withRaw refl refl refl (n .raw) n) nil
-begins-numbers (Call.reset now) u n = cons (record { reset = n .reset; words = n .words; raw = n .raw; down = tt }) nil
-begins-numbers (Call.powerDown now) u n = nil
-begins-numbers (Call.watch now b) u n = nil
-begins-numbers (Call.clockChange now period) u n =
-    let first = settle-numbers now (dated now u) (withRaw refl refl refl (n .raw) n) in
-    cons (withRaw refl refl refl (n .raw) n) (cons (withRaw refl refl refl (first .raw) first) nil)
-begins-numbers (Call.takeTx now lent) u n = cons (withRaw refl refl refl (n .raw) n) nil
-begins-numbers (Call.takeWritten lent) u n = nil
-begins-numbers Call.hasLeft u n = nil
-begins-numbers Call.hostPending u n = nil
+begins-numbers (Call.at now (Dated.receive date bs)) u n = cons (withRaw refl refl refl (n .raw) n) nil
+begins-numbers (Call.at now (Dated.takeTx lent)) u n = cons (withRaw refl refl refl (n .raw) n) nil
+begins-numbers (Call.at now (Dated.machine m)) u n = machine-begins now m u n
+begins-numbers (Call.undated a) u n = subst (All (λ s. Numbers (s .begins))) (sym (undated-settles a u)) nil
+
+machine-worked : (now : ℕ) (m : Machine) (u v : Uart ℕ ℕ) → Numbers v → Numbers (machinePlan now m u .work v .state)
+unfolding machinePlan quiet cleared clearedLine Calls.wake Calls.reset Calls.powerDown Calls.watch Calls.clockChange
+machine-worked now Machine.wake u v n = arm-numbers v n
+machine-worked now Machine.reset u v n =
+    arm-numbers _ (levels-numbers _ (record { reset = n .reset; words = n .reset; raw = omega arith; down = n .down }))
+machine-worked now Machine.powerDown u v n = record { reset = n .reset; words = n .words; raw = n .raw; down = min-le-right _ _ }
+machine-worked now (Machine.watch b) u v n = arm-numbers _ (withRaw refl refl refl (n .raw) n)
+machine-worked now (Machine.clockChange period) u v n = arm-numbers v n
 
 worked-numbers : (c : Request) (u v : Uart ℕ ℕ) → Given c → Numbers v → Numbers (plan c u .work v .state)
-unfolding plan planBy replying writing quiet readAt concluded cleared clearedLine Calls.read readPlaced Calls.write send writePlaced
-    Calls.receive Calls.wake Calls.reset Calls.powerDown Calls.watch Calls.clockChange Calls.takeTx Calls.takeWritten Calls.hasLeft
-    Calls.hostPending
-worked-numbers (Call.read now offset) u v g n = looking-numbers _ _ v n
-worked-numbers (Call.write now x) u v g n =
+unfolding plan planBy replying writing quiet readAt concluded Calls.read readPlaced Calls.write send writePlaced Calls.receive Calls.takeTx
+    Calls.takeWritten Calls.hasLeft Calls.hostPending
+worked-numbers (Call.at now (Dated.read offset)) u v g n = looking-numbers _ _ v n
+worked-numbers (Call.at now (Dated.write x)) u v g n =
     write-ind (λ p. Numbers (p .work v .state)) now (registerOf (u .map .offsets) (x .offset)) (x .value) u
     (λ _. arm-numbers _ (levels-numbers _ (send-numbers now _ v n)))
     (λ _. arm-numbers _ (levels-numbers _ (write-numbers _ (x .value) v g n)))
-worked-numbers (Call.receive now at bs) u v g n = hand-numbers _ bs v n
-worked-numbers (Call.wake now) u v g n = arm-numbers v n
-worked-numbers (Call.reset now) u v g n =
-    arm-numbers _ (levels-numbers _ (record { reset = n .reset; words = n .reset; raw = omega arith; down = n .down }))
-worked-numbers (Call.powerDown now) u v g n = record { reset = n .reset; words = n .words; raw = n .raw; down = min-le-right _ _ }
-worked-numbers (Call.watch now b) u v g n = arm-numbers _ (withRaw refl refl refl (n .raw) n)
-worked-numbers (Call.clockChange now period) u v g n = arm-numbers v n
-worked-numbers (Call.takeTx now lent) u v g n = withRaw refl refl refl (n .raw) n
-worked-numbers (Call.takeWritten lent) u v g n = withRaw refl refl refl (n .raw) n
-worked-numbers Call.hasLeft u v g n = n
-worked-numbers Call.hostPending u v g n = n
+worked-numbers (Call.at now (Dated.receive date bs)) u v g n = hand-numbers _ bs v n
+worked-numbers (Call.at now (Dated.takeTx lent)) u v g n = withRaw refl refl refl (n .raw) n
+worked-numbers (Call.at now (Dated.machine m)) u v g n = machine-worked now m u v n
+worked-numbers (Call.undated (Undated.takeWritten lent)) u v g n = withRaw refl refl refl (n .raw) n
+worked-numbers (Call.undated Undated.hasLeft) u v g n = n
+worked-numbers (Call.undated Undated.hostPending) u v g n = n
 
 carried-numbers : (c : Request) (u : Uart ℕ ℕ) → Given c → Numbers u → (d : Option ℕ) → Numbers (carried d (plan c u) u .state)
 unfolding carried undated afterSettling dated
@@ -296,19 +300,16 @@ put-cut r v =
 
 -- a call whose host bytes are bytes is the same with each cut
 given-cut : (offsets : List ℕ) (c : Request) → Given c → mapPlaced low low itself (placed offsets c) ≡ placed offsets c
-unfolding mapPlaced placed changed itself
-given-cut offsets (Call.read now offset) g = refl
-given-cut offsets (Call.write now x) g = ap (λ y. Call.write now y) (put-cut (registerOf offsets (x .offset)) (x .value))
-given-cut offsets (Call.receive now at bs) g = ap (λ l. Call.receive now at l) (low-same bs g)
-given-cut offsets (Call.wake now) g = refl
-given-cut offsets (Call.reset now) g = refl
-given-cut offsets (Call.powerDown now) g = refl
-given-cut offsets (Call.watch now b) g = refl
-given-cut offsets (Call.clockChange now p) g = refl
-given-cut offsets (Call.takeTx now lent) g = ap (λ l. Call.takeTx now l) (map-id lent)
-given-cut offsets (Call.takeWritten lent) g = ap (λ l. Call.takeWritten l) (map-id lent)
-given-cut offsets Call.hasLeft g = refl
-given-cut offsets Call.hostPending g = refl
+unfolding mapPlaced placed changed changedDated changedUndated itself
+given-cut offsets (Call.at now (Dated.read offset)) g = refl
+given-cut offsets (Call.at now (Dated.write x)) g =
+    ap (λ y. Call.at now (Dated.write y)) (put-cut (registerOf offsets (x .offset)) (x .value))
+given-cut offsets (Call.at now (Dated.receive date bs)) g = ap (λ l. Call.at now (Dated.receive date l)) (low-same bs g)
+given-cut offsets (Call.at now (Dated.takeTx lent)) g = ap (λ l. Call.at now (Dated.takeTx l)) (map-id lent)
+given-cut offsets (Call.at now (Dated.machine m)) g = refl
+given-cut offsets (Call.undated (Undated.takeWritten lent)) g = ap (λ l. Call.undated (Undated.takeWritten l)) (map-id lent)
+given-cut offsets (Call.undated Undated.hasLeft) g = refl
+given-cut offsets (Call.undated Undated.hostPending) g = refl
 
 step-cut : (c : Request) (u : Uart ℕ ℕ) → Given c → Cut u → Cut (step c u .state)
 unfolding mapStep

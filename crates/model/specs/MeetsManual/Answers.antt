@@ -13,7 +13,7 @@ use Rattle.model.specs.Registers.{sendByte, sent, dropped}
 use Rattle.model.specs.Tests.{dateEnd, pastEnd, wentBack, sentLimit, transmitFull, refuseIf, refuseDate}
 use Rattle.model.specs.Calls
 use Rattle.model.specs.Calls.{Outcome, Plan, refusalBy, unless, carried, outcome, settleAt, readPlaced, writePlaced, send, writeAt}
-use Rattle.model.specs.Call.{Call, dateOf, Written, Reply, reads, writes}
+use Rattle.model.specs.Call.{Dated, Call, dateOf, Written, Reply, reads, writes}
 use Rattle.model.specs.Run.{stepped, replying, planBy, writing, plan, step}
 use Rattle.model.specs.Laws.Plans.{answering, replied}
 use Rattle.model.specs.declared.Refusal.{Refusal}
@@ -49,13 +49,13 @@ module _ {now : ℕ} {u : Uart ℕ ℕ} (t : InTime now u) where
       replied as-reply p u (some now) ∙ ap (answering as-reply) (carried-out (p .refuses) (carried (some now) p) u (in-time t (p .test) ∙ e))
 
   pub read-answer : (offset : ℕ) (p : Register) → registerOf (u .map .offsets) offset ≡ p
-      → step (Call.read now offset) u ≡ answering reads (carried (some now) (readPlaced now p u) u)
+      → step (Call.at now (Dated.read offset)) u ≡ answering reads (carried (some now) (readPlaced now p u) u)
   unfolding step plan planBy dateOf Calls.read readPlaced
   read-answer offset p e =
       ap (λ (q : Register). stepped (outcome (some now) (replying reads (readPlaced now q u)) u)) e ∙ carried-answer reads (readPlaced now p u) refl
 
   pub write-answer : (x : Written) (p : Register) → registerOf (u .map .offsets) (x .offset) ≡ p → writeAt now p (x .value) u .test ≡ none
-      → step (Call.write now x) u ≡ answering writes (carried (some now) (writeAt now p (x .value) u) u)
+      → step (Call.at now (Dated.write x)) u ≡ answering writes (carried (some now) (writeAt now p (x .value) u) u)
   unfolding step plan planBy dateOf writing Calls.write
   write-answer x p e test =
       ap (λ (q : Register). stepped (outcome (some now) (replying writes (writeAt now q (x .value) u)) u)) e
@@ -64,14 +64,14 @@ module _ {now : ℕ} {u : Uart ℕ ℕ} (t : InTime now u) where
   -- a write to FIFO that 4 does not refuse
   pub fifo-answer : (x : Written) → registerOf (u .map .offsets) (x .offset) ≡ Register.fifo
       → length (u .tx) + length (u .inFlight) < sentLimit
-      → step (Call.write now x) u ≡ answering writes (carried (some now) (send now (x .value % 256) u) u)
+      → step (Call.at now (Dated.write x)) u ≡ answering writes (carried (some now) (send now (x .value % 256) u) u)
   unfolding writeAt decide choose send refuseIf transmitFull
   fifo-answer x e room =
       write-answer x Register.fifo e
       (ap (λ (b : Bool). refuseIf b TransmitFull none) (lt-leb sentLimit (length (u .tx) + length (u .inFlight)) room))
 
   pub clear-answer : (x : Written) → registerOf (u .map .offsets) (x .offset) ≡ Register.intClr
-      → step (Call.write now x) u ≡ answering writes (carried (some now) (writePlaced now Register.intClr (x .value) u) u)
+      → step (Call.at now (Dated.write x)) u ≡ answering writes (carried (some now) (writePlaced now Register.intClr (x .value) u) u)
   unfolding writeAt decide choose writePlaced
   clear-answer x e = write-answer x Register.intClr e refl
 

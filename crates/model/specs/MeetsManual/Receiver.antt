@@ -19,8 +19,8 @@ use Rattle.model.specs.Map.{registerOf}
 use Rattle.model.specs.Calls
 use Rattle.model.specs.Calls.{Settling, settles, dated, clocked, readPlaced, send, writePlaced}
 use Rattle.model.specs.Laws.AccessCases.{write-ind}
-use Rattle.model.specs.Call.{Call, dateOf, Request}
-use Rattle.model.specs.Run.{numberOf, replying, planBy, writing, plan, step}
+use Rattle.model.specs.Call.{Machine, Dated, Call, dateOf, Request}
+use Rattle.model.specs.Run.{numberOf, replying, machinePlan, planBy, writing, plan, step}
 use Rattle.model.specs.Limits.{All, nil, cons, Within}
 use Rattle.model.specs.Laws.Lists.{all-head, all-drop}
 use Rattle.model.specs.Keeps.Parts.{Parts, putClock, through}
@@ -30,7 +30,7 @@ use Rattle.model.specs.Keeps.Dated.{moved-parts}
 use Rattle.model.specs.Keeps.EachCall.{clocked-parts}
 use Rattle.model.specs.Refuses.Conditions.{Condition, number2, number7, order}
 use Rattle.model.specs.Refuses.Exactly.{done-exactly}
-use Rattle.model.specs.Ends.Settlings.{settlings}
+use Rattle.model.specs.Ends.Settlings.{settlings, undated-settles}
 use Rattle.model.specs.MeetsManual.Timing.{Meant, FrameTime, TimeoutTime, byte-lasts, timeout-lasts}
 use Rattle.model.specs.MeetsManual.Reception.{comes, arrivalsIn, settling-receives}
 use Rattle.model.specs.MeetsManual.ReceiveTimeout.{showsIn, shownIn, settling-shows}
@@ -73,33 +73,35 @@ module _ (c : Request) (u : Uart ℕ ℕ) (done : numberOf (step c u .answer .re
   early : (now : ℕ) → dateOf c ≡ some now → now < dateEnd
   early now e = below now dateEnd (λ h. all-head (done-exactly c u .0 done) (number2 e h))
 
-clock-low : (now period : ℕ) (u : Uart ℕ ℕ) → numberOf (step (Call.clockChange now period) u .answer .reply) ≡ 0 → period ≤ periodLimit
+clock-low : (now period : ℕ) (u : Uart ℕ ℕ) → numberOf (step (Call.at now (Dated.machine (Machine.clockChange period))) u .answer .reply) ≡ 0 → period ≤ periodLimit
 clock-low now period u done =
     let h : period < periodLimit + 1 =
     below period (periodLimit + 1) (λ h. all-head (all-drop 2 _ (done-exactly _ u .0 done)) (number7 (omega arith)))
     in omega arith
 
+machine-begins : (now : ℕ) (m : Machine) (u : Uart ℕ ℕ) → Within u → numberOf (step (Call.at now (Dated.machine m)) u .answer .reply) ≡ 0
+    → All (λ s. Within (s .begins)) (machinePlan now m u .settlings)
+unfolding machinePlan dateOf Calls.wake Calls.reset Calls.powerDown Calls.watch Calls.clockChange
+machine-begins now Machine.wake u w d = cons (woken u w now (early _ u d now refl)) nil
+machine-begins now Machine.reset u w d = cons (powered u w now (early _ u d now refl)) nil
+machine-begins now Machine.powerDown u w d = nil
+machine-begins now (Machine.watch b) u w d = nil
+machine-begins now (Machine.clockChange period) u w d =
+    let h : now < dateEnd = early _ u d now refl in
+    cons (moved u w now h) (cons (reclocked u w now period h (clock-low now period u d)) nil)
+
 begins-within : (c : Request) (u : Uart ℕ ℕ) → Within u → numberOf (step c u .answer .reply) ≡ 0
     → All (λ s. Within (s .begins)) (settlings c u)
-unfolding dateOf plan planBy replying writing Calls.read readPlaced Calls.write send writePlaced Calls.receive Calls.wake Calls.reset
-    Calls.powerDown Calls.watch Calls.clockChange Calls.takeTx Calls.takeWritten Calls.hasLeft Calls.hostPending
-begins-within (Call.read now offset) u w d = cons (moved u w now (early _ u d now refl)) nil
-begins-within (Call.write now x) u w d =
+unfolding dateOf plan planBy replying writing Calls.read readPlaced Calls.write send writePlaced Calls.receive Calls.takeTx
+begins-within (Call.at now (Dated.read offset)) u w d = cons (moved u w now (early _ u d now refl)) nil
+begins-within (Call.at now (Dated.write x)) u w d =
     let one = cons (moved u w now (early _ u d now refl)) nil in
     write-ind (λ p. All (λ s. Within (s .begins)) (p .settlings)) now (registerOf (u .map .offsets) (x .offset)) (x .value) u (λ _. one)
     (λ _. one)
-begins-within (Call.receive now at bs) u w d = cons (moved u w now (early _ u d now refl)) nil
-begins-within (Call.wake now) u w d = cons (woken u w now (early _ u d now refl)) nil
-begins-within (Call.reset now) u w d = cons (powered u w now (early _ u d now refl)) nil
-begins-within (Call.powerDown now) u w d = nil
-begins-within (Call.watch now b) u w d = nil
-begins-within (Call.clockChange now period) u w d =
-    let h : now < dateEnd = early _ u d now refl in
-    cons (moved u w now h) (cons (reclocked u w now period h (clock-low now period u d)) nil)
-begins-within (Call.takeTx now lent) u w d = cons (moved u w now (early _ u d now refl)) nil
-begins-within (Call.takeWritten lent) u w d = nil
-begins-within Call.hasLeft u w d = nil
-begins-within Call.hostPending u w d = nil
+begins-within (Call.at now (Dated.receive date bs)) u w d = cons (moved u w now (early _ u d now refl)) nil
+begins-within (Call.at now (Dated.takeTx lent)) u w d = cons (moved u w now (early _ u d now refl)) nil
+begins-within (Call.at now (Dated.machine m)) u w d = machine-begins now m u w d
+begins-within (Call.undated a) u w d = subst (All (λ s. Within (s .begins))) (sym (undated-settles a u)) nil
 
 -- ---- what the manual says of a settling
 

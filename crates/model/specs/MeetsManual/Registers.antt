@@ -22,7 +22,7 @@ use Rattle.model.specs.Registers.{looks, statusWord, pop, shownIn, readR
 use Rattle.model.specs.Registers.{writeRegister, concluded}
 use Rattle.model.specs.SetUp.{fifoCounts}
 use Rattle.model.specs.Calls.{afterSettling, dated, settleAt, readPlaced, writePlaced, carried}
-use Rattle.model.specs.Call.{Call, Written, reads}
+use Rattle.model.specs.Call.{Dated, Call, Written, reads}
 use Rattle.model.specs.Run.{Step, step}
 use Rattle.model.specs.Laws.Plans.{answering}
 use Rattle.model.specs.Limits.{Within}
@@ -89,7 +89,7 @@ level-kept false p u = readRegister-ind (λ a. a .state .control .level ≡ u .c
 module _ (now : ℕ) (u : Uart ℕ ℕ) (t : InTime now u) where
   -- STATUS bits 0-9 are the bytes held, and bits 16-25 those in the transmit FIFO: all in flight but the one that is being sent
   pub status-read : (offset : ℕ) → registerOf (u .map .offsets) offset ≡ Register.shown Shown.status → Within u
-      → (w : ℕ) × (step (Call.read now offset) u .answer .reply ≡ reads (word w))
+      → (w : ℕ) × (step (Call.at now (Dated.read offset)) u .answer .reply ≡ reads (word w))
       × (RXFIFO-CNT w ≡ length (settled now u .rx)) × (TXFIFO-CNT w ≡ length (settled now u .inFlight) - 1)
   unfolding answering carried readPlaced afterSettling readAt looks decide readLooking readRegister shownIn
   status-read offset e within =
@@ -103,7 +103,7 @@ module _ (now : ℕ) (u : Uart ℕ ℕ) (t : InTime now u) where
 
   -- the level that a read reports is whether INT_ST is other than 0: it is driven as the settling ends, and no read changes it
   pub level-read : (offset : ℕ) (p : Register) → registerOf (u .map .offsets) offset ≡ p
-      → step (Call.read now offset) u .answer .report .level ≡ not (eqb (intStatus (settled now u .control)) 0)
+      → step (Call.at now (Dated.read offset)) u .answer .report .level ≡ not (eqb (intStatus (settled now u .control)) 0)
   unfolding answering carried readPlaced afterSettling readAt report settleAt settle settleTo leveled levels drive intStatus
   level-read offset p e =
       ap (λ (s : Step ℕ ℕ ℕ). s .answer .report .level) (read-answer t offset p e) ∙ level-kept _ p (settled now u)
@@ -111,21 +111,21 @@ module _ (now : ℕ) (u : Uart ℕ ℕ) (t : InTime now u) where
   -- ---- INT_RAW, INT_ENA, INT_ST
 
   pub raw-read : (offset : ℕ) → registerOf (u .map .offsets) offset ≡ Register.shown Shown.intRaw
-      → step (Call.read now offset) u .answer .reply ≡ reads (word (lineOf (settled now u) .«int_raw»))
+      → step (Call.at now (Dated.read offset)) u .answer .reply ≡ reads (word (lineOf (settled now u) .«int_raw»))
   unfolding answering carried readPlaced afterSettling readAt looks decide readLooking readRegister shownIn
   raw-read offset e = ap (λ (s : Step ℕ ℕ ℕ). s .answer .reply) (read-answer t offset (Register.shown Shown.intRaw) e)
 
   pub ena-read : (offset : ℕ) → registerOf (u .map .offsets) offset ≡ Register.stored Word.intEna
-      → step (Call.read now offset) u .answer .reply ≡ reads (word (settled now u .control .words .«int_ena»))
+      → step (Call.at now (Dated.read offset)) u .answer .reply ≡ reads (word (settled now u .control .words .«int_ena»))
   unfolding answering carried readPlaced afterSettling readAt looks decide readLooking readRegister valueOf
   ena-read offset e = ap (λ (s : Step ℕ ℕ ℕ). s .answer .reply) (read-answer t offset (Register.stored Word.intEna) e)
 
   -- INT_ST reads, bit by bit, as what INT_RAW and INT_ENA would have read
   pub status-of-interrupts : (st raw ena : ℕ) → registerOf (u .map .offsets) st ≡ Register.shown Shown.intSt
       → registerOf (u .map .offsets) raw ≡ Register.shown Shown.intRaw → registerOf (u .map .offsets) ena ≡ Register.stored Word.intEna
-      → (w r e : ℕ) × (step (Call.read now st) u .answer .reply ≡ reads (word w))
-      × (step (Call.read now raw) u .answer .reply ≡ reads (word r))
-      × (step (Call.read now ena) u .answer .reply ≡ reads (word e)) × ((n : ℕ) → bit n w ≡ Manual.masked (bit n r) (bit n e))
+      → (w r e : ℕ) × (step (Call.at now (Dated.read st)) u .answer .reply ≡ reads (word w))
+      × (step (Call.at now (Dated.read raw)) u .answer .reply ≡ reads (word r))
+      × (step (Call.at now (Dated.read ena)) u .answer .reply ≡ reads (word e)) × ((n : ℕ) → bit n w ≡ Manual.masked (bit n r) (bit n e))
   unfolding answering carried readPlaced afterSettling readAt looks decide readLooking readRegister shownIn intStatus
   status-of-interrupts st raw ena a b c =
       let v : Uart ℕ ℕ = settled now u in (
@@ -143,7 +143,7 @@ module _ (now : ℕ) (u : Uart ℕ ℕ) (t : InTime now u) where
   -- a write clears exactly its bits, apart from the two levels where they hold
   pub clear-write : (x : Written) → registerOf (u .map .offsets) (x .offset) ≡ Register.intClr → x .value < 2 ^ 32 → (n : ℕ) → n < 32
       → let v : Uart ℕ ℕ = settled now u in
-      rawBit n (step (Call.write now x) u .state)
+      rawBit n (step (Call.at now (Dated.write x)) u .state)
       ≡ (Manual.cleared (rawBit n v) (bit n (x .value))
       || (eqb n 0 && Manual.RXFIFO-FULL (v .control .words .conf1) (length (v .rx)))
       || (eqb n 1 && Manual.TXFIFO-EMPTY (v .control .words .conf1) (length (v .inFlight) - 1)))
@@ -161,7 +161,7 @@ module _ (now : ℕ) (u : Uart ℕ ℕ) (t : InTime now u) where
   -- INT_RAW reads as the settling leaves it, which raises each bit exactly when the manual says. `dated now u` is u with its
   -- last date moved
   pub raw-read-rises : (offset : ℕ) → registerOf (u .map .offsets) offset ≡ Register.shown Shown.intRaw
-      → (step (Call.read now offset) u .answer .reply ≡ reads (word (lineOf (settled now u) .«int_raw»)))
+      → (step (Call.at now (Dated.read offset)) u .answer .reply ≡ reads (word (lineOf (settled now u) .«int_raw»)))
       × FiveBits (dated now u) (settleAt now u .events) (settled now u)
   unfolding settleAt settle settlingDate dated
   raw-read-rises offset e = (raw-read offset e, settling-rises _ (dated now u))

@@ -18,7 +18,7 @@ use Rattle.model.specs.Map.{Register, registerOf}
 use Rattle.model.specs.Registers.{Access, startsAt, goneAt, sent, concluded}
 use Rattle.model.specs.Tests.{sentLimit}
 use Rattle.model.specs.Calls.{afterSettling, dated, settleAt, send, carried}
-use Rattle.model.specs.Call.{Call, Written}
+use Rattle.model.specs.Call.{Dated, Call, Written}
 use Rattle.model.specs.Run.{Step, step}
 use Rattle.model.specs.Laws.Plans.{answering}
 use Rattle.model.specs.Laws.Choose.{choose-true}
@@ -113,7 +113,7 @@ module _ (now : ℕ) (u : Uart ℕ ℕ) (x : Written) (m : Meant (u .control .wo
   -- a byte that is taken has gone a frame after it starts, which is now or when the last one in flight has gone
   pub fifo-write-gone : length (settled now u .inFlight) ≤ 128
       → (time : ℕ) × FrameTime (u .control .words) (u .control .period) m time
-      × (step (Call.write now x) u .state .inFlight
+      × (step (Call.at now (Dated.write x)) u .state .inFlight
       ≡ settled now u .inFlight
       ++ (record { goneAt = after (startsAt (subcycles now) (lastGone (settled now u .inFlight))) time; byte = x .value % 256 } ∷ []))
   unfolding answering carried send afterSettling concluded arm levels sent goneAt
@@ -130,7 +130,7 @@ module _ (now : ℕ) (u : Uart ℕ ℕ) (x : Written) (m : Meant (u .control .wo
   -- with none in flight it has gone at now × 32 and a frame, held at the last date
   pub fifo-write-alone : settled now u .inFlight ≡ []
       → (time : ℕ) × FrameTime (u .control .words) (u .control .period) m time
-      × (step (Call.write now x) u .state .inFlight ≡ record { goneAt = held (now * 32 + time); byte = x .value % 256 } ∷ [])
+      × (step (Call.at now (Dated.write x)) u .state .inFlight ≡ record { goneAt = held (now * 32 + time); byte = x .value % 256 } ∷ [])
   unfolding startsAt lastGone nthGone
   fifo-write-alone alone =
       let (time, lasts, gone) = fifo-write-gone (rw alone (omega arith)) in (

@@ -17,8 +17,8 @@ use Rattle.model.specs.Registers.{storedNotes, sent, dropped, sendByte}
 use Rattle.model.specs.Registers.{storing, clearing, writeRegister, concluded}
 use Rattle.model.specs.Calls
 use Rattle.model.specs.Calls.{afterSettling, undated, carried, filled, quiet, readPlaced, send, writePlaced}
-use Rattle.model.specs.Call.{Call, dateOf, Request, writes, Answer}
-use Rattle.model.specs.Run.{numberOf, stepped, replying, planBy, writing, plan}
+use Rattle.model.specs.Call.{Machine, Dated, Undated, Call, dateOf, Request, writes, Answer}
+use Rattle.model.specs.Run.{numberOf, stepped, replying, machinePlan, planBy, writing, plan}
 use Rattle.model.specs.Laws.Choose.{choose-ind}
 use Rattle.model.specs.Laws.AccessCases.{write-ind, writeRegister-ind}
 use Rattle.model.specs.declared.Source.{Source}
@@ -107,27 +107,31 @@ module _ {H W : Type 0} where
 
 -- ---- calls
 
+machine-proper : (now : ℕ) (m : Machine) (u v : Uart ℕ ℕ) → Proper doneNumber (machinePlan now m u .work v)
+unfolding machinePlan doneNumber quiet Calls.wake Calls.reset Calls.powerDown Calls.watch Calls.clockChange
+machine-proper now Machine.wake u v = record { zero = refl; few = omega arith }
+machine-proper now Machine.reset u v = record { zero = refl; few = omega arith }
+machine-proper now Machine.powerDown u v = record { zero = refl; few = omega arith }
+machine-proper now (Machine.watch b) u v = record { zero = refl; few = omega arith }
+machine-proper now (Machine.clockChange period) u v = record { zero = refl; few = omega arith }
+
 -- what a call does besides its tests and settlings
 work-proper : (c : Request) (u v : Uart ℕ ℕ) → Proper numberOf (plan c u .work v)
 unfolding plan planBy replying writing numberOf doneNumber takenNumber leftNumber pendingNumber filled readAt quiet concluded
-    Calls.read readPlaced Calls.write send writePlaced Calls.receive Calls.wake Calls.reset Calls.powerDown Calls.watch Calls.clockChange
-    Calls.takeTx Calls.takeWritten Calls.hasLeft Calls.hostPending
-work-proper (Call.read now offset) u v =
+    Calls.read readPlaced Calls.write send writePlaced Calls.receive Calls.takeTx Calls.takeWritten Calls.hasLeft Calls.hostPending
+work-proper (Call.at now (Dated.read offset)) u v =
     let p = looking-proper _ (registerOf (u .map .offsets) offset) v in record { zero = p .zero; few = p .few }
-work-proper (Call.write now x) u v =
+work-proper (Call.at now (Dated.write x)) u v =
     write-ind (λ p. Proper (numberOf {L = ℕ}) (replying writes p .work v)) now (registerOf (u .map .offsets) (x .offset)) (x .value) u
     (λ _. let p = send-proper now (x .value % 256) v in record { zero = p .zero; few = p .few })
     (λ _. let p = write-proper (registerOf (u .map .offsets) (x .offset)) (x .value) v in record { zero = p .zero; few = p .few })
-work-proper (Call.receive now at bs) u v = record { zero = refl; few = omega arith }
-work-proper (Call.wake now) u v = record { zero = refl; few = omega arith }
-work-proper (Call.reset now) u v = record { zero = refl; few = omega arith }
-work-proper (Call.powerDown now) u v = record { zero = refl; few = omega arith }
-work-proper (Call.watch now b) u v = record { zero = refl; few = omega arith }
-work-proper (Call.clockChange now period) u v = record { zero = refl; few = omega arith }
-work-proper (Call.takeTx now lent) u v = record { zero = refl; few = omega arith }
-work-proper (Call.takeWritten lent) u v = record { zero = refl; few = omega arith }
-work-proper Call.hasLeft u v = record { zero = refl; few = omega arith }
-work-proper Call.hostPending u v = record { zero = refl; few = omega arith }
+work-proper (Call.at now (Dated.receive date bs)) u v = record { zero = refl; few = omega arith }
+work-proper (Call.at now (Dated.takeTx lent)) u v = record { zero = refl; few = omega arith }
+work-proper (Call.at now (Dated.machine m)) u v =
+    let p = machine-proper now m u v in record { zero = p .zero; few = p .few }
+work-proper (Call.undated (Undated.takeWritten lent)) u v = record { zero = refl; few = omega arith }
+work-proper (Call.undated Undated.hasLeft) u v = record { zero = refl; few = omega arith }
+work-proper (Call.undated Undated.hostPending) u v = record { zero = refl; few = omega arith }
 
 -- number 0, and few notices, in the answer
 pub record Fine (a : Answer ℕ ℕ ℕ) : Type 0 where

@@ -8,7 +8,7 @@ use lib.ListN.{length}
 use Rattle.model.specs.State.{Run, Uart}
 use Rattle.model.specs.Replies.{noReport}
 use Rattle.model.specs.Calls.{carried}
-use Rattle.model.specs.Call.{Call, dateOf, Written, Request}
+use Rattle.model.specs.Call.{Machine, Dated, Undated, Call, dateOf, Written, Request}
 use Rattle.model.specs.Run.{Step, stepped, plan}
 use Rattle.model.specs.Limits.{All}
 use Rattle.model.specs.declared.Refusal.{Refusal}
@@ -23,18 +23,18 @@ pub data Condition (u : Uart ℕ ℕ) : Refusal → Request → Type 0 where
   number3 : {c : Request} {now : ℕ} → dateOf c ≡ some now → now < u .control .last → Condition u DateWentBack c
   -- 4: FIFO write: bytes left and in flight total 1,152. FIFO's offset is the first of the map
   number4 : {now : ℕ} {x : Written} {others : List ℕ} → u .map .offsets ≡ x .offset ∷ others → 1152 ≤ length (u .tx) + length (u .inFlight)
-      → Condition u TransmitFull (Call.write now x)
+      → Condition u TransmitFull (Call.at now (Dated.write x))
   -- 5: receive: waiting host bytes plus new ones exceed 1,024
-  number5 : {now at : ℕ} {bs : List ℕ} → 1024 < length (u .host) + length bs → Condition u HostFull (Call.receive now at bs)
+  number5 : {now at : ℕ} {bs : List ℕ} → 1024 < length (u .host) + length bs → Condition u HostFull (Call.at now (Dated.receive at bs))
   -- 6: receive of a byte or more: 64 runs wait and the date, max(its cycle, now) × 32 held at 2^64 - 1, is later than the last run's
   number6 : {now at : ℕ} {bs : List ℕ} (runs : List Run) (r : Run) → 1 ≤ length bs → 64 ≤ length (u .hostRuns)
       → u .hostRuns ≡ runs ++ (r ∷ [])
-      → r .date < min (max at now * 32) (2 ^ 64 - 1) → Condition u RunsFull (Call.receive now at bs)
+      → r .date < min (max at now * 32) (2 ^ 64 - 1) → Condition u RunsFull (Call.at now (Dated.receive at bs))
   -- 7: clock change: period above 1,000,000
-  number7 : {now period : ℕ} → 1000000 < period → Condition u PeriodTooLong (Call.clockChange now period)
+  number7 : {now period : ℕ} → 1000000 < period → Condition u PeriodTooLong (Call.at now (Dated.machine (Machine.clockChange period)))
   -- 8: take_tx, take_written: lent buffer below 1,152 bytes
-  number8 : {now : ℕ} {lent : List ℕ} → length lent < 1152 → Condition u BufferTooShort (Call.takeTx now lent)
-  number8′ : {lent : List ℕ} → length lent < 1152 → Condition u BufferTooShort (Call.takeWritten lent)
+  number8 : {now : ℕ} {lent : List ℕ} → length lent < 1152 → Condition u BufferTooShort (Call.at now (Dated.takeTx lent))
+  number8′ : {lent : List ℕ} → length lent < 1152 → Condition u BufferTooShort (Call.undated (Undated.takeWritten lent))
 
 -- the tests run in the order 2, 3, 7, 8, 4, 5, 6
 abbrev pub order : List Refusal

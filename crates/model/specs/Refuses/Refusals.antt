@@ -16,8 +16,8 @@ use Rattle.model.specs.Tests.{refuseDate}
 use Rattle.model.specs.Calls
 use Rattle.model.specs.Calls.{refusalBy, refusing, unless, carried, outcome, lastDate, hostDate, notTaken, readPlaced, writePlaced}
 use Rattle.model.specs.Calls.{send, writeAt}
-use Rattle.model.specs.Call.{Call, dateOf, Written, Request}
-use Rattle.model.specs.Run.{numberOf, stepped, replying, planBy, writing, plan, step}
+use Rattle.model.specs.Call.{Machine, Dated, Undated, Call, dateOf, Written, Request}
+use Rattle.model.specs.Run.{numberOf, stepped, replying, machinePlan, planBy, writing, plan, step}
 use Rattle.model.specs.Limits.{All, nil, cons}
 use Rattle.model.specs.Ends.Passes.{apart}
 use Rattle.model.specs.Laws.AccessCases.{write-ind}
@@ -142,7 +142,7 @@ module _ (u : Uart ℕ ℕ) (now at : ℕ) (bs : List ℕ) where
   tooMany : Bool
   tooMany = runsFull (length bs) (length (u .hostRuns)) (lastDate (u .hostRuns)) (hostDate now at)
 
-  number6-yes : tooMany ≡ true → Condition u RunsFull (Call.receive now at bs)
+  number6-yes : tooMany ≡ true → Condition u RunsFull (Call.at now (Dated.receive at bs))
   unfolding tooMany hostDate
   number6-yes h =
       let t : (1 ≤ length bs) × (64 ≤ length (u .hostRuns)) × (lastDate (u .hostRuns) < hostDate now at) = runs-yes _ _ _ _ h in
@@ -150,25 +150,25 @@ module _ (u : Uart ℕ ℕ) (now at : ℕ) (bs : List ℕ) where
       number6 {now = now} {at = at} (l .runs) (l .run) (t .0) (t .1) (l .is)
       (omega (arith, ap lastDate (l .is), last-date (l .runs) (l .run)))
 
-  number6-no : tooMany ≡ false → ¬ Condition u RunsFull (Call.receive now at bs)
+  number6-no : tooMany ≡ false → ¬ Condition u RunsFull (Call.at now (Dated.receive at bs))
   unfolding tooMany hostDate
   number6-no h (number6 runs r some-byte full is lt) =
       runs-no _ _ _ _ h some-byte full (omega (arith, ap lastDate is, last-date runs r))
 
-  from5 : Condition u HostFull (Call.receive now at bs) → 1024 < length (u .host) + length bs
+  from5 : Condition u HostFull (Call.at now (Dated.receive at bs)) → 1024 < length (u .host) + length bs
   from5 (number5 lt) = lt
 
 module _ (u : Uart ℕ ℕ) where
-  from4 : {now : ℕ} {x : Written} → Condition u TransmitFull (Call.write now x) → 1152 ≤ length (u .tx) + length (u .inFlight)
+  from4 : {now : ℕ} {x : Written} → Condition u TransmitFull (Call.at now (Dated.write x)) → 1152 ≤ length (u .tx) + length (u .inFlight)
   from4 (number4 is le) = le
 
-  from7 : {now period : ℕ} → Condition u PeriodTooLong (Call.clockChange now period) → 1000000 < period
+  from7 : {now period : ℕ} → Condition u PeriodTooLong (Call.at now (Dated.machine (Machine.clockChange period))) → 1000000 < period
   from7 (number7 lt) = lt
 
-  from8 : {now : ℕ} {lent : List ℕ} → Condition u BufferTooShort (Call.takeTx now lent) → length lent < 1152
+  from8 : {now : ℕ} {lent : List ℕ} → Condition u BufferTooShort (Call.at now (Dated.takeTx lent)) → length lent < 1152
   from8 (number8 lt) = lt
 
-  from8′ : {lent : List ℕ} → Condition u BufferTooShort (Call.takeWritten lent) → length lent < 1152
+  from8′ : {lent : List ℕ} → Condition u BufferTooShort (Call.undated (Undated.takeWritten lent)) → length lent < 1152
   from8′ (number8′ lt) = lt
 
 -- ---- each call
@@ -181,15 +181,15 @@ module _ (now : ℕ) (x : Written) (u : Uart ℕ ℕ) where
   abbrev register : Register
   register = registerOf (u .map .offsets) (x .offset)
 
-  not-fifo : isFifo register ≡ false → ¬ Condition u TransmitFull (Call.write now x)
+  not-fifo : isFifo register ≡ false → ¬ Condition u TransmitFull (Call.at now (Dated.write x))
   unfolding decide
   not-fifo h (number4 {others = os} is le) =
       let f : isFifo register ≡ true = ap isFifo (ap (λ l. registerOf l (x .offset)) is ∙ first-is-fifo (x .offset) os) in apart (cc)
 
-  write-verdict : Verdict (λ q. Condition u q (Call.write now x)) order
+  write-verdict : Verdict (λ q. Condition u q (Call.at now (Dated.write x))) order
       (refuseDate now (u .control) (writeAt now register (x .value) u .test))
   unfolding send writePlaced transmitFull dateOf
-  write-verdict = write-ind (λ p. Verdict (λ q. Condition u q (Call.write now x)) order (refuseDate now (u .control) (p .test)))
+  write-verdict = write-ind (λ p. Verdict (λ q. Condition u q (Call.at now (Dated.write x))) order (refuseDate now (u .control) (p .test)))
       now register (x .value) u
       (λ e. dates _ u now _ refl (skip (elim [ ]) (skip (elim [ ])
       (tested-le 1152 _ TransmitFull (number4 (fifo-is-first (u .map .offsets) (x .offset) e .1)) (from4 u)
@@ -197,31 +197,35 @@ module _ (now : ℕ) (x : Written) (u : Uart ℕ ℕ) where
       (λ e. dates _ u now none refl (no-other (elim [ ]) (elim [ ]) (not-fifo e) (elim [ ]) (elim [ ])))
 
 -- the tests of each call
-verdict : (c : Request) (u : Uart ℕ ℕ) → Verdict (λ q. Condition u q c) order (refusalBy (dateOf c) (plan c u .test) (u .control))
-unfolding plan planBy replying writing dateOf hostFull bufferTooShort tooMany
-    Calls.read readPlaced Calls.write Calls.receive Calls.wake Calls.reset Calls.powerDown Calls.watch Calls.clockChange Calls.takeTx
-    Calls.takeWritten Calls.hasLeft Calls.hostPending
-verdict (Call.read now offset) u = dates _ u now none refl (no-other (elim [ ]) (elim [ ]) (elim [ ]) (elim [ ]) (elim [ ]))
-verdict (Call.write now x) u = write-verdict now x u
-verdict (Call.receive now at bs) u =
-    dates _ u now _ refl (skip (elim [ ]) (skip (elim [ ]) (skip (elim [ ])
-    (tested-lt 1024 _ HostFull number5 (from5 u now at bs)
-    (tested _ RunsFull (number6-yes u now at bs) (number6-no u now at bs) (clear nil))))))
-verdict (Call.wake now) u = dates _ u now none refl (no-other (elim [ ]) (elim [ ]) (elim [ ]) (elim [ ]) (elim [ ]))
-verdict (Call.reset now) u = dates _ u now none refl (no-other (elim [ ]) (elim [ ]) (elim [ ]) (elim [ ]) (elim [ ]))
-verdict (Call.powerDown now) u = dates _ u now none refl (no-other (elim [ ]) (elim [ ]) (elim [ ]) (elim [ ]) (elim [ ]))
-verdict (Call.watch now b) u = dates _ u now none refl (no-other (elim [ ]) (elim [ ]) (elim [ ]) (elim [ ]) (elim [ ]))
-verdict (Call.clockChange now period) u =
+machine-verdict : (now : ℕ) (m : Machine) (u : Uart ℕ ℕ)
+    → Verdict (λ q. Condition u q (Call.at now (Dated.machine m))) order (refuseDate now (u .control) (machinePlan now m u .test))
+unfolding machinePlan dateOf Calls.wake Calls.reset Calls.powerDown Calls.watch Calls.clockChange
+machine-verdict now Machine.wake u = dates _ u now none refl (no-other (elim [ ]) (elim [ ]) (elim [ ]) (elim [ ]) (elim [ ]))
+machine-verdict now Machine.reset u = dates _ u now none refl (no-other (elim [ ]) (elim [ ]) (elim [ ]) (elim [ ]) (elim [ ]))
+machine-verdict now Machine.powerDown u = dates _ u now none refl (no-other (elim [ ]) (elim [ ]) (elim [ ]) (elim [ ]) (elim [ ]))
+machine-verdict now (Machine.watch b) u = dates _ u now none refl (no-other (elim [ ]) (elim [ ]) (elim [ ]) (elim [ ]) (elim [ ]))
+machine-verdict now (Machine.clockChange period) u =
     dates _ u now _ refl (tested-lt 1000000 period PeriodTooLong number7 (from7 u)
     (skip (elim [ ]) (skip (elim [ ]) (skip (elim [ ]) (skip (elim [ ]) (clear nil))))))
-verdict (Call.takeTx now lent) u =
+
+verdict : (c : Request) (u : Uart ℕ ℕ) → Verdict (λ q. Condition u q c) order (refusalBy (dateOf c) (plan c u .test) (u .control))
+unfolding plan planBy replying writing dateOf hostFull bufferTooShort tooMany
+    Calls.read readPlaced Calls.write Calls.receive Calls.takeTx Calls.takeWritten Calls.hasLeft Calls.hostPending
+verdict (Call.at now (Dated.read offset)) u = dates _ u now none refl (no-other (elim [ ]) (elim [ ]) (elim [ ]) (elim [ ]) (elim [ ]))
+verdict (Call.at now (Dated.write x)) u = write-verdict now x u
+verdict (Call.at now (Dated.receive date bs)) u =
+    dates _ u now _ refl (skip (elim [ ]) (skip (elim [ ]) (skip (elim [ ])
+    (tested-lt 1024 _ HostFull number5 (from5 u now date bs)
+    (tested _ RunsFull (number6-yes u now date bs) (number6-no u now date bs) (clear nil))))))
+verdict (Call.at now (Dated.takeTx lent)) u =
     dates _ u now _ refl (skip (elim [ ]) (tested-lt (length lent) 1152 BufferTooShort number8 (from8 u)
     (skip (elim [ ]) (skip (elim [ ]) (skip (elim [ ]) (clear nil))))))
-verdict (Call.takeWritten lent) u =
+verdict (Call.at now (Dated.machine m)) u = machine-verdict now m u
+verdict (Call.undated (Undated.takeWritten lent)) u =
     undated _ u _ refl (skip (elim [ ]) (tested-lt (length lent) 1152 BufferTooShort number8′ (from8′ u)
     (skip (elim [ ]) (skip (elim [ ]) (skip (elim [ ]) (clear nil))))))
-verdict Call.hasLeft u = undated _ u none refl (no-other (elim [ ]) (elim [ ]) (elim [ ]) (elim [ ]) (elim [ ]))
-verdict Call.hostPending u = undated _ u none refl (no-other (elim [ ]) (elim [ ]) (elim [ ]) (elim [ ]) (elim [ ]))
+verdict (Call.undated Undated.hasLeft) u = undated _ u none refl (no-other (elim [ ]) (elim [ ]) (elim [ ]) (elim [ ]) (elim [ ]))
+verdict (Call.undated Undated.hostPending) u = undated _ u none refl (no-other (elim [ ]) (elim [ ]) (elim [ ]) (elim [ ]) (elim [ ]))
 
 -- every call is refused or carried out, as document 01's table and order say
 pub step-result : (c : Request) (u : Uart ℕ ℕ) → Result c u (step c u)
@@ -232,22 +236,25 @@ step-result c u = ends c u _ (verdict c u)
 never : {P : Refusal → Type 0} {rs : List Refusal} {r : Refusal} → Verdict P rs none → First P rs r → ⊥
 never (clear n) f = first-none f n
 
+machine-refuses : (now : ℕ) (m : Machine) (u : Uart ℕ ℕ) (r : Refusal) → doneNumber (machinePlan now m u .refuses r) ≡ number r
+unfolding machinePlan doneNumber Calls.wake Calls.reset Calls.powerDown Calls.watch Calls.clockChange
+machine-refuses now Machine.wake u r = refl
+machine-refuses now Machine.reset u r = refl
+machine-refuses now Machine.powerDown u r = refl
+machine-refuses now (Machine.watch b) u r = refl
+machine-refuses now (Machine.clockChange period) u r = refl
+
 -- the reply of a refused call has its number
 pub refuses-number : (c : Request) (u : Uart ℕ ℕ) (r : Refusal) → First (λ q. Condition u q c) order r
     → numberOf (plan c u .refuses r) ≡ number r
 unfolding plan planBy replying writing numberOf readNumber writeNumber doneNumber takenNumber notTaken dateOf
-    Calls.read readPlaced Calls.write send writePlaced Calls.receive Calls.wake Calls.reset Calls.powerDown Calls.watch Calls.clockChange
-    Calls.takeTx Calls.takeWritten Calls.hasLeft Calls.hostPending
-refuses-number (Call.read now offset) u r f = refl
-refuses-number (Call.write now x) u r f =
+    Calls.read readPlaced Calls.write send writePlaced Calls.receive Calls.takeTx Calls.takeWritten Calls.hasLeft Calls.hostPending
+refuses-number (Call.at now (Dated.read offset)) u r f = refl
+refuses-number (Call.at now (Dated.write x)) u r f =
     write-ind (λ p. writeNumber (p .refuses r) ≡ number r) now _ (x .value) u (λ _. refl) (λ _. refl)
-refuses-number (Call.receive now at bs) u r f = refl
-refuses-number (Call.wake now) u r f = refl
-refuses-number (Call.reset now) u r f = refl
-refuses-number (Call.powerDown now) u r f = refl
-refuses-number (Call.watch now b) u r f = refl
-refuses-number (Call.clockChange now period) u r f = refl
-refuses-number (Call.takeTx now lent) u r f = refl
-refuses-number (Call.takeWritten lent) u r f = refl
-refuses-number Call.hasLeft u r f = absurd (never (verdict Call.hasLeft u) f)
-refuses-number Call.hostPending u r f = absurd (never (verdict Call.hostPending u) f)
+refuses-number (Call.at now (Dated.receive date bs)) u r f = refl
+refuses-number (Call.at now (Dated.takeTx lent)) u r f = refl
+refuses-number (Call.at now (Dated.machine m)) u r f = machine-refuses now m u r
+refuses-number (Call.undated (Undated.takeWritten lent)) u r f = refl
+refuses-number (Call.undated Undated.hasLeft) u r f = absurd (never (verdict (Call.undated Undated.hasLeft) u) f)
+refuses-number (Call.undated Undated.hostPending) u r f = absurd (never (verdict (Call.undated Undated.hostPending) u) f)

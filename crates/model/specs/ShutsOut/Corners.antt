@@ -21,8 +21,8 @@ use Rattle.model.specs.Map.{Word, Register, registerOf}
 use Rattle.model.specs.Registers.{resetFifos, storing, writeRegister, concluded}
 use Rattle.model.specs.Calls
 use Rattle.model.specs.Calls.{afterSettling, quiet, dated, settleAt, handOver, cleared, clearedLine, writePlaced, carried}
-use Rattle.model.specs.Call.{Call, dateOf, Written}
-use Rattle.model.specs.Run.{Step, numberOf, stepped, replying, planBy, plan, step}
+use Rattle.model.specs.Call.{Machine, Dated, Call, dateOf, Written}
+use Rattle.model.specs.Run.{Step, numberOf, stepped, replying, machinePlan, planBy, plan, step}
 use Rattle.model.specs.Laws.Plans.{answering}
 use Rattle.model.specs.Laws.Choose.{choose-true}
 use Rattle.model.specs.Keeps.Kept.{settle-keeps}
@@ -42,14 +42,14 @@ no-bit n = ap (λ (x : ℕ). eqb (x % 2) 1) (zero-div (2 ^ n))
 never-above : (n threshold : ℕ) → (eqb n 0 && ltb threshold 0) ≡ false
 never-above n threshold = ap (λ (b : Bool). eqb n 0 && b) (le-ltb threshold 0 (omega arith)) ∙ and-false (eqb n 0)
 
-module _ (now : ℕ) (u : Uart ℕ ℕ) (done : numberOf (step (Call.reset now) u .answer .reply) ≡ 0) where
+module _ (now : ℕ) (u : Uart ℕ ℕ) (done : numberOf (step (Call.at now (Dated.machine Machine.reset)) u .answer .reply) ≡ 0) where
   -- the state that it works on: power-down ended, and settled
   abbrev found : Uart ℕ ℕ
   found = settle now (dated now (withControl (withPoweredDownAt Date.None (u .control)) u)) .state
 
-  reset-is : step (Call.reset now) u .state ≡ arm (levels (cleared found))
-  unfolding stepped carried afterSettling dateOf plan planBy replying quiet Calls.reset
-  reset-is = ap (λ (s : Step ℕ ℕ ℕ). s .state) (done-carried (Call.reset now) u done)
+  reset-is : step (Call.at now (Dated.machine Machine.reset)) u .state ≡ arm (levels (cleared found))
+  unfolding stepped carried afterSettling dateOf plan machinePlan planBy replying quiet Calls.reset
+  reset-is = ap (λ (s : Step ℕ ℕ ℕ). s .state) (done-carried (Call.at now (Dated.machine Machine.reset)) u done)
 
   found-map : found .map ≡ u .map
   unfolding dated
@@ -57,7 +57,7 @@ module _ (now : ℕ) (u : Uart ℕ ℕ) (done : numberOf (step (Call.reset now) 
 
   -- bytes in flight and received go, the idle line closes, a mistimed reception is forgotten, the words are those of reset, and
   -- power-down has ended
-  pub reset-drops : let v : Uart ℕ ℕ = step (Call.reset now) u .state in
+  pub reset-drops : let v : Uart ℕ ℕ = step (Call.at now (Dated.machine Machine.reset)) u .state in
       (v .inFlight ≡ []) × (v .rx ≡ []) × (lineOf v .«idle_since» ≡ Date.None) × (lineOf v .«rx_mistimed» ≡ Source.None)
       × (v .control .words ≡ u .map .reset) × (v .control .«powered_down_at» ≡ Date.None)
   unfolding arm levels drive assertLevels raiseIf cleared clearedLine dated
@@ -71,7 +71,7 @@ module _ (now : ℕ) (u : Uart ℕ ℕ) (done : numberOf (step (Call.reset now) 
   )
 
   -- host bytes, the byte on the line, when the line is free, bytes that left and the watch mark stay
-  pub reset-keeps : let v : Uart ℕ ℕ = step (Call.reset now) u .state in
+  pub reset-keeps : let v : Uart ℕ ℕ = step (Call.at now (Dated.machine Machine.reset)) u .state in
       (v .host ≡ found .host) × (v .hostRuns ≡ found .hostRuns) × (v .receiving ≡ found .receiving)
       × (lineOf v .«line_free_at» ≡ lineOf found .«line_free_at») × (v .tx ≡ found .tx)
       × (v .control .watched ≡ found .control .watched)
@@ -86,13 +86,13 @@ module _ (now : ℕ) (u : Uart ℕ ℕ) (done : numberOf (step (Call.reset now) 
   )
 
   -- the wake that was armed stays, and the instants that ask for one are armed
-  pub reset-wake : step (Call.reset now) u .state .control .wake ≡ armAll (instants (levels (cleared found))) (u .control .wake)
+  pub reset-wake : step (Call.at now (Dated.machine Machine.reset)) u .state .control .wake ≡ armAll (instants (levels (cleared found))) (u .control .wake)
   unfolding arm levels drive assertLevels cleared dated
   reset-wake =
       ap (λ v. v .control .wake) reset-is ∙ ap (armAll (instants (levels (cleared found)))) (settle-keeps now _ .wake)
 
   -- INT_RAW is cleared, and then has only what the level rules raise: of empty FIFOs TXFIFO_EMPTY, by the threshold that reset gives
-  pub reset-raw : (n : ℕ) → rawBit n (step (Call.reset now) u .state)
+  pub reset-raw : (n : ℕ) → rawBit n (step (Call.at now (Dated.machine Machine.reset)) u .state)
       ≡ (eqb n 1 && Manual.TXFIFO-EMPTY (u .map .reset .conf1) 0)
   unfolding arm cleared clearedLine aboveFull belowEmpty inFifo emptyThreshold Manual.TXFIFO-EMPTY
   reset-raw n =
@@ -103,23 +103,23 @@ module _ (now : ℕ) (u : Uart ℕ ℕ) (done : numberOf (step (Call.reset now) 
 -- ---- calls that arm nothing
 
 -- an empty hand-over settles, and the wake stays
-pub empty-receive-arms-nothing : (now at : ℕ) (u : Uart ℕ ℕ) → numberOf (step (Call.receive now at []) u .answer .reply) ≡ 0
-    → step (Call.receive now at []) u .state ≡ settled now u
+pub empty-receive-arms-nothing : (now date : ℕ) (u : Uart ℕ ℕ) → numberOf (step (Call.at now (Dated.receive date [])) u .answer .reply) ≡ 0
+    → step (Call.at now (Dated.receive date [])) u .state ≡ settled now u
 unfolding stepped carried afterSettling dateOf plan planBy replying quiet handOver Calls.receive
-empty-receive-arms-nothing now at u done = ap (λ (s : Step ℕ ℕ ℕ). s .state) (done-carried (Call.receive now at []) u done)
+empty-receive-arms-nothing now date u done = ap (λ (s : Step ℕ ℕ ℕ). s .state) (done-carried (Call.at now (Dated.receive date [])) u done)
 
 -- so does taking what left
-pub take-arms-nothing : (now : ℕ) (lent : List ℕ) (u : Uart ℕ ℕ) → numberOf (step (Call.takeTx now lent) u .answer .reply) ≡ 0
-    → step (Call.takeTx now lent) u .state .control ≡ settled now u .control
+pub take-arms-nothing : (now : ℕ) (lent : List ℕ) (u : Uart ℕ ℕ) → numberOf (step (Call.at now (Dated.takeTx lent)) u .answer .reply) ≡ 0
+    → step (Call.at now (Dated.takeTx lent)) u .state .control ≡ settled now u .control
 unfolding stepped carried afterSettling dateOf plan planBy replying quiet Calls.takeTx
-take-arms-nothing now lent u done = ap (λ (s : Step ℕ ℕ ℕ). s .state .control) (done-carried (Call.takeTx now lent) u done)
+take-arms-nothing now lent u done = ap (λ (s : Step ℕ ℕ ℕ). s .state .control) (done-carried (Call.at now (Dated.takeTx lent)) u done)
 
 -- ---- CONF0 with TXFIFO_RST
 
 -- one byte stays in flight, the one in the shift register
 pub txfifo-rst-keeps-one : (now : ℕ) (u : Uart ℕ ℕ) (x : Written) (t : InTime now u)
     → registerOf (u .map .offsets) (x .offset) ≡ Register.stored Word.conf0 → bit 18 (x .value) ≡ true
-    → step (Call.write now x) u .state .inFlight ≡ take 1 (settled now u .inFlight)
+    → step (Call.at now (Dated.write x)) u .state .inFlight ≡ take 1 (settled now u .inFlight)
 unfolding answering carried writePlaced afterSettling concluded writeRegister storing resetFifos arm levels choose decide
 txfifo-rst-keeps-one now u x t e rst =
     ap (λ (s : Step ℕ ℕ ℕ). s .state .inFlight) (conf0-answer now u x t e)

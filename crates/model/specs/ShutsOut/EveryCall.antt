@@ -1,6 +1,6 @@
 -- How to prove of every call that it leads from one state to a next: from what a settling does, what raising levels does, and
 -- what holds of changes elsewhere. Assumes nothing.
-use mathlib.Core.Path.{_≡_, refl}
+use mathlib.Core.Path.{_≡_, refl, ap}
 use Prim.Native.Nat.{ℕ, _%_, _≤_}
 use native.Mathlib.Omega.{arith}
 use mathlib.Core.Bool.{Bool, true, false}
@@ -18,8 +18,8 @@ use Rattle.model.specs.Registers.{storing, clearing, resetFifos, writeRe
 use Rattle.model.specs.Calls
 use Rattle.model.specs.Calls.{Outcome, Plan, refusing, undated, carried, outcome, quiet, filled, settleAt, dated, clocked, hostDate}
 use Rattle.model.specs.Calls.{cleared, handOver, afterSettling, writePlaced, send}
-use Rattle.model.specs.Call.{Call, dateOf, Written, Request, Reply}
-use Rattle.model.specs.Run.{stepped, replying, planBy, writing, plan, step}
+use Rattle.model.specs.Call.{Machine, Dated, Undated, Call, dateOf, Written, Request, Reply}
+use Rattle.model.specs.Run.{stepped, replying, machinePlan, planBy, writing, plan, step}
 use Rattle.model.specs.Laws.Choose.{choose-ind}
 use Rattle.model.specs.Laws.AccessCases.{write-ind, unless-ind, writeRegister-ind, readRegister-ind}
 use Rattle.model.specs.declared.Date.{Date}
@@ -144,32 +144,40 @@ module _ (now : ℕ) (R : Uart ℕ ℕ → Uart ℕ ℕ → Type 0) (k : Walk (s
       (k .on (cleared w) (levels (cleared w)) _ (k .raising (cleared w)) (k .alike (levels (cleared w)) _ refl))))
 
 -- what each call does where it is not refused
+machine-walk : (now : ℕ) (m : Machine) (u : Uart ℕ ℕ) (R : Uart ℕ ℕ → Uart ℕ ℕ → Type 0) → Walk (some now) R
+    → (m ≡ Machine.reset → (s : Uart ℕ ℕ) → R s (cleared s)) → R u (carried (some now) (machinePlan now m u) u .state)
+unfolding machinePlan carried afterSettling quiet arm dated Calls.powerDown Calls.watch
+machine-walk now Machine.wake u R k rst = walk-wake now R k u
+machine-walk now Machine.reset u R k rst = walk-reset now R k u (rst refl)
+machine-walk now Machine.powerDown u R k rst = k .alike u _ refl
+machine-walk now (Machine.watch b) u R k rst = k .alike u _ refl
+machine-walk now (Machine.clockChange p) u R k rst = walk-clock now R k p u
+
 carried-walk : (c : Request) (u : Uart ℕ ℕ) (R : Uart ℕ ℕ → Uart ℕ ℕ → Type 0) → Walk (dateOf c) R
-    → ((now : ℕ) (x : Written) → c ≡ Call.write now x → registerOf (u .map .offsets) (x .offset) ≡ Register.intClr
-    → (v : ℕ) (s : Uart ℕ ℕ) → R s (clearing v s .state)) → ((now : ℕ) → c ≡ Call.reset now → (s : Uart ℕ ℕ) → R s (cleared s))
+    → ((now : ℕ) (x : Written) → c ≡ Call.at now (Dated.write x) → registerOf (u .map .offsets) (x .offset) ≡ Register.intClr
+    → (v : ℕ) (s : Uart ℕ ℕ) → R s (clearing v s .state))
+    → ((now : ℕ) → c ≡ Call.at now (Dated.machine Machine.reset) → (s : Uart ℕ ℕ) → R s (cleared s))
     → R u (carried (dateOf c) (plan c u) u .state)
-unfolding dateOf plan planBy replying carried afterSettling undated writing quiet arm dated Calls.read Calls.readPlaced Calls.receive
-    Calls.wake Calls.powerDown Calls.watch Calls.clockChange Calls.reset Calls.takeTx Calls.takeWritten Calls.hasLeft Calls.hostPending
-carried-walk (Call.read now r) u R k clr rst =
+unfolding dateOf plan planBy replying carried afterSettling undated writing quiet Calls.read Calls.readPlaced Calls.receive
+    Calls.takeTx Calls.takeWritten Calls.hasLeft Calls.hostPending
+carried-walk (Call.at now (Dated.read r)) u R k clr rst =
     let p : Register = registerOf (u .map .offsets) r in walk-after now R k u (readAt p) (walk-read now R k p)
-carried-walk (Call.write now x) u R k clr rst = walk-write now R k x u (clr now x refl)
-carried-walk (Call.receive now at bs) u R k clr rst =
-    walk-after now R k u (λ s. quiet Done.Done (handOver (hostDate now at) bs s)) (walk-hand-over now R k _ bs)
-carried-walk (Call.wake now) u R k clr rst = walk-wake now R k u
-carried-walk (Call.reset now) u R k clr rst = walk-reset now R k u (rst now refl)
-carried-walk (Call.powerDown now) u R k clr rst = k .alike u _ refl
-carried-walk (Call.watch now b) u R k clr rst = k .alike u _ refl
-carried-walk (Call.clockChange now p) u R k clr rst = walk-clock now R k p u
-carried-walk (Call.takeTx now lent) u R k clr rst =
+carried-walk (Call.at now (Dated.write x)) u R k clr rst = walk-write now R k x u (clr now x refl)
+carried-walk (Call.at now (Dated.receive date bs)) u R k clr rst =
+    walk-after now R k u (λ s. quiet Done.Done (handOver (hostDate now date) bs s)) (walk-hand-over now R k _ bs)
+carried-walk (Call.at now (Dated.takeTx lent)) u R k clr rst =
     walk-after now R k u (λ s. quiet (filled (s .tx) lent) (withTx [] s)) (λ v. k .alike v _ refl)
-carried-walk (Call.takeWritten lent) u R k clr rst = k .alike u _ refl
-carried-walk Call.hasLeft u R k clr rst = k .alike u u refl
-carried-walk Call.hostPending u R k clr rst = k .alike u u refl
+carried-walk (Call.at now (Dated.machine m)) u R k clr rst =
+    machine-walk now m u R k (λ e. rst now (ap (λ n. Call.at now (Dated.machine n)) e))
+carried-walk (Call.undated (Undated.takeWritten lent)) u R k clr rst = k .alike u _ refl
+carried-walk (Call.undated Undated.hasLeft) u R k clr rst = k .alike u u refl
+carried-walk (Call.undated Undated.hostPending) u R k clr rst = k .alike u u refl
 
 -- every call leads from its state to the next
 pub every-call : (c : Request) (u : Uart ℕ ℕ) (R : Uart ℕ ℕ → Uart ℕ ℕ → Type 0) → Walk (dateOf c) R
-    → ((now : ℕ) (x : Written) → c ≡ Call.write now x → registerOf (u .map .offsets) (x .offset) ≡ Register.intClr
-    → (v : ℕ) (s : Uart ℕ ℕ) → R s (clearing v s .state)) → ((now : ℕ) → c ≡ Call.reset now → (s : Uart ℕ ℕ) → R s (cleared s))
+    → ((now : ℕ) (x : Written) → c ≡ Call.at now (Dated.write x) → registerOf (u .map .offsets) (x .offset) ≡ Register.intClr
+    → (v : ℕ) (s : Uart ℕ ℕ) → R s (clearing v s .state))
+    → ((now : ℕ) → c ≡ Call.at now (Dated.machine Machine.reset) → (s : Uart ℕ ℕ) → R s (cleared s))
     → R u (step c u .state)
 unfolding step stepped outcome refusing
 every-call c u R k clr rst =

@@ -17,7 +17,7 @@ use Rattle.model.specs.Map.{Register, registerOf}
 use Rattle.model.specs.Registers.{Access, sendByte, sent, dropped, storing, clearing, resetFifos, writeRegister, concluded}
 use Rattle.model.specs.Calls
 use Rattle.model.specs.Calls.{carried, clearedLine, cleared, settleAt, afterSettling, send, writePlaced}
-use Rattle.model.specs.Call.{Call, dateOf, Written, Request, writes}
+use Rattle.model.specs.Call.{Machine, Dated, Call, dateOf, Written, Request, writes}
 use Rattle.model.specs.Run.{Step, numberOf, stepped, replying, planBy, writing, plan, step}
 use Rattle.model.specs.Laws.Choose.{choose-ind}
 use Rattle.model.specs.Laws.Cases.{passes-on}
@@ -51,13 +51,13 @@ module _ {H W : Type 0} where
   send-line now b u = choose-ind (λ (a : Access Write H W). onLine (a .state) ≡ onLine u) _ (λ _. refl) (λ _. refl)
 
 -- whatever is written wherever, the byte on the line and its landing date are as settling leaves them: CLKDIV too gives it no new rate
-pub write-leaves-line : (now : ℕ) (x : Written) (u : Uart ℕ ℕ) → numberOf (step (Call.write now x) u .answer .reply) ≡ 0
-    → onLine (step (Call.write now x) u .state) ≡ onLine (settleAt now u .state)
+pub write-leaves-line : (now : ℕ) (x : Written) (u : Uart ℕ ℕ) → numberOf (step (Call.at now (Dated.write x)) u .answer .reply) ≡ 0
+    → onLine (step (Call.at now (Dated.write x)) u .state) ≡ onLine (settleAt now u .state)
 unfolding stepped plan planBy replying carried dateOf writing Calls.write send writePlaced afterSettling
 write-leaves-line now x u done =
     let p : Register = registerOf (u .map .offsets) (x .offset) in
     let v : Uart ℕ ℕ = settleAt now u .state in
-    ap (λ (s : Step ℕ ℕ ℕ). onLine (s .state)) (done-carried (Call.write now x) u done)
+    ap (λ (s : Step ℕ ℕ ℕ). onLine (s .state)) (done-carried (Call.at now (Dated.write x)) u done)
     ∙ write-ind (λ q. onLine (carried (some now) (replying {L = ℕ} writes q) u .state) ≡ onLine v) now p (x .value) u
     (λ _. concluded-line (sendByte now (x .value % 256) v) ∙ send-line now (x .value % 256) v)
     (λ _. concluded-line (writeRegister p (x .value) v) ∙ register-line (x .value) v p)
@@ -150,6 +150,6 @@ set-walk d = record {
 
 -- RXFIFO_FULL and every other bit of INT_RAW, once set, falls only by a write to INT_CLR and by reset: no FIFO read lowers it
 pub no-bit-falls : (c : Request) (u : Uart ℕ ℕ)
-    → ((now : ℕ) (x : Written) → c ≡ Call.write now x → ¬ (registerOf (u .map .offsets) (x .offset) ≡ Register.intClr))
-    → ((now : ℕ) → ¬ (c ≡ Call.reset now)) → StaySet u (step c u .state)
+    → ((now : ℕ) (x : Written) → c ≡ Call.at now (Dated.write x) → ¬ (registerOf (u .map .offsets) (x .offset) ≡ Register.intClr))
+    → ((now : ℕ) → ¬ (c ≡ Call.at now (Dated.machine Machine.reset))) → StaySet u (step c u .state)
 no-bit-falls c u a b = every-call c u StaySet (set-walk (dateOf c)) (λ now x e h. absurd (a now x e h)) (λ now e. absurd (b now e))

@@ -20,7 +20,7 @@ use Rattle.model.specs.Registers.{Access, sourceNotes, goneAt, sent, dro
 use Rattle.model.specs.Tests.{dateEnd, sentLimit, hostLimit, hostFull, runsFull, bufferTooShort, refuseIf}
 use Rattle.model.specs.Calls
 use Rattle.model.specs.Calls.{afterSettling, quiet, settleAt, dated, filled, hostDate, lastDate, send, carried}
-use Rattle.model.specs.Call.{Call, dateOf, Written, writes, does, takes}
+use Rattle.model.specs.Call.{Dated, Call, dateOf, Written, writes, does, takes}
 use Rattle.model.specs.Run.{Step, planBy, plan, step}
 use Rattle.model.specs.Laws.Plans.{answering}
 use Rattle.model.specs.SetUp.{mapOf, newControl, new}
@@ -39,7 +39,7 @@ module _ (now : ℕ) (u : Uart ℕ ℕ) (x : Written) (t : InTime now u) (e : re
     (room : length (u .tx) + length (u .inFlight) < sentLimit) where
   -- what the write gives
   abbrev given : Step ℕ ℕ ℕ
-  given = step (Call.write now x) u
+  given = step (Call.at now (Dated.write x)) u
 
   -- its report with these notices
   abbrev reported : List Unsupported → Report
@@ -60,7 +60,7 @@ module _ (now : ℕ) (u : Uart ℕ ℕ) (x : Written) (t : InTime now u) (e : re
       )
 
   -- with 128 bytes in flight, and with fewer, the byte joins them, and no notice but the clock's is given
-  pub write-taken : length (settled now u .inFlight) ≤ 128 → let s : Step ℕ ℕ ℕ = step (Call.write now x) u in
+  pub write-taken : length (settled now u .inFlight) ≤ 128 → let s : Step ℕ ℕ ℕ = step (Call.at now (Dated.write x)) u in
       (s .answer .reply ≡ writes Write.Accepted)
       × (s .state .inFlight ≡ settled now u .inFlight ++ (record { goneAt = goneAt now (settled now u); byte = x .value % 256 } ∷ []))
       × (s .answer .report ≡ report (passesIn (settleAt now u .events)) (overflowsIn (settleAt now u .events))
@@ -69,12 +69,12 @@ module _ (now : ℕ) (u : Uart ℕ ℕ) (x : Written) (t : InTime now u) (e : re
   write-taken h = send-answer (sent now (x .value % 256) (settled now u)) (byte-taken now (x .value % 256) (settled now u) h)
 
   -- so 129 may be in flight
-  pub write-at-128 : length (settled now u .inFlight) ≡ 128 → length (step (Call.write now x) u .state .inFlight) ≡ 129
+  pub write-at-128 : length (settled now u .inFlight) ≡ 128 → length (step (Call.at now (Dated.write x)) u .state .inFlight) ≡ 129
   write-at-128 h =
       ap length (write-taken (rw h (omega arith)) .1) ∙ length-append (settled now u .inFlight) _ ∙ ap (λ (k : ℕ). k + 1) h
 
   -- with 129 it is dropped, with UartOverflow
-  pub write-dropped : 128 < length (settled now u .inFlight) → let s : Step ℕ ℕ ℕ = step (Call.write now x) u in
+  pub write-dropped : 128 < length (settled now u .inFlight) → let s : Step ℕ ℕ ℕ = step (Call.at now (Dated.write x)) u in
       (s .answer .reply ≡ writes Write.Accepted) × (s .state .inFlight ≡ settled now u .inFlight)
       × (s .answer .report
       ≡ report (passesIn (settleAt now u .events)) (overflowsIn (settleAt now u .events)) (UartOverflow ∷ []) (s .state))
@@ -103,7 +103,7 @@ byte-leaves date u s ss e h = (
 pub byte-handed-out : (now : ℕ) (u : Uart ℕ ℕ) (lent : List ℕ) (s : Sent ℕ) (ss : List (Sent ℕ)) → InTime now u → sentLimit ≤ length lent
     → u .inFlight ≡ s ∷ ss
     → s .goneAt ≤ settlingDate now (u .control)
-    → step (Call.takeTx now lent) u .answer .reply
+    → step (Call.at now (Dated.takeTx lent)) u .answer .reply
     ≡ takes (filled (u .tx ++ (s .byte ∷ map (λ x. x .byte) (take (gone (settlingDate now (u .control)) ss) ss))) lent)
 unfolding step plan planBy dateOf answering Calls.takeTx carried afterSettling quiet settle settlingDate dated refuseIf
 byte-handed-out now u lent s ss t long e h =
@@ -128,8 +128,8 @@ module _ (offsets ws : List ℕ) (now : ℕ) (early : now < dateEnd) where
 
   -- neither 4 nor any other number at a first write to FIFO: the byte is in flight
   pub first-write : (x : Written) → registerOf offsets (x .offset) ≡ Register.fifo
-      → (step (Call.write now x) (new offsets ws) .answer .reply ≡ writes Write.Accepted)
-      × (step (Call.write now x) (new offsets ws) .state .inFlight
+      → (step (Call.at now (Dated.write x)) (new offsets ws) .answer .reply ≡ writes Write.Accepted)
+      × (step (Call.at now (Dated.write x)) (new offsets ws) .state .inFlight
       ≡ record { goneAt = goneAt now (settled now (new offsets ws)); byte = x .value % 256 } ∷ [])
   unfolding new mapOf
   first-write x e =
@@ -145,7 +145,7 @@ module _ (offsets ws : List ℕ) (now : ℕ) (early : now < dateEnd) where
 
   -- neither 5 nor any other number at a first hand-over of up to 1,024 bytes
   pub first-hand-over : (at : ℕ) (bs : List ℕ) → length bs ≤ hostLimit
-      → step (Call.receive now at bs) (new offsets ws) .answer .reply ≡ does Done.Done
+      → step (Call.at now (Dated.receive at bs)) (new offsets ws) .answer .reply ≡ does Done.Done
   unfolding step plan planBy dateOf answering Calls.receive carried afterSettling quiet new refuseIf hostFull lastDate
   first-hand-over at bs h =
       ap (λ (z : Step ℕ ℕ ℕ). z .answer .reply)

@@ -17,7 +17,7 @@ use Rattle.model.specs.Map.{Word, Register, registerOf, valueOf, wordsBy
 use Rattle.model.specs.Registers.{noteIf, conf0Notes, storedNotes, storing, resetFifos, writeRegister, concluded}
 use Rattle.model.specs.Calls
 use Rattle.model.specs.Calls.{afterSettling, writeAt, writePlaced, carried}
-use Rattle.model.specs.Call.{Call, Written, writes}
+use Rattle.model.specs.Call.{Dated, Call, Written, writes}
 use Rattle.model.specs.Run.{Step, step}
 use Rattle.model.specs.Laws.Plans.{answering}
 use Rattle.model.specs.Limits.{Chain, single, link}
@@ -53,13 +53,13 @@ conf0-noted v = refl
 
 module _ (now : ℕ) (u : Uart ℕ ℕ) (x : Written) (t : InTime now u)
     (e : registerOf (u .map .offsets) (x .offset) ≡ Register.stored Word.conf0) where
-  pub conf0-answer : step (Call.write now x) u ≡ answering writes (carried (some now) (writePlaced now (Register.stored Word.conf0) (x .value) u) u)
+  pub conf0-answer : step (Call.at now (Dated.write x)) u ≡ answering writes (carried (some now) (writePlaced now (Register.stored Word.conf0) (x .value) u) u)
   unfolding writeAt writePlaced choose decide
   conf0-answer = write-answer t x (Register.stored Word.conf0) e refl
 
   -- a write to CONF0 gives these notices, in this order, and no other
-  pub conf0-notices : (step (Call.write now x) u .answer .report .notices ≡ notices (conf0Noted (x .value)))
-      × (step (Call.write now x) u .answer .report .noted ≡ length (conf0Noted (x .value)))
+  pub conf0-notices : (step (Call.at now (Dated.write x)) u .answer .report .notices ≡ notices (conf0Noted (x .value)))
+      × (step (Call.at now (Dated.write x)) u .answer .report .noted ≡ length (conf0Noted (x .value)))
   unfolding answering carried writePlaced afterSettling concluded writeRegister storing storedNotes choose decide report
   conf0-notices = (
     ap (λ (s : Step ℕ ℕ ℕ). s .answer .report .notices) conf0-answer ∙ ap notices (conf0-noted (x .value)),
@@ -67,7 +67,7 @@ module _ (now : ℕ) (u : Uart ℕ ℕ) (x : Written) (t : InTime now u)
   )
 
   -- the word is stored whole
-  pub conf0-stored : step (Call.write now x) u .state .control .words .conf0 ≡ x .value
+  pub conf0-stored : step (Call.at now (Dated.write x)) u .state .control .words .conf0 ≡ x .value
   unfolding answering carried writePlaced afterSettling concluded writeRegister storing replaced wordsBy valueOf resetFifos arm levels drive
       assertLevels choose decide
   conf0-stored = ap (λ (s : Step ℕ ℕ ℕ). s .state .control .words .conf0) conf0-answer

@@ -19,7 +19,7 @@ use Rattle.model.specs.Settle.{settleTo, settle, settlingDate}
 use Rattle.model.specs.Map.{Register, registerOf}
 use Rattle.model.specs.Registers.{Access, pop, readRegister, readLooking, readAt}
 use Rattle.model.specs.Calls.{dated, settleAt, afterSettling, readPlaced, carried}
-use Rattle.model.specs.Call.{Call}
+use Rattle.model.specs.Call.{Dated, Call}
 use Rattle.model.specs.Run.{Step, step}
 use Rattle.model.specs.Laws.Plans.{answering}
 use Rattle.model.specs.Laws.Cases.{passes-on}
@@ -121,7 +121,7 @@ module _ {H W : Type 0} where
 -- once its date has come, the timeout has closed the idle line, enabled or not: seen after a read anywhere
 pub timeout-closes-line : (now offset : ℕ) (u : Uart ℕ ℕ) → InTime now u → u .receiving ≡ none → u .host ≡ []
     → dueBy (settlingDate now (u .control)) (timeoutAt (settingsOf u) (lineOf u)) ≡ true
-    → lineOf (step (Call.read now offset) u .state) .«idle_since» ≡ Date.None
+    → lineOf (step (Call.at now (Dated.read offset)) u .state) .«idle_since» ≡ Date.None
 unfolding answering carried readPlaced afterSettling readAt settleAt settle settlingDate dated settingsOf
 timeout-closes-line now offset u t line waiting due =
     let p : Register = registerOf (u .map .offsets) offset in

@@ -6,7 +6,7 @@ use lib.ListN.{length}
 use Rattle.model.specs.Limits.{All}
 use Rattle.model.specs.Replies.{word, byte, refused, Take, notices}
 use Rattle.model.specs.Registers.{sourceNotes}
-use Rattle.model.specs.Call.{Call, Request, Reply, reads, writes, does, takes, left, pends, Answer}
+use Rattle.model.specs.Call.{Dated, Call, Request, Reply, reads, writes, does, takes, left, pends, Answer}
 use Rattle.model.specs.TwoRuns.Alike.{hostOf, fifoBytesOf, hostByte, writeByte}
 use Rattle.model.specs.declared.Refusal.{Refusal}
 use Rattle.model.specs.declared.Report.{Report}
@@ -40,15 +40,15 @@ module _ (fifo : ℕ) (cs ds : List Request) where
   -- numbers in both. A read of FIFO notes a mistimed reception where there was one, and then UartEmptyRead where it gives 0
   pub data Agree (h w : ℕ) (r : Report) : Request → Reply ℕ ℕ (Unit {0}) → Reply ℕ ℕ (Unit {0}) → Type 0 where
     fifoByte : {now n : ℕ} (s : Source) → Notes r (sourceNotes UartReceiveClock s) → n < h
-        → Agree h w r (Call.read now fifo) (reads (byte (hostByte cs n))) (reads (byte (hostByte ds n)))
+        → Agree h w r (Call.at now (Dated.read fifo)) (reads (byte (hostByte cs n))) (reads (byte (hostByte ds n)))
     fifoEmpty : {now : ℕ} (s : Source) → Notes r (sourceNotes UartReceiveClock s ++ (UartEmptyRead ∷ []))
-        → Agree h w r (Call.read now fifo) (reads (word 0)) (reads (word 0))
-    fifoRefused : {now : ℕ} {x : Refusal} → Agree h w r (Call.read now fifo) (reads (refused x)) (reads (refused x))
-    handedOut : {c : Request} {t : Taken} {ns : List ℕ} {rest : List (Unit {0})} → ((now : ℕ) → ¬ (c ≡ Call.read now fifo))
+        → Agree h w r (Call.at now (Dated.read fifo)) (reads (word 0)) (reads (word 0))
+    fifoRefused : {now : ℕ} {x : Refusal} → Agree h w r (Call.at now (Dated.read fifo)) (reads (refused x)) (reads (refused x))
+    handedOut : {c : Request} {t : Taken} {ns : List ℕ} {rest : List (Unit {0})} → ((now : ℕ) → ¬ (c ≡ Call.at now (Dated.read fifo)))
         → All (λ n. n < w) ns
         → Agree h w r c (takes (record { taken = t; front = map (writeByte fifo cs) ns; rest = rest }))
         (takes (record { taken = t; front = map (writeByte fifo ds) ns; rest = rest }))
-    noByte : {c : Request} {x : Reply ℕ ℕ (Unit {0})} → ((now : ℕ) → ¬ (c ≡ Call.read now fifo)) → ((b : ℕ) → ¬ (x ≡ reads (byte b)))
+    noByte : {c : Request} {x : Reply ℕ ℕ (Unit {0})} → ((now : ℕ) → ¬ (c ≡ Call.at now (Dated.read fifo))) → ((b : ℕ) → ¬ (x ≡ reads (byte b)))
         → ((t : Take ℕ (Unit {0})) → ¬ (x ≡ takes t)) → Agree h w r c x x
 
   -- call by call, h host bytes and w FIFO writes having been given before

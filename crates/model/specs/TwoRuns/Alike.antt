@@ -7,7 +7,7 @@ use lib.Dec.{eqb}
 use lib.ListN.{length, getD}
 use Rattle.model.specs.Numbers.{choose}
 use Rattle.model.specs.Replies.{ReadOf, word, byte, noValue, refused, Take}
-use Rattle.model.specs.Call.{Call, Request, Reply, reads, writes, does, takes, left, pends, Answer}
+use Rattle.model.specs.Call.{Dated, Undated, Call, Request, Reply, reads, writes, does, takes, left, pends, Answer}
 
 -- ---- alike
 
@@ -24,28 +24,22 @@ fifoOffset offsets = getD offsets 0 0
 -- of a lent buffer
 pub data Alike (fifo : ℕ) : Request → Request → Type 0 where
   same : {c : Request} → Alike fifo c c
-  hostBytes : {now at : ℕ} {bs bs′ : List ℕ} → length bs ≡ length bs′ → Alike fifo (Call.receive now at bs) (Call.receive now at bs′)
-  fifoWord : {now v v′ : ℕ} → Alike fifo (Call.write now (record { offset = fifo; value = v }))
-      (Call.write now (record { offset = fifo; value = v′ }))
-  lentToTakeTx : {now : ℕ} {lent lent′ : List ℕ} → length lent ≡ length lent′ → Alike fifo (Call.takeTx now lent) (Call.takeTx now lent′)
-  lentToTakeWritten : {lent lent′ : List ℕ} → length lent ≡ length lent′ → Alike fifo (Call.takeWritten lent) (Call.takeWritten lent′)
+  hostBytes : {now at : ℕ} {bs bs′ : List ℕ} → length bs ≡ length bs′ → Alike fifo (Call.at now (Dated.receive at bs)) (Call.at now (Dated.receive at bs′))
+  fifoWord : {now v v′ : ℕ} → Alike fifo (Call.at now (Dated.write (record { offset = fifo; value = v })))
+      (Call.at now (Dated.write (record { offset = fifo; value = v′ })))
+  lentToTakeTx : {now : ℕ} {lent lent′ : List ℕ} → length lent ≡ length lent′ → Alike fifo (Call.at now (Dated.takeTx lent)) (Call.at now (Dated.takeTx lent′))
+  lentToTakeWritten : {lent lent′ : List ℕ} → length lent ≡ length lent′ → Alike fifo (Call.undated (Undated.takeWritten lent)) (Call.undated (Undated.takeWritten lent′))
 
 -- ---- the numbering
 
 -- what a call gives: the host bytes that it hands over, and what it writes
 unfoldable pub given : {R X H L : Type 0} → Call R X H L → List H × List X
-given (Call.read now r) = ([], [])
-given (Call.write now x) = ([], x ∷ [])
-given (Call.receive now at bs) = (bs, [])
-given (Call.wake now) = ([], [])
-given (Call.reset now) = ([], [])
-given (Call.powerDown now) = ([], [])
-given (Call.watch now b) = ([], [])
-given (Call.clockChange now p) = ([], [])
-given (Call.takeTx now lent) = ([], [])
-given (Call.takeWritten lent) = ([], [])
-given Call.hasLeft = ([], [])
-given Call.hostPending = ([], [])
+given (Call.at now (Dated.read r)) = ([], [])
+given (Call.at now (Dated.write x)) = ([], x ∷ [])
+given (Call.at now (Dated.receive date bs)) = (bs, [])
+given (Call.at now (Dated.takeTx lent)) = ([], [])
+given (Call.at now (Dated.machine m)) = ([], [])
+given (Call.undated c) = ([], [])
 
 abbrev pub hostOf : {R X H L : Type 0} → Call R X H L → List H
 hostOf c = given c .0

@@ -11,7 +11,7 @@ use Rattle.model.specs.Laws.Choose.{choose-false}
 use Rattle.model.specs.State.{Uart}
 use Rattle.model.specs.Map.{isFifo, registerOf}
 use Rattle.model.specs.SetUp.{mapOf, new}
-use Rattle.model.specs.Call.{Call, Request}
+use Rattle.model.specs.Call.{Dated, Call, Request}
 use Rattle.model.specs.Run.{step, runBy, run}
 use Rattle.model.specs.Refuses.FifoPlace.{first-is-fifo}
 use Rattle.model.specs.TwoRuns.Alike.{Each, Alike, fifoOffset, given, hostOf, fifoBytesOf}
@@ -25,8 +25,8 @@ use Rattle.model.specs.TwoRuns.Unused.{takesWord, SameInUse, step-unused
 pub data AlikeInUse (offsets : List ℕ) : Request → Request → Type 0 where
   alike : {c d : Request} → Alike (fifoOffset offsets) c d → AlikeInUse offsets c d
   unusedWord : {now offset v v′ : ℕ} → isFifo (registerOf offsets offset) ≡ false → takesWord (registerOf offsets offset) ≡ false
-      → AlikeInUse offsets (Call.write now (record { offset = offset; value = v }))
-      (Call.write now (record { offset = offset; value = v′ }))
+      → AlikeInUse offsets (Call.at now (Dated.write (record { offset = offset; value = v })))
+      (Call.at now (Dated.write (record { offset = offset; value = v′ })))
 
 -- ---- a list between the two: alike to the first, and in use the same as the second
 
@@ -34,8 +34,8 @@ pub data AlikeInUse (offsets : List ℕ) : Request → Request → Type 0 where
 data Same (offsets : List ℕ) : Request → Request → Type 0 where
   same : {c : Request} → Same offsets c c
   unusedWord : {now offset v v′ : ℕ} → isFifo (registerOf offsets offset) ≡ false → takesWord (registerOf offsets offset) ≡ false
-      → Same offsets (Call.write now (record { offset = offset; value = v }))
-      (Call.write now (record { offset = offset; value = v′ }))
+      → Same offsets (Call.at now (Dated.write (record { offset = offset; value = v })))
+      (Call.at now (Dated.write (record { offset = offset; value = v′ })))
 
 record Between (offsets : List ℕ) (cs ds : List Request) : Type 0 where
   list : List Request

@@ -18,11 +18,11 @@ use Rattle.model.specs.Calls
 use Rattle.model.specs.Calls.{Outcome, Settling, Plan, dated, settles, settledBy, refusalBy, refusing, unless, afterSettling, undated}
 use Rattle.model.specs.Calls.{carried, outcome, filled, notTaken, quiet, readPlaced, writePlaced, send, joined, handOver, clocked}
 use Rattle.model.specs.Calls.{cleared, written}
-use Rattle.model.specs.Call.{Call, dateOf, Reply}
-use Rattle.model.specs.Run.{Step, stepped, replying, planBy, stepBy, runBy}
+use Rattle.model.specs.Call.{Machine, Dated, Undated, Call, dateOf, Reply}
+use Rattle.model.specs.Run.{Step, stepped, replying, machinePlan, planBy, stepBy, runBy}
 use Rattle.model.specs.TwoRuns.Natural.{mapEvent, mapSettled, found-nat, passes-in-nat, overflows-in-nat, bytes-nat}
 use Rattle.model.specs.TwoRuns.Natural.{lastGone-nat, pending-nat, levels-nat, settle-nat, arm-nat}
-use Rattle.model.specs.TwoRuns.Placed.{Put, Placed, changed, putting, stepPlaced}
+use Rattle.model.specs.TwoRuns.Placed.{Put, Placed, changedDated, changedUndated, changed, putting, stepPlaced}
 use Rattle.model.specs.TwoRuns.Alike.{mapReadOf, mapTake, mapReply, mapAnswer, itself}
 use Rattle.model.specs.declared.Refusal.{Refusal}
 use Rattle.model.specs.declared.Unsupported.{Unsupported}
@@ -273,6 +273,14 @@ module _ {H H′ W W′ : Type 0} (f : H → H′) (g : W → W′) where
     work = λ v. ap (λ w. quiet Done.Done (arm w)) (levels-nat f g (cleared v)) ∙ armed-nat (levels (cleared v));
   }
 
+  machine-nat : (now : ℕ) (m : Machine) (u : Uart H W) → Natural itself f g (machinePlan now m u) (machinePlan now m (mapUart f g u))
+  unfolding machinePlan
+  machine-nat now Machine.wake u = wake-nat now u
+  machine-nat now Machine.reset u = reset-nat now u
+  machine-nat now Machine.powerDown u = powerDown-nat now u
+  machine-nat now (Machine.watch b) u = watch-nat now b u
+  machine-nat now (Machine.clockChange period) u = clockChange-nat now period u
+
   -- ---- taking what was sent
 
   hasLeft-nat : (u : Uart H W) → Natural itself f g (Calls.hasLeft u) (Calls.hasLeft (mapUart f g u))
@@ -338,34 +346,20 @@ module _ {H H′ W W′ : Type 0} (f : H → H′) (g : W → W′) where
         (wr-nat : (now : ℕ) (x : X) (u : Uart H W) → Natural itself f g (wr now x u) (wr′ now (b x) (mapUart f g u))) where
       planBy-nat : (c : Call R X H L) (u : Uart H W)
           → Natural (mapReply f g h) f g (planBy rd wr c u) (planBy rd′ wr′ (changed a b (map f) (map h) c) (mapUart f g u))
-      unfolding planBy changed mapReply
-      planBy-nat (Call.read now r) u = replying-nat (mapReadOf f) _ _ (λ y. refl) (rd-nat now r u)
-      planBy-nat (Call.write now x) u = replying-nat itself _ _ (λ y. refl) (wr-nat now x u)
-      planBy-nat (Call.receive now at bs) u = replying-nat itself _ _ (λ y. refl) (receive-nat now at bs u)
-      planBy-nat (Call.wake now) u = replying-nat itself _ _ (λ y. refl) (wake-nat now u)
-      planBy-nat (Call.reset now) u = replying-nat itself _ _ (λ y. refl) (reset-nat now u)
-      planBy-nat (Call.powerDown now) u = replying-nat itself _ _ (λ y. refl) (powerDown-nat now u)
-      planBy-nat (Call.watch now w) u = replying-nat itself _ _ (λ y. refl) (watch-nat now w u)
-      planBy-nat (Call.clockChange now period) u = replying-nat itself _ _ (λ y. refl) (clockChange-nat now period u)
-      planBy-nat (Call.takeTx now lent) u = replying-nat (mapTake g h) _ _ (λ y. refl) (takeTx-nat now lent u)
-      planBy-nat (Call.takeWritten lent) u = replying-nat (mapTake g h) _ _ (λ y. refl) (takeWritten-nat lent u)
-      planBy-nat Call.hasLeft u = replying-nat itself _ _ (λ y. refl) (hasLeft-nat u)
-      planBy-nat Call.hostPending u = replying-nat itself _ _ (λ y. refl) (hostPending-nat u)
+      unfolding planBy changed changedDated changedUndated mapReply
+      planBy-nat (Call.at now (Dated.read r)) u = replying-nat (mapReadOf f) _ _ (λ y. refl) (rd-nat now r u)
+      planBy-nat (Call.at now (Dated.write x)) u = replying-nat itself _ _ (λ y. refl) (wr-nat now x u)
+      planBy-nat (Call.at now (Dated.receive date bs)) u = replying-nat itself _ _ (λ y. refl) (receive-nat now date bs u)
+      planBy-nat (Call.at now (Dated.takeTx lent)) u = replying-nat (mapTake g h) _ _ (λ y. refl) (takeTx-nat now lent u)
+      planBy-nat (Call.at now (Dated.machine m)) u = replying-nat itself _ _ (λ y. refl) (machine-nat now m u)
+      planBy-nat (Call.undated (Undated.takeWritten lent)) u = replying-nat (mapTake g h) _ _ (λ y. refl) (takeWritten-nat lent u)
+      planBy-nat (Call.undated Undated.hasLeft) u = replying-nat itself _ _ (λ y. refl) (hasLeft-nat u)
+      planBy-nat (Call.undated Undated.hostPending) u = replying-nat itself _ _ (λ y. refl) (hostPending-nat u)
 
       date-nat : (c : Call R X H L) → dateOf (changed a b (map f) (map h) c) ≡ dateOf c
       unfolding dateOf changed
-      date-nat (Call.read now r) = refl
-      date-nat (Call.write now x) = refl
-      date-nat (Call.receive now at bs) = refl
-      date-nat (Call.wake now) = refl
-      date-nat (Call.reset now) = refl
-      date-nat (Call.powerDown now) = refl
-      date-nat (Call.watch now w) = refl
-      date-nat (Call.clockChange now period) = refl
-      date-nat (Call.takeTx now lent) = refl
-      date-nat (Call.takeWritten lent) = refl
-      date-nat Call.hasLeft = refl
-      date-nat Call.hostPending = refl
+      date-nat (Call.at now c) = refl
+      date-nat (Call.undated c) = refl
 
       stepBy-nat : (c : Call R X H L) (u : Uart H W) → stepBy rd′ wr′ (changed a b (map f) (map h) c) (mapUart f g u)
           ≡ mapStep f g h (stepBy rd wr c u)

@@ -7,7 +7,7 @@ use lib.ListN.{length}
 use Rattle.model.specs.Limits.{All}
 use Rattle.model.specs.Replies.{ReadOf, word, byte, noValue, refused, Take}
 use Rattle.model.specs.Registers.{sourceNotes}
-use Rattle.model.specs.Call.{Call, Request, Reply, reads, writes, does, takes, left, pends}
+use Rattle.model.specs.Call.{Dated, Call, Request, Reply, reads, writes, does, takes, left, pends}
 use Rattle.model.specs.TwoRuns.Alike.{hostOf, fifoBytesOf}
 use Rattle.model.specs.TwoRuns.Agree.{Bare, Notes}
 use Rattle.model.specs.declared.Refusal.{Refusal}
@@ -61,16 +61,16 @@ pub data EachBelow (fifo : ℕ) : ℕ → ℕ → List Request → List Bare →
 -- ---- reads of FIFO
 
 abbrev pub NotFifo : ℕ → Request → Type 0
-NotFifo fifo c = (now : ℕ) → ¬ (c ≡ Call.read now fifo)
+NotFifo fifo c = (now : ℕ) → ¬ (c ≡ Call.at now (Dated.read fifo))
 
 -- a read of FIFO gives a byte without UartEmptyRead, or 0 with UartEmptyRead at the end, or is refused; no other call gives
 -- a byte of the host
 pub data Shape (fifo : ℕ) : Request → Bare → Type 0 where
   fifoByte : {now n : ℕ} {r : Report} (s : Source) → Notes r (sourceNotes UartReceiveClock s)
-      → Shape fifo (Call.read now fifo) (record { reply = reads (byte n); report = r })
+      → Shape fifo (Call.at now (Dated.read fifo)) (record { reply = reads (byte n); report = r })
   fifoEmpty : {now : ℕ} {r : Report} (s : Source) → Notes r (sourceNotes UartReceiveClock s ++ (UartEmptyRead ∷ []))
-      → Shape fifo (Call.read now fifo) (record { reply = reads (word 0); report = r })
-  fifoRefused : {now : ℕ} {x : Refusal} {r : Report} → Shape fifo (Call.read now fifo) (record { reply = reads (refused x); report = r })
+      → Shape fifo (Call.at now (Dated.read fifo)) (record { reply = reads (word 0); report = r })
+  fifoRefused : {now : ℕ} {x : Refusal} {r : Report} → Shape fifo (Call.at now (Dated.read fifo)) (record { reply = reads (refused x); report = r })
   handedOut : {c : Request} {t : Take ℕ (Unit {0})} {r : Report} → NotFifo fifo c → Shape fifo c (record { reply = takes t; report = r })
   noByte : {c : Request} {a : Bare} → NotFifo fifo c → ((b : ℕ) → ¬ (a .reply ≡ reads (byte b)))
       → ((t : Take ℕ (Unit {0})) → ¬ (a .reply ≡ takes t)) → Shape fifo c a

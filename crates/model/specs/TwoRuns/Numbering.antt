@@ -13,8 +13,8 @@ use Rattle.model.specs.Numbers.{choose}
 use Rattle.model.specs.Map.{Register, isFifo, registerAmong, registerOf}
 use Rattle.model.specs.Laws.Choose.{choose-true, choose-false}
 use Rattle.model.specs.Refuses.FifoPlace.{after-first}
-use Rattle.model.specs.Call.{Call, Written, Request}
-use Rattle.model.specs.TwoRuns.Placed.{Put, Placed, changed, putAt, placed}
+use Rattle.model.specs.Call.{Dated, Undated, Call, Written, Request}
+use Rattle.model.specs.TwoRuns.Placed.{Put, Placed, changedDated, changedUndated, changed, putAt, placed}
 use Rattle.model.specs.TwoRuns.Alike.{Each, Alike, same, hostBytes, fifoWord, lentToTakeTx, lentToTakeWritten, given, hostOf}
 use Rattle.model.specs.TwoRuns.Alike.{fifoBytesOf, itself, forget}
 use Rattle.model.specs.TwoRuns.NaturalCalls.{mapPut, mapPlaced}
@@ -30,50 +30,34 @@ module _ {R X X′ X″ H H′ H″ L L′ L″ : Type 0} (x : X → X′) (h : 
   pub changed-twice : (c : Call R X H L) → ((a : X) → writesOf c ≡ a ∷ [] → x′ (x a) ≡ x″ a) → h′ (h (hostOf c)) ≡ h″ (hostOf c)
       → ((bs : List L) → l′ (l bs) ≡ l″ bs)
       → changed itself x′ h′ l′ (changed itself x h l c) ≡ changed itself x″ h″ l″ c
-  unfolding changed given
-  changed-twice (Call.read now a) p q s = refl
-  changed-twice (Call.write now a) p q s = ap (Call.write now) (p a refl)
-  changed-twice (Call.receive now at bs) p q s = ap (Call.receive now at) q
-  changed-twice (Call.wake now) p q s = refl
-  changed-twice (Call.reset now) p q s = refl
-  changed-twice (Call.powerDown now) p q s = refl
-  changed-twice (Call.watch now b) p q s = refl
-  changed-twice (Call.clockChange now per) p q s = refl
-  changed-twice (Call.takeTx now lent) p q s = ap (Call.takeTx now) (s lent)
-  changed-twice (Call.takeWritten lent) p q s = ap Call.takeWritten (s lent)
-  changed-twice Call.hasLeft p q s = refl
-  changed-twice Call.hostPending p q s = refl
+  unfolding changed changedDated changedUndated given
+  changed-twice (Call.at now (Dated.read a)) p q s = refl
+  changed-twice (Call.at now (Dated.write a)) p q s = ap (λ b. Call.at now (Dated.write b)) (p a refl)
+  changed-twice (Call.at now (Dated.receive date bs)) p q s = ap (λ b. Call.at now (Dated.receive date b)) q
+  changed-twice (Call.at now (Dated.takeTx lent)) p q s = ap (λ b. Call.at now (Dated.takeTx b)) (s lent)
+  changed-twice (Call.at now (Dated.machine m)) p q s = refl
+  changed-twice (Call.undated (Undated.takeWritten lent)) p q s = ap (λ b. Call.undated (Undated.takeWritten b)) (s lent)
+  changed-twice (Call.undated Undated.hasLeft) p q s = refl
+  changed-twice (Call.undated Undated.hostPending) p q s = refl
 
 module _ {R R′ X X′ H L : Type 0} (r : R → R′) (x : X → X′) where
   host-kept : (c : Call R X H L) → hostOf (changed r x itself itself c) ≡ hostOf c
-  unfolding changed given
-  host-kept (Call.read now a) = refl
-  host-kept (Call.write now a) = refl
-  host-kept (Call.receive now at bs) = refl
-  host-kept (Call.wake now) = refl
-  host-kept (Call.reset now) = refl
-  host-kept (Call.powerDown now) = refl
-  host-kept (Call.watch now b) = refl
-  host-kept (Call.clockChange now p) = refl
-  host-kept (Call.takeTx now lent) = refl
-  host-kept (Call.takeWritten lent) = refl
-  host-kept Call.hasLeft = refl
-  host-kept Call.hostPending = refl
+  unfolding changed changedDated changedUndated given
+  host-kept (Call.at now (Dated.read a)) = refl
+  host-kept (Call.at now (Dated.write a)) = refl
+  host-kept (Call.at now (Dated.receive date bs)) = refl
+  host-kept (Call.at now (Dated.takeTx lent)) = refl
+  host-kept (Call.at now (Dated.machine m)) = refl
+  host-kept (Call.undated c) = refl
 
   writes-changed : (c : Call R X H L) → writesOf (changed r x itself itself c) ≡ map x (writesOf c)
-  unfolding changed given
-  writes-changed (Call.read now a) = refl
-  writes-changed (Call.write now a) = refl
-  writes-changed (Call.receive now at bs) = refl
-  writes-changed (Call.wake now) = refl
-  writes-changed (Call.reset now) = refl
-  writes-changed (Call.powerDown now) = refl
-  writes-changed (Call.watch now b) = refl
-  writes-changed (Call.clockChange now p) = refl
-  writes-changed (Call.takeTx now lent) = refl
-  writes-changed (Call.takeWritten lent) = refl
-  writes-changed Call.hasLeft = refl
-  writes-changed Call.hostPending = refl
+  unfolding changed changedDated changedUndated given
+  writes-changed (Call.at now (Dated.read a)) = refl
+  writes-changed (Call.at now (Dated.write a)) = refl
+  writes-changed (Call.at now (Dated.receive date bs)) = refl
+  writes-changed (Call.at now (Dated.takeTx lent)) = refl
+  writes-changed (Call.at now (Dated.machine m)) = refl
+  writes-changed (Call.undated c) = refl
 
 -- ---- FIFO and the other registers
 
@@ -199,16 +183,16 @@ module _ (fifo : ℕ) (others : List ℕ) where
 
   module _ (h w : ℕ) where
     call-alike : {c d : Request} → Alike fifo c d → numbered h w (placed (fifo ∷ others) c) ≡ numbered h w (placed (fifo ∷ others) d)
-    unfolding numbered placed changed mapPut
+    unfolding numbered placed changed changedDated changedUndated mapPut
     call-alike same = refl
-    call-alike (hostBytes {now = now} {at = at} e) = ap (λ k. Call.receive now at (upFrom h k)) e
+    call-alike (hostBytes {now = now} {at = at} e) = ap (λ k. Call.at now (Dated.receive at (upFrom h k))) e
     call-alike (fifoWord {now = now} {v = v} {v′ = v′}) =
-        ap (λ x. Call.write now (mapPut (λ b. w) x)) (put-fifo v) ∙ ap (λ x. Call.write now (mapPut (λ b. w) x)) (sym (put-fifo v′))
-    call-alike (lentToTakeTx {now = now} {lent = l} {lent′ = l′} e) = ap (Call.takeTx now) (forget-alike l l′ e)
-    call-alike (lentToTakeWritten {lent = l} {lent′ = l′} e) = ap Call.takeWritten (forget-alike l l′ e)
+        ap (λ x. Call.at now (Dated.write (mapPut (λ b. w) x))) (put-fifo v) ∙ ap (λ x. Call.at now (Dated.write (mapPut (λ b. w) x))) (sym (put-fifo v′))
+    call-alike (lentToTakeTx {now = now} {lent = l} {lent′ = l′} e) = ap (λ b. Call.at now (Dated.takeTx b)) (forget-alike l l′ e)
+    call-alike (lentToTakeWritten {lent = l} {lent′ = l′} e) = ap (λ b. Call.undated (Undated.takeWritten b)) (forget-alike l l′ e)
 
   host-alike : {c d : Request} → Alike fifo c d → length (hostOf (placed (fifo ∷ others) c)) ≡ length (hostOf (placed (fifo ∷ others) d))
-  unfolding placed changed given
+  unfolding placed changed changedDated given
   host-alike same = refl
   host-alike (hostBytes e) = e
   host-alike fifoWord = refl
@@ -217,7 +201,7 @@ module _ (fifo : ℕ) (others : List ℕ) where
 
   written-alike : {c d : Request} → Alike fifo c d
       → length (writtenOf (placed (fifo ∷ others) c)) ≡ length (writtenOf (placed (fifo ∷ others) d))
-  unfolding writtenOf placed changed given flatMap putOf
+  unfolding writtenOf placed changed changedDated given flatMap putOf
   written-alike same = refl
   written-alike (hostBytes e) = refl
   written-alike (fifoWord {v = v} {v′ = v′}) =

@@ -9,7 +9,7 @@ use Rattle.model.specs.State.{Uart}
 use Rattle.model.specs.Map.{Register, isFifo, registerOf}
 use Rattle.model.specs.Calls
 use Rattle.model.specs.Calls.{Plan, outcome, readPlaced, writePlaced, send, writeAt}
-use Rattle.model.specs.Call.{Call, dateOf, Request, writes}
+use Rattle.model.specs.Call.{Dated, Undated, Call, dateOf, Request, writes}
 use Rattle.model.specs.Run.{Step, stepped, replying, planBy, stepBy, writing, plan, step}
 use Rattle.model.specs.Laws.Choose.{choose-nat}
 use Rattle.model.specs.declared.Write.{Write}
@@ -24,20 +24,23 @@ Placed H W L = Call Register (Put W) H L
 
 -- ---- a call with other parts
 
+module _ {R R′ X X′ H H′ L L′ : Type 0} (r : R → R′) (x : X → X′) (h : List H → List H′) (l : List L → List L′) where
+  unfoldable pub changedDated : Dated R X H L → Dated R′ X′ H′ L′
+  changedDated (Dated.read a) = Dated.read (r a)
+  changedDated (Dated.write a) = Dated.write (x a)
+  changedDated (Dated.receive date bs) = Dated.receive date (h bs)
+  changedDated (Dated.takeTx lent) = Dated.takeTx (l lent)
+  changedDated (Dated.machine m) = Dated.machine m
+
+unfoldable pub changedUndated : {L L′ : Type 0} → (List L → List L′) → Undated L → Undated L′
+changedUndated l (Undated.takeWritten lent) = Undated.takeWritten (l lent)
+changedUndated l Undated.hasLeft = Undated.hasLeft
+changedUndated l Undated.hostPending = Undated.hostPending
+
 unfoldable pub changed : {R R′ X X′ H H′ L L′ : Type 0} → (R → R′) → (X → X′) → (List H → List H′) → (List L → List L′) → Call R X H L
     → Call R′ X′ H′ L′
-changed r x h l (Call.read now a) = Call.read now (r a)
-changed r x h l (Call.write now a) = Call.write now (x a)
-changed r x h l (Call.receive now at bs) = Call.receive now at (h bs)
-changed r x h l (Call.wake now) = Call.wake now
-changed r x h l (Call.reset now) = Call.reset now
-changed r x h l (Call.powerDown now) = Call.powerDown now
-changed r x h l (Call.watch now b) = Call.watch now b
-changed r x h l (Call.clockChange now p) = Call.clockChange now p
-changed r x h l (Call.takeTx now lent) = Call.takeTx now (l lent)
-changed r x h l (Call.takeWritten lent) = Call.takeWritten (l lent)
-changed r x h l Call.hasLeft = Call.hasLeft
-changed r x h l Call.hostPending = Call.hostPending
+changed r x h l (Call.at now c) = Call.at now (changedDated r x h l c)
+changed r x h l (Call.undated c) = Call.undated (changedUndated l c)
 
 -- a FIFO write's byte is its word's low 8 bits
 unfoldable pub putAt : Register → ℕ → Put ℕ
@@ -61,17 +64,13 @@ writeAt-placed now p v u = choose-nat (λ (x : Put ℕ). putting now x u) (isFif
 
 -- a caller's call does what the placed one does
 pub step-placed : (c : Request) (u : Uart ℕ ℕ) → step c u ≡ stepPlaced (placed (u .map .offsets) c) u
-unfolding step plan stepPlaced placed changed stepBy planBy dateOf writing Calls.read Calls.write
-step-placed (Call.read now o) u = refl
-step-placed (Call.write now x) u =
+unfolding step plan stepPlaced placed changed changedDated changedUndated stepBy planBy dateOf writing Calls.read Calls.write
+step-placed (Call.at now (Dated.read o)) u = refl
+step-placed (Call.at now (Dated.write x)) u =
     ap (λ p. stepped (outcome (some now) (replying writes p) u)) (writeAt-placed now (registerOf (u .map .offsets) (x .offset)) (x .value) u)
-step-placed (Call.receive now at bs) u = refl
-step-placed (Call.wake now) u = refl
-step-placed (Call.reset now) u = refl
-step-placed (Call.powerDown now) u = refl
-step-placed (Call.watch now b) u = refl
-step-placed (Call.clockChange now p) u = refl
-step-placed (Call.takeTx now lent) u = refl
-step-placed (Call.takeWritten lent) u = refl
-step-placed Call.hasLeft u = refl
-step-placed Call.hostPending u = refl
+step-placed (Call.at now (Dated.receive date bs)) u = refl
+step-placed (Call.at now (Dated.takeTx lent)) u = refl
+step-placed (Call.at now (Dated.machine m)) u = refl
+step-placed (Call.undated (Undated.takeWritten lent)) u = refl
+step-placed (Call.undated Undated.hasLeft) u = refl
+step-placed (Call.undated Undated.hostPending) u = refl

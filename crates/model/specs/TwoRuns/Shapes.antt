@@ -13,11 +13,11 @@ use Rattle.model.specs.Map.{Register, sameRegister, registerOf}
 use Rattle.model.specs.Registers.{sourceNotes, looks, pop, readRegister, readLooking, readAt}
 use Rattle.model.specs.Tests.{refuseDate}
 use Rattle.model.specs.Calls.{Plan, refusing, unless, afterSettling, carried, outcome, settleAt, readPlaced}
-use Rattle.model.specs.Call.{Call, dateOf, Request, Reply, reads, writes, does, takes, left, pends}
+use Rattle.model.specs.Call.{Dated, Undated, Call, dateOf, Request, Reply, reads, writes, does, takes, left, pends}
 use Rattle.model.specs.Run.{Step, stepped, replying, planBy, stepBy, runBy}
 use Rattle.model.specs.Laws.Plans.{answering, replied}
 use Rattle.model.specs.Ends.Passes.{apart}
-use Rattle.model.specs.TwoRuns.Placed.{changed, placed, stepPlaced}
+use Rattle.model.specs.TwoRuns.Placed.{changedDated, changedUndated, changed, placed, stepPlaced}
 use Rattle.model.specs.TwoRuns.Alike.{Each}
 use Rattle.model.specs.TwoRuns.Numbering.{other-place, fifo-place, numbered, number}
 use Rattle.model.specs.TwoRuns.Numbered.{NotFifo, Shape}
@@ -32,17 +32,17 @@ use Rattle.model.specs.declared.Unsupported.the-variants.{UartReceiveClo
 module _ (fifo now : ℕ) where
   pop-shape : (passes overflows : ℕ) (s : Source) (bs : List ℕ) (u : Uart ℕ ℕ)
       → let a = pop (sourceNotes UartReceiveClock s) bs u in
-      Shape fifo (Call.read now fifo) (record { reply = reads (a .reply); report = report passes overflows (a .notes) (a .state) })
+      Shape fifo (Call.at now (Dated.read fifo)) (record { reply = reads (a .reply); report = report passes overflows (a .notes) (a .state) })
   unfolding pop report
   pop-shape passes overflows s [] u = Shape.fifoEmpty s (refl, refl)
   pop-shape passes overflows s (b ∷ bs) u = Shape.fifoByte s (refl, refl)
 
-  fifo-shape : (u : Uart ℕ ℕ) → Shape fifo (Call.read now fifo) (stepPlaced (Call.read now Register.fifo) u .answer)
+  fifo-shape : (u : Uart ℕ ℕ) → Shape fifo (Call.at now (Dated.read fifo)) (stepPlaced (Call.at now (Dated.read Register.fifo)) u .answer)
   unfolding stepPlaced stepBy planBy dateOf stepped outcome carried replying readPlaced unless refusing afterSettling readAt looks decide
       readLooking readRegister
   fifo-shape u = go (refuseDate now (u .control) none)
     where
-      go : (o : Option Refusal) → Shape fifo (Call.read now fifo) (record {
+      go : (o : Option Refusal) → Shape fifo (Call.at now (Dated.read fifo)) (record {
         reply = unless o (λ r. reads (refused r)) (carried (some now) (replying reads (readPlaced now Register.fifo u))) u .reply;
         report = unless o (λ r. reads (refused r)) (carried (some now) (replying {L = Unit {0}} reads (readPlaced now Register.fifo u))) u
             .report;
@@ -94,15 +94,15 @@ module _ (fifo : ℕ) (others : List ℕ) where
   other-noByte : (o : ℕ) → eqb o fifo ≡ false → NoneAt (registerOf (fifo ∷ others) o)
   other-noByte o e = register-noByte _ (other-place fifo others o e)
 
-  not-fifo : (now o : ℕ) → eqb o fifo ≡ false → NotFifo fifo (Call.read now o)
+  not-fifo : (now o : ℕ) → eqb o fifo ≡ false → NotFifo fifo (Call.at now (Dated.read o))
   not-fifo now o e n f = eqb-false o fifo e (cc)
 
   read-shape : (now o : ℕ) (u : Uart ℕ ℕ) (b : Bool) → eqb o fifo ≡ b
-      → Shape fifo (Call.read now o) (stepPlaced (Call.read now (registerOf (fifo ∷ others) o)) u .answer)
+      → Shape fifo (Call.at now (Dated.read o)) (stepPlaced (Call.at now (Dated.read (registerOf (fifo ∷ others) o))) u .answer)
   unfolding stepPlaced stepBy planBy dateOf answering
   read-shape now o u true e =
-      subst (λ p. Shape fifo (Call.read now o) (stepPlaced (Call.read now p) u .answer)) (sym (fifo-place fifo others o e))
-      (subst (λ i. Shape fifo (Call.read now i) (stepPlaced (Call.read now Register.fifo) u .answer)) (sym (eqb-true o fifo e))
+      subst (λ p. Shape fifo (Call.at now (Dated.read o)) (stepPlaced (Call.at now (Dated.read p)) u .answer)) (sym (fifo-place fifo others o e))
+      (subst (λ i. Shape fifo (Call.at now (Dated.read i)) (stepPlaced (Call.at now (Dated.read Register.fifo)) u .answer)) (sym (eqb-true o fifo e))
       (fifo-shape fifo now u))
   read-shape now o u false e =
       shaped reads _ _ _ u
@@ -114,28 +114,15 @@ module _ (fifo : ℕ) (others : List ℕ) where
   no-byte c x e p q = Shape.noByte e p q
 
   step-shape : (h w : ℕ) (c : Request) (u : Uart ℕ ℕ) → Shape fifo c (stepPlaced (numbered h w (placed (fifo ∷ others) c)) u .answer)
-  unfolding numbered placed changed stepPlaced stepBy planBy dateOf answering
-  step-shape h w (Call.read now o) u = read-shape now o u (eqb o fifo) refl
-  step-shape h w (Call.write now x) u =
-      shaped writes _ _ _ u (no-byte (Call.write now x) (writes _) (λ n e. apart (cc)) (λ b e. apart (cc)) (λ t e. apart (cc)))
-  step-shape h w (Call.receive now at bs) u =
-      shaped does _ _ _ u (no-byte (Call.receive now at bs) (does _) (λ n e. apart (cc)) (λ b e. apart (cc)) (λ t e. apart (cc)))
-  step-shape h w (Call.wake now) u =
-      shaped does _ _ _ u (no-byte (Call.wake now) (does _) (λ n e. apart (cc)) (λ b e. apart (cc)) (λ t e. apart (cc)))
-  step-shape h w (Call.reset now) u =
-      shaped does _ _ _ u (no-byte (Call.reset now) (does _) (λ n e. apart (cc)) (λ b e. apart (cc)) (λ t e. apart (cc)))
-  step-shape h w (Call.powerDown now) u =
-      shaped does _ _ _ u (no-byte (Call.powerDown now) (does _) (λ n e. apart (cc)) (λ b e. apart (cc)) (λ t e. apart (cc)))
-  step-shape h w (Call.watch now b) u =
-      shaped does _ _ _ u (no-byte (Call.watch now b) (does _) (λ n e. apart (cc)) (λ b e. apart (cc)) (λ t e. apart (cc)))
-  step-shape h w (Call.clockChange now p) u =
-      shaped does _ _ _ u (no-byte (Call.clockChange now p) (does _) (λ n e. apart (cc)) (λ b e. apart (cc)) (λ t e. apart (cc)))
-  step-shape h w (Call.takeTx now lent) u = shaped takes _ _ _ u (Shape.handedOut {c = Call.takeTx now lent} (λ n e. apart (cc)))
-  step-shape h w (Call.takeWritten lent) u = shaped takes _ _ _ u (Shape.handedOut {c = Call.takeWritten lent} (λ n e. apart (cc)))
-  step-shape h w Call.hasLeft u =
-      shaped left _ _ _ u (no-byte Call.hasLeft (left _) (λ n e. apart (cc)) (λ b e. apart (cc)) (λ t e. apart (cc)))
-  step-shape h w Call.hostPending u =
-      shaped pends _ _ _ u (no-byte Call.hostPending (pends _) (λ n e. apart (cc)) (λ b e. apart (cc)) (λ t e. apart (cc)))
+  unfolding numbered placed changed changedDated changedUndated stepPlaced stepBy planBy dateOf answering
+  step-shape h w (Call.at now (Dated.read o)) u = read-shape now o u (eqb o fifo) refl
+  step-shape h w (Call.at now (Dated.write x)) u = shaped writes _ _ _ u (no-byte _ (writes _) (λ n e. apart (cc)) (λ b e. apart (cc)) (λ t e. apart (cc)))
+  step-shape h w (Call.at now (Dated.receive date bs)) u = shaped does _ _ _ u (no-byte _ (does _) (λ n e. apart (cc)) (λ b e. apart (cc)) (λ t e. apart (cc)))
+  step-shape h w (Call.at now (Dated.takeTx lent)) u = shaped takes _ _ _ u (Shape.handedOut (λ n e. apart (cc)))
+  step-shape h w (Call.at now (Dated.machine m)) u = shaped does _ _ _ u (no-byte _ (does _) (λ n e. apart (cc)) (λ b e. apart (cc)) (λ t e. apart (cc)))
+  step-shape h w (Call.undated (Undated.takeWritten lent)) u = shaped takes _ _ _ u (Shape.handedOut (λ n e. apart (cc)))
+  step-shape h w (Call.undated Undated.hasLeft) u = shaped left _ _ _ u (no-byte _ (left _) (λ n e. apart (cc)) (λ b e. apart (cc)) (λ t e. apart (cc)))
+  step-shape h w (Call.undated Undated.hostPending) u = shaped pends _ _ _ u (no-byte _ (pends _) (λ n e. apart (cc)) (λ b e. apart (cc)) (λ t e. apart (cc)))
 
   -- every answer of a numbered list has its call's shape
   pub run-shape : (h w : ℕ) (cs : List Request) (u : Uart ℕ ℕ)

@@ -12,7 +12,7 @@ use Rattle.model.specs.Registers.{writeRegister}
 use Rattle.model.specs.Calls.{outcome, writePlaced, writeAt}
 use Rattle.model.specs.Calls
 use Rattle.model.specs.SetUp.{resetOf, wordsAmong, idleStatus, mapOf, new}
-use Rattle.model.specs.Call.{Call, dateOf, writes}
+use Rattle.model.specs.Call.{Dated, Call, dateOf, writes}
 use Rattle.model.specs.Run.{stepped, replying, planBy, writing, plan, step}
 
 -- whether a word written there does something: INT_CLR and the nine stored words. FIFO takes its low byte alone
@@ -42,7 +42,7 @@ unused-at (Register.stored x) f e now v w u = absurd (true≢false e)
 
 pub step-unused : (now offset v w : ℕ) (u : Uart ℕ ℕ) → isFifo (registerOf (u .map .offsets) offset) ≡ false
     → takesWord (registerOf (u .map .offsets) offset) ≡ false
-    → step (Call.write now (record { offset = offset; value = v })) u ≡ step (Call.write now (record { offset = offset; value = w })) u
+    → step (Call.at now (Dated.write (record { offset = offset; value = v }))) u ≡ step (Call.at now (Dated.write (record { offset = offset; value = w }))) u
 unfolding step plan planBy dateOf writing Calls.write
 step-unused now offset v w u f e =
     ap (λ p. stepped (outcome (some now) (replying writes p) u)) (unused-at (registerOf (u .map .offsets) offset) f e now v w u)
