@@ -8,7 +8,8 @@ use lib.Dec.{ltb}
 use lib.ListN.{length}
 use Rattle.dates.specs.Dates.{later}
 use Rattle.model.specs.Numbers.{choose, onlyIf, dueBy, earliest, inCycles}
-use Rattle.model.specs.State.{Sent, Run, OnTheLine, Uart, withWake, withControl, lineOf}
+use Rattle.model.specs.State.{Sent, Run, OnTheLine, Uart, lineOf}
+use Rattle.model.specs.Setters.{withWake, withControl}
 use Rattle.model.specs.Line.{afterDate, timeoutAt}
 use Rattle.model.specs.Settle.{emptyThreshold, settingsOf}
 use Rattle.model.specs.declared.Date.{Date}

@@ -7,8 +7,9 @@ use lib.Dec.{leb, ltb}
 use lib.ListN.{length, drop}
 use Rattle.dates.specs.Dates.{subcycles, later}
 use Rattle.model.specs.Numbers.{choose}
-use Rattle.model.specs.State.{Run, Uart, withIntRaw, withMistimed, withIdleSince, withWords, withLine, withPeriod, withLast, withWake}
-use Rattle.model.specs.State.{withWatched, withPoweredDownAt, withControl, withInFlight, withTx, withHost, withRx}
+use Rattle.model.specs.State.{Run, Uart}
+use Rattle.model.specs.Setters.{withIntRaw, withMistimed, withIdleSince, withWords, withLine, withPeriod, withLast, withWake}
+use Rattle.model.specs.Setters.{withWatched, withPoweredDownAt, withControl, withInFlight, withTx, withHost, withRx}
 use Rattle.model.specs.Events.{Event, passesIn, overflowsIn}
 use Rattle.model.specs.Settle.{Settled, found, ended, settle, pending, levels}
 use Rattle.model.specs.Arm.{called, arm}

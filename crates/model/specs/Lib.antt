@@ -1,6 +1,7 @@
 -- What a UART is, from the plain to the composed, and then what is proved of it.
 pub mod Numbers
 pub mod State
+pub mod Setters
 pub mod Events
 pub mod Timing
 pub mod Line

@@ -5,7 +5,7 @@ use lib.Dec.{ltb}
 use lib.Bits.{bitOr}
 use Rattle.dates.specs.Dates.{after}
 use Rattle.model.specs.Numbers.{choose}
-use Rattle.model.specs.State.{withIntRaw, withMistimed, withIdleSince, withLineFreeAt}
+use Rattle.model.specs.Setters.{withIntRaw, withMistimed, withIdleSince, withLineFreeAt}
 use Rattle.model.specs.declared.Date.{Date}
 use Rattle.model.specs.declared.Date.the-variants.{None, At}
 use Rattle.model.specs.declared.Source.{Source}

@@ -16,21 +16,15 @@ use Rattle.model.specs.declared.Date.the-variants.{None, At}
 pub data StopBits : Type 0 where
   one oneAndAHalf two : StopBits
 
-pub record Frame : Type 0 where
-  pub startBits : ℕ
-  pub dataBits : ℕ
-  pub parityBits : ℕ
-  pub stopBits : StopBits
-
 -- STOP_BIT_NUM (bits 4-5); 0 stands for no number of stop bits
 unfoldable pub stopCode : StopBits → ℕ
 stopCode one = 1
 stopCode oneAndAHalf = 2
 stopCode two = 3
 
--- PARITY_EN (bit 1), BIT_NUM (bits 2-3)
-unfoldable pub frameOf : ℕ → StopBits → Frame
-frameOf conf0 stop = record { startBits = 1; dataBits = 5 + field 2 2 conf0; parityBits = field 1 1 conf0; stopBits = stop }
+-- BIT_NUM (bits 2-3)
+unfoldable pub dataBits : ℕ → ℕ
+dataBits conf0 = 5 + field 2 2 conf0
 
 -- twice the number of stop bits
 unfoldable pub stopHalves : StopBits → ℕ
@@ -38,9 +32,9 @@ stopHalves one = 2
 stopHalves oneAndAHalf = 3
 stopHalves two = 4
 
--- twice the length of a frame in bits
-unfoldable pub halfBits : Frame → ℕ
-halfBits f = 2 * (f .startBits + f .dataBits + f .parityBits) + stopHalves (f .stopBits)
+-- twice the length of a frame in bits; PARITY_EN (bit 1) is a bit more
+unfoldable pub halfBits : ℕ → StopBits → ℕ
+halfBits conf0 stop = 2 * (1 + dataBits conf0 + field 1 1 conf0) + stopHalves stop
 
 -- ---- UART_CLKDIV and UART_CLK_CONF: the bit time
 

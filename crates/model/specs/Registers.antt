@@ -7,7 +7,8 @@ use lib.ListN.{length, take}
 use lib.Bits.{bitOr}
 use Rattle.dates.specs.Dates.{after, subcycles, later}
 use Rattle.model.specs.Numbers.{choose, field, bit, without}
-use Rattle.model.specs.State.{Sent, Uart, withIntRaw, withMistimed, withWords, withControl, withInFlight, withRx, lineOf, withLineOf}
+use Rattle.model.specs.State.{Sent, Uart, lineOf}
+use Rattle.model.specs.Setters.{withIntRaw, withMistimed, withWords, withControl, withInFlight, withRx, withLineOf}
 use Rattle.model.specs.Timing.{byteTime, unmodelledSource}
 use Rattle.model.specs.Line.{fifoBytes}
 use Rattle.model.specs.Settle.{inFifo, intStatus, levels}

@@ -58,10 +58,6 @@ planBy rd wr (Call.undated (Undated.takeWritten lent)) u = replying takes (Calls
 planBy rd wr (Call.undated Undated.hasLeft) u = replying left (Calls.hasLeft u)
 planBy rd wr (Call.undated Undated.hostPending) u = replying pends (Calls.hostPending u)
 
-unfoldable pub stepBy : {R X H W L : Type 0} → (ℕ → R → Uart H W → Plan (ReadOf H) H W) → (ℕ → X → Uart H W → Plan Write H W)
-    → Call R X H L → Uart H W → Step H W L
-stepBy rd wr c u = stepped (outcome (dateOf c) (planBy rd wr c u) u)
-
 unfoldable pub writing : ℕ → Written → Uart ℕ ℕ → Plan Write ℕ ℕ
 writing now x u = Calls.write now (x .offset) (x .value) u
 
@@ -73,17 +69,11 @@ unfoldable pub step : Request → Uart ℕ ℕ → Step ℕ ℕ ℕ
 step c u = stepped (outcome (dateOf c) (plan c u) u)
 
 -- all answers of a list of calls
-unfoldable pub runBy : {C H W L : Type 0} → (C → Uart H W → Step H W L) → List C → Uart H W → List (Answer H W L)
-runBy one [] u = []
-runBy one (c ∷ cs) u = one c u .answer ∷ runBy one cs (one c u .state)
-
 unfoldable pub run : List Request → Uart ℕ ℕ → List (Answer ℕ ℕ ℕ)
-run cs u = runBy step cs u
+run [] u = []
+run (c ∷ cs) u = step c u .answer ∷ run cs (step c u .state)
 
 -- what was found in a run, in order, call by call
-unfoldable pub historyBy : {C H W L : Type 0} → (C → Uart H W → Step H W L) → List C → Uart H W → List (Event H W)
-historyBy one [] u = []
-historyBy one (c ∷ cs) u = one c u .events ++ historyBy one cs (one c u .state)
-
 unfoldable pub history : List Request → Uart ℕ ℕ → List (Event ℕ ℕ)
-history cs u = historyBy step cs u
+history [] u = []
+history (c ∷ cs) u = step c u .events ++ history cs (step c u .state)

@@ -5,7 +5,8 @@ use mathlib.Core.Option.{Option, none, some}
 use mathlib.Core.List.{List, []}
 use lib.ListN.{getD}
 use Rattle.model.specs.Numbers.{choose, without}
-use Rattle.model.specs.State.{Uart, uartFrom}
+use Rattle.model.specs.State.{Uart}
+use Rattle.model.specs.Setters.{uartFrom}
 use Rattle.model.specs.Line.{TXFIFO-EMPTY}
 use Rattle.model.specs.Map.{Register, shown, stored, status, memRxStatus, placeAmong, registers, wordsBy}
 use Rattle.model.specs.Tests.{repeated}

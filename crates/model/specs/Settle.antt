@@ -8,8 +8,10 @@ use lib.ListN.{length, take, drop}
 use lib.Bits.{bitAnd}
 use Rattle.dates.specs.Dates.{subcycles, later, earlier}
 use Rattle.model.specs.Numbers.{choose, field, dueBy, instantOf}
-use Rattle.model.specs.State.{Sent, Run, OnTheLine, Uart, withLine, withLevel, withControl, withInFlight, withTx, withHost}
-use Rattle.model.specs.State.{withReceiving, withRx, lineOf, withLineOf}
+use Rattle.model.specs.State.{Sent, Run, OnTheLine, Uart}
+use Rattle.model.specs.Setters.{withLine, withLevel, withControl, withInFlight, withTx, withHost}
+use Rattle.model.specs.State.{lineOf}
+use Rattle.model.specs.Setters.{withReceiving, withRx, withLineOf}
 use Rattle.model.specs.Timing.{settings}
 use Rattle.model.specs.Events.{Event, departure, timeout, landing, nothing, goesOn}
 use Rattle.model.specs.Line.{RXFIFO-FULL, TXFIFO-EMPTY, TX-DONE, raiseIf, timeoutAt, timeOut, frame, start, fate, land}

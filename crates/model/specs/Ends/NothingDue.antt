@@ -1,26 +1,26 @@
 -- Demand 1 of a settling: within 2 × pending + 2 passes it leaves nothing due, spelled out in dates. Assumes nothing but,
 -- for the bytes in flight, that their dates never fall.
-use mathlib.Core.Path.{_≡_, refl, ap, ap₂, _∙_}
+use mathlib.Core.Path.{_≡_, refl, sym, ap, ap₂, _∙_}
 use Prim.Native.Nat.{ℕ, zero, suc, _+_, _*_, _^_, _≤_, _<_, min}
 use native.Mathlib.Omega.{arith}
 use mathlib.Core.Bool.{Bool, true, false}
 use mathlib.Core.Option.{none, some}
-use mathlib.Core.List.{List, [], _∷_, _++_, map}
+use mathlib.Core.List.{List, [], _∷_, _++_, map, append-assoc}
 use lib.Dec.{leb}
 use lib.ListN.{length, take, drop}
 use borrow.Author.Tests.{leb-true, leb-false}
 use Rattle.dates.specs.Dates.{later}
 use Rattle.model.specs.State.{Sent, Run, OnTheLine, Uart, lineOf}
-use Rattle.model.specs.Events.{Event, passesIn, overflowsIn}
+use Rattle.model.specs.Events.{Event, departure, nothing, passesIn, overflowsIn}
 use Rattle.model.specs.Timing.{settings}
 use Rattle.model.specs.Line.{raiseIf, timeoutAt}
 use Rattle.model.specs.Settle.{gone, leave, depart, pending, departures, passes, assertLevels, drive, noLaterThan, settlingDate}
 use Rattle.model.specs.Settle.{levels}
 use Rattle.model.specs.Settle.{leveled, settingsOf, settleTo, settle}
 use Rattle.model.specs.Limits.{All, nil, cons, Chain, empty, single, link, flightDates}
-use Rattle.model.specs.Ends.Passes.{After, LineQuiet, Kept}
+use Rattle.model.specs.Ends.Passes.{apart, After, LineQuiet, Kept}
 use Rattle.model.specs.Laws.Events.{departures-pass, departures-lose}
-use Rattle.model.specs.Ends.Through.{Through, through, through-passes, passes-bound, through-kept, through-quiet}
+use Rattle.model.specs.Ends.Through.{Through, through, through-passes, passes-bound, through-kept, through-quiet, through-last}
 use Rattle.model.specs.declared.Date.the-variants.{None, At}
 use Rattle.model.specs.declared.Control.{Control}
 
@@ -97,6 +97,14 @@ pub record Departs {H W : Type 0} (date : ℕ) (u v : Uart H W) : Type 0 where
   pub tx : v .tx ≡ u .tx ++ map (λ s. s .byte) (take count (u .inFlight))
   pub due : All (λ t. t ≤ date) (flightDates (take count (u .inFlight)))
 
+leaves-something : {H W : Type 0} (at : ℕ) (b : W) (d : ℕ) → ¬ (_≡_ {A = Event H W} (departure at b) (nothing d))
+leaves-something at b d q = apart (cc)
+
+departs-first : {H W : Type 0} (ss : List (Sent W)) (fs : List (Event H W)) → All (λ e. (d : ℕ) → ¬ (e ≡ nothing d)) fs
+    → All (λ e. (d : ℕ) → ¬ (e ≡ nothing d)) (map (λ s. departure (s .goneAt) (s .byte)) ss ++ fs)
+departs-first [] fs a = a
+departs-first (s ∷ ss) fs a = cons (leaves-something (s .goneAt) (s .byte)) (departs-first ss fs a)
+
 -- what a settling finds: the departures, and then pass by pass all that is due on the line, and nothing
 pub record Finds {H W : Type 0} (now : ℕ) (u : Uart H W) : Type 0 where
   pub finds : List (Event H W)
@@ -125,6 +133,19 @@ module _ {H W : Type 0} (now : ℕ) (u : Uart H W) where
         passes = departures-pass date u (t .events) ∙ through-passes (settingsOf u) date (through (settingsOf u) date (depart date u));
         overflows = departures-lose date u (t .events);
       }
+
+  -- a settling ends with a pass that finds nothing due, and no other pass finds nothing
+  pub settle-last : (es : List (Event H W)) × (at : ℕ) × All (λ e. (d : ℕ) → ¬ (e ≡ nothing d)) es
+      × (settle now u .events ≡ es ++ (nothing at ∷ []))
+  unfolding departures
+  settle-last =
+      let (fs, at, a, is) = through-last _ _ (settle-finds .through) in
+      let before = departures date u in (
+        before ++ fs,
+        at,
+        departs-first (take (gone date (u .inFlight)) (u .inFlight)) fs a,
+        settle-finds .events ∙ ap (λ l. before ++ l) is ∙ sym (append-assoc before fs (nothing at ∷ [])),
+      )
 
   -- demand 1: two passes for each pending byte, and two more
   pub settle-passes : passesIn (settle now u .events) ≤ 2 * pending u + 2

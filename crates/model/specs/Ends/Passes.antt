@@ -10,7 +10,8 @@ use lib.ListN.{length}
 use borrow.Author.Tests.{ltb-true, ltb-false, leb-true, leb-false}
 use Rattle.dates.specs.Dates.{later, earlier}
 use Rattle.model.specs.Numbers.{dueBy, instantOf}
-use Rattle.model.specs.State.{Run, OnTheLine, Uart, withLine, lineOf}
+use Rattle.model.specs.State.{Run, OnTheLine, Uart, lineOf}
+use Rattle.model.specs.Setters.{withLine}
 use Rattle.model.specs.Events.{Event, departure, timeout, landing, nothing}
 use Rattle.model.specs.Line
 use Rattle.model.specs.Line.{raiseIf, noteSource, afterDate, timeoutAt, timeOut, frame, start, land}

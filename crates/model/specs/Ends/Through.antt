@@ -4,12 +4,13 @@ use mathlib.Core.Path.{_≡_, refl, sym, ap, ap₂, subst, _∙_}
 use Prim.Native.Nat.{ℕ, zero, suc, _+_, _*_, _≤_, _<_}
 use native.Mathlib.Omega.{arith}
 use mathlib.Core.Bool.{Bool, true, false, true≢false, false≢true}
-use mathlib.Core.List.{List, [], _∷_}
+use mathlib.Core.List.{List, [], _∷_, _++_}
 use lib.ListN.{length}
 use Rattle.model.specs.State.{Uart, lineOf}
 use Rattle.model.specs.Events.{Event, departure, timeout, landing, nothing, total, goesOn, onePass, passesIn}
 use Rattle.model.specs.Line.{afterDate, timeoutAt}
 use Rattle.model.specs.Settle.{Pass, Settled, pass, found, ended, passesFrom, pending, passes}
+use Rattle.model.specs.Limits.{All, nil, cons}
 use Rattle.model.specs.Ends.Passes.{apart, LineQuiet, Kept, TakesTimeout, TakesByte, Takes, PassLaw, pass-law, kept-trans}
 use Rattle.model.specs.Ends.Fates.{landings, pass-pending, pending-underway}
 use Rattle.model.specs.declared.Date.{Date}
@@ -174,3 +175,21 @@ module _ {H W : Type 0} (s : Settings) (date : ℕ) where
   unfolding total
   through-pending (ends {u = u} {v = v} {e = x} e g) = omega (arith, pass-pending s date x u v (law-of e .takes))
   through-pending (goes {u = u} {v = v} {e = x} e g t) = omega (arith, pass-pending s date x u v (law-of e .takes), through-pending t)
+
+  -- ---- the last one finds nothing, and no other does
+
+  rests-last : (u v : Uart H W) (e : Event H W) → goesOn e ≡ false → Takes s date u e v → (at : ℕ) × (e ≡ nothing at)
+  unfolding goesOn
+  rests-last u v (departure at b) g t = absurd t
+  rests-last u v (timeout at) g t = absurd (true≢false g)
+  rests-last u v (landing at b f) g t = absurd (true≢false g)
+  rests-last u v (nothing at) g t = (at, refl)
+
+  pub through-last : {u v : Uart H W} {es : List (Event H W)} → Through s date u es v
+      → (fs : List (Event H W)) × (at : ℕ) × All (λ e. (d : ℕ) → ¬ (e ≡ nothing d)) fs × (es ≡ fs ++ (nothing at ∷ []))
+  unfolding goesOn
+  through-last (ends {u = u} {v = v} {e = x} e g) =
+      let (at, is) = rests-last u v x g (law-of e .takes) in ([], at, nil, ap (λ y. y ∷ []) is)
+  through-last (goes {e = x} e g t) =
+      let (fs, at, a, is) = through-last t in
+      (x ∷ fs, at, cons (λ d q. false≢true (ap goesOn (sym q) ∙ g)) a, ap (λ l. x ∷ l) is)

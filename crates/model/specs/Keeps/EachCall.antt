@@ -9,7 +9,8 @@ use mathlib.Core.List.{List, [], _∷_}
 use lib.Dec.{ltb, lit≤}
 use lib.ListN.{length}
 use borrow.Author.Tests.{leb-false, ltb-false, lt-ltb}
-use Rattle.model.specs.State.{Uart, withTx}
+use Rattle.model.specs.State.{Uart}
+use Rattle.model.specs.Setters.{withTx}
 use Rattle.model.specs.Map.{Register, registerOf}
 use Rattle.model.specs.Tests.{sentLimit, runsLimit, periodLimit, hostFull, runsFull, periodTooLong}
 use Rattle.model.specs.Calls

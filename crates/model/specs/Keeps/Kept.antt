@@ -7,7 +7,8 @@ use native.Mathlib.Nat.{le-refl}
 use mathlib.Core.Bool.{false}
 use mathlib.Core.List.{List, [], _∷_, _++_, map, append-assoc}
 use lib.ListN.{length, drop, length-append, length-map}
-use Rattle.model.specs.State.{Run, Uart, withLine, withLevel}
+use Rattle.model.specs.State.{Run, Uart}
+use Rattle.model.specs.Setters.{withLine, withLevel}
 use Rattle.model.specs.Line.{raiseIf}
 use Rattle.model.specs.Settle.{gone, txDone, leave, depart, popRun, timedOut, landed, begun, pass, onTheLine, pending, assertLevels}
 use Rattle.model.specs.Settle.{drive, levels, leveled, settingsOf, settleTo, settle}

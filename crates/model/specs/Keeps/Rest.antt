@@ -4,7 +4,8 @@ use Prim.Native.Nat.{ℕ}
 use mathlib.Core.Bool.{true, false}
 use mathlib.Core.Option.{none}
 use mathlib.Core.List.{[]}
-use Rattle.model.specs.State.{Uart, withLine, withLevel, withControl, withHost, withReceiving, withRx}
+use Rattle.model.specs.State.{Uart}
+use Rattle.model.specs.Setters.{withLine, withLevel, withControl, withHost, withReceiving, withRx}
 use Rattle.model.specs.Settle.{Pass, leave, depart, nothingDue, timedOut, landed, begun, pass, passes, levels, leveled}
 use Rattle.model.specs.Settle.{assertLevels, drive, settingsOf, settleTo}
 use Rattle.model.specs.Laws.Cases.{pass-cases, passes-on}

@@ -17,7 +17,7 @@ use Rattle.model.specs.Calls
 use Rattle.model.specs.Calls.{Plan, outcome}
 use Rattle.model.specs.SetUp.{fifoCounts, mapOf, newControl, new}
 use Rattle.model.specs.Call.{Machine, Dated, Undated, Call, dateOf, Request, Reply, Answer}
-use Rattle.model.specs.Run.{Step, stepped, replying, machinePlan, planBy, stepBy, writing, plan, step, runBy}
+use Rattle.model.specs.Run.{Step, stepped, replying, machinePlan, planBy, writing, plan, step}
 use Rattle.model.specs.Limits.{Chain, All, sum, Within}
 use Rattle.model.specs.Laws.Plans.{answering, replied}
 use Rattle.model.specs.Keeps.Parts.{together}
@@ -66,54 +66,37 @@ machine-within now Machine.powerDown u w = powerDown-within now u w
 machine-within now (Machine.watch b) u w = watch-within now b u w
 machine-within now (Machine.clockChange period) u w = clockChange-within now period u w
 
-module _ {R X H W : Type 0} (rd : ℕ → R → Uart H W → Plan (ReadOf H) H W) (wr : ℕ → X → Uart H W → Plan Write H W)
-    (rd-within : (now : ℕ) (r : R) (u : Uart H W) → Within u → Within (outcome (some now) (rd now r u) u .state))
-    (wr-within : (now : ℕ) (x : X) (u : Uart H W) → Within u → Within (outcome (some now) (wr now x u) u .state)) where
-  replying-within : {A L : Type 0} (as-reply : A → Reply H W L) (d : Option ℕ) (p : Plan A H W) (u : Uart H W)
-      → Within (outcome d p u .state) → Within (stepped (outcome d (replying as-reply p) u) .state)
-  unfolding answering
-  replying-within as-reply d p u w = subst (λ (s : Step H W _). Within (s .state)) (sym (replied as-reply p u d)) w
-
-  -- a call keeps a state within the limits where its reads and writes do
-  pub stepBy-within : {L : Type 0} (c : Call R X H L) (u : Uart H W) → Within u → Within (stepBy rd wr c u .state)
-  unfolding stepBy planBy dateOf
-  stepBy-within (Call.at now (Dated.read r)) u w = replying-within _ _ _ u (rd-within now r u w)
-  stepBy-within (Call.at now (Dated.write x)) u w = replying-within _ _ _ u (wr-within now x u w)
-  stepBy-within (Call.at now (Dated.receive date bs)) u w = replying-within _ _ _ u (receive-within now date bs u w)
-  stepBy-within (Call.at now (Dated.takeTx lent)) u w = replying-within _ _ _ u (takeTx-within now lent u w)
-  stepBy-within (Call.at now (Dated.machine m)) u w = replying-within _ _ _ u (machine-within now m u w)
-  stepBy-within (Call.undated (Undated.takeWritten lent)) u w = replying-within _ _ _ u (takeWritten-within lent u w)
-  stepBy-within (Call.undated Undated.hasLeft) u w = replying-within _ _ _ u (hasLeft-within u w)
-  stepBy-within (Call.undated Undated.hostPending) u w = replying-within _ _ _ u (hostPending-within u w)
+replying-within : {R L : Type 0} (as-reply : R → Reply ℕ ℕ L) (d : Option ℕ) (p : Plan R ℕ ℕ) (u : Uart ℕ ℕ)
+    → Within (outcome d p u .state) → Within (stepped (outcome d (replying as-reply p) u) .state)
+unfolding answering
+replying-within as-reply d p u w = subst (λ (s : Step ℕ ℕ _). Within (s .state)) (sym (replied as-reply p u d)) w
 
 -- every call keeps a state within the limits
 pub step-within : (c : Request) (u : Uart ℕ ℕ) → Within u → Within (step c u .state)
-unfolding step plan stepBy writing
-step-within c u w =
-    stepBy-within Calls.read writing (λ now offset v k. read-within now offset v k)
-    (λ now x v k. write-within now (x .offset) (x .value) v k) c u w
+unfolding step plan planBy writing dateOf
+step-within (Call.at now (Dated.read offset)) u w = replying-within _ _ _ u (read-within now offset u w)
+step-within (Call.at now (Dated.write x)) u w = replying-within _ _ _ u (write-within now (x .offset) (x .value) u w)
+step-within (Call.at now (Dated.receive date bs)) u w = replying-within _ _ _ u (receive-within now date bs u w)
+step-within (Call.at now (Dated.takeTx lent)) u w = replying-within _ _ _ u (takeTx-within now lent u w)
+step-within (Call.at now (Dated.machine m)) u w = replying-within _ _ _ u (machine-within now m u w)
+step-within (Call.undated (Undated.takeWritten lent)) u w = replying-within _ _ _ u (takeWritten-within lent u w)
+step-within (Call.undated Undated.hasLeft) u w = replying-within _ _ _ u (hasLeft-within u w)
+step-within (Call.undated Undated.hostPending) u w = replying-within _ _ _ u (hostPending-within u w)
 
 -- ---- a list of calls
 
-module _ {C H W L : Type 0} (one : C → Uart H W → Step H W L) where
-  -- the state that a list of calls leaves
-  unfoldable pub stateAfter : List C → Uart H W → Uart H W
-  stateAfter [] u = u
-  stateAfter (c ∷ cs) u = stateAfter cs (one c u .state)
-
-  -- it is the state in which the calls after them are answered
-  pub runBy-append : (cs ds : List C) (u : Uart H W) → runBy one (cs ++ ds) u ≡ runBy one cs u ++ runBy one ds (stateAfter cs u)
-  unfolding runBy stateAfter
-  runBy-append [] ds u = refl
-  runBy-append (c ∷ cs) ds u = ap {B = List (Answer H W L)} (λ as-before. one c u .answer ∷ as-before) (runBy-append cs ds (one c u .state))
+-- the state that a list of calls leaves
+unfoldable pub stateAfter : List Request → Uart ℕ ℕ → Uart ℕ ℕ
+stateAfter [] u = u
+stateAfter (c ∷ cs) u = stateAfter cs (step c u .state)
 
 -- every state along a list of calls is within the limits
-pub calls-within : (cs : List Request) (u : Uart ℕ ℕ) → Within u → Within (stateAfter step cs u)
+pub calls-within : (cs : List Request) (u : Uart ℕ ℕ) → Within u → Within (stateAfter cs u)
 unfolding stateAfter
 calls-within [] u w = w
 calls-within (c ∷ cs) u w = calls-within cs (step c u .state) (step-within c u w)
 
 -- from set-up on
 pub reached-within : (offsets ws : List ℕ) (cs : List Request) → length offsets ≡ 16 → repeated offsets ≡ false
-    → Within (stateAfter step cs (new offsets ws))
+    → Within (stateAfter cs (new offsets ws))
 reached-within offsets ws cs sixteen different = calls-within cs (new offsets ws) (new-within offsets ws sixteen different)

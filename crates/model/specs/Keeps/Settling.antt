@@ -10,7 +10,8 @@ use lib.ListN.{length, take, drop, length-append, length-take, length-drop, leng
 use borrow.Author.Tests.{leb-true, leb-false, ltb-true}
 use Rattle.dates.specs.Dates
 use Rattle.dates.specs.Dates.{after}
-use Rattle.model.specs.State.{Sent, Run, Uart, withLineFreeAt}
+use Rattle.model.specs.State.{Sent, Run, Uart}
+use Rattle.model.specs.Setters.{withLineFreeAt}
 use Rattle.model.specs.Line.{fifoBytes, raiseIf, noteSource, opened, timeOut, frame, start, fate, land}
 use Rattle.model.specs.Settle.{gone, txDone, leave, depart, popRun, received, timedOut, landed, begun, pass, assertLevels, drive}
 use Rattle.model.specs.Settle.{levels, leveled, settingsOf, settleTo, settle}

@@ -10,7 +10,8 @@ use lib.ListN.{getD}
 use lib.Bits.{or-lt, and-le-l}
 use Rattle.dates.specs.Dates
 use Rattle.model.specs.Numbers.{choose}
-use Rattle.model.specs.State.{Sent, OnTheLine, Uart, lineOf, mapSent, mapReceiving, mapUart}
+use Rattle.model.specs.State.{Sent, OnTheLine, Uart, lineOf}
+use Rattle.model.specs.TwoRuns.Renamed.{mapSent, mapReceiving, mapUart}
 use Rattle.model.specs.Line.{RXFIFO-OVF, RXFIFO-TOUT, TXFIFO-EMPTY, RXFIFO-FULL, TX-DONE, raiseIf, noteSource, opened, timeOut}
 use Rattle.model.specs.Line.{start, land}
 use Rattle.model.specs.Settle.{txDone, leave, depart, timedOut, landed, begun, assertLevels, drive, levels, leveled}
@@ -34,7 +35,7 @@ use Rattle.model.specs.Laws.AccessCases.{write-ind, readRegister-ind, wr
 use Rattle.model.specs.Refuses.Conditions.{Result, refusal, done}
 use Rattle.model.specs.Refuses.Refusals.{step-result}
 use Rattle.model.specs.Ends.Settlings.{settlings, undated-settles}
-use Rattle.model.specs.TwoRuns.Alike.{itself}
+use Rattle.model.specs.TwoRuns.Renamed.{itself}
 use Rattle.model.specs.TwoRuns.Natural.{bytes-nat}
 use Rattle.model.specs.TwoRuns.NaturalCalls.{mapPut, mapPlaced, mapStep, stepPlaced-nat}
 use Rattle.model.specs.TwoRuns.Placed.{Put, changedDated, changedUndated, changed, putAt, placed, stepPlaced, step-placed}

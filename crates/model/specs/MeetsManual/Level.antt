@@ -6,7 +6,8 @@ use mathlib.Core.Bool.{Bool, true, false, not}
 use mathlib.Core.Option.{some}
 use mathlib.Core.List.{List, [], _∷_}
 use lib.Dec.{eqb}
-use Rattle.model.specs.State.{Uart, lineOf, withTx}
+use Rattle.model.specs.State.{Uart, lineOf}
+use Rattle.model.specs.Setters.{withTx}
 use Rattle.model.specs.Settle.{intStatus, assertLevels, drive, levels, leveled, settleTo, settle}
 use Rattle.model.specs.Arm.{arm}
 use Rattle.model.specs.Map.{Register, registerOf}

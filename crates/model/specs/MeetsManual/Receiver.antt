@@ -10,7 +10,8 @@ use lib.Dec.{leb}
 use borrow.Author.Tests.{leb-true, leb-false}
 use Rattle.model.specs.Manual.{by}
 use Rattle.model.specs.Numbers.{bit}
-use Rattle.model.specs.State.{OnTheLine, Uart, withWake, withPoweredDownAt, withControl}
+use Rattle.model.specs.State.{OnTheLine, Uart}
+use Rattle.model.specs.Setters.{withWake, withPoweredDownAt, withControl}
 use Rattle.model.specs.Timing.{byteTime, timeoutTime, settings}
 use Rattle.model.specs.Settle.{settingsOf, settlingDate, settle}
 use Rattle.model.specs.Arm.{called}

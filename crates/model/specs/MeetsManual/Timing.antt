@@ -29,9 +29,9 @@ use Rattle.model.specs.declared.Words.{Words}
 
 -- ---- the frame and the bit time
 
-pub data-bits : (conf0 : ℕ) (stop : Manual.StopBits) → (5 ≤ Manual.frameOf conf0 stop .dataBits) × (Manual.frameOf conf0 stop .dataBits ≤ 8)
-unfolding Manual.frameOf
-data-bits conf0 stop = omega arith
+pub data-bits : (conf0 : ℕ) → (5 ≤ Manual.dataBits conf0) × (Manual.dataBits conf0 ≤ 8)
+unfolding Manual.dataBits
+data-bits conf0 = omega arith
 
 stop-halves : (stop : Manual.StopBits) → stopHalfBits (Manual.stopCode stop) ≡ Manual.stopHalves stop
 unfolding stopHalfBits Manual.stopCode Manual.stopHalves
@@ -41,8 +41,8 @@ stop-halves Manual.two = refl
 
 -- half bits are twice the frame's length in bits; a stop code of 0 is the code of no frame
 pub half-bits : (conf0 : ℕ) (stop : Manual.StopBits) → field 4 2 conf0 ≡ Manual.stopCode stop
-    → frameHalfBits conf0 ≡ Manual.halfBits (Manual.frameOf conf0 stop)
-unfolding frameHalfBits Manual.halfBits Manual.frameOf
+    → frameHalfBits conf0 ≡ Manual.halfBits conf0 stop
+unfolding frameHalfBits Manual.halfBits Manual.dataBits
 half-bits conf0 stop e = ap (λ (k : ℕ). 2 * (1 + (5 + field 2 2 conf0) + field 1 1 conf0) + k) (ap stopHalfBits e ∙ stop-halves stop)
 
 -- registers by which the manual and the model time a frame alike: a stop code other than 0, SCLK_SEL 1 or 3, and no fraction in the source
@@ -60,7 +60,7 @@ module _ (w : Words) (period : ℕ) (m : Meant w) where
 
   -- a time that the manual gives a frame, and one that it gives the receive timeout, RX_TOUT_THRHD bits of two half bits each
   abbrev pub FrameTime : ℕ → Type 0
-  FrameTime time = LastsHalves (Manual.halfBits (Manual.frameOf (w .conf0) (m .stop))) time
+  FrameTime time = LastsHalves (Manual.halfBits (w .conf0) (m .stop)) time
 
   abbrev pub TimeoutTime : ℕ → Type 0
   TimeoutTime time = LastsHalves (2 * Manual.timeoutBits (w .«mem_conf»)) time

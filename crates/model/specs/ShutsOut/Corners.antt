@@ -12,7 +12,8 @@ use lib.ListN.{take}
 use borrow.Author.Tests.{le-ltb}
 use Rattle.model.specs.Manual
 use Rattle.model.specs.Numbers.{choose, field, bit, dueBy}
-use Rattle.model.specs.State.{OnTheLine, Uart, lineOf, withPoweredDownAt, withControl}
+use Rattle.model.specs.State.{OnTheLine, Uart, lineOf}
+use Rattle.model.specs.Setters.{withPoweredDownAt, withControl}
 use Rattle.model.specs.Line.{raiseIf, timeoutAt}
 use Rattle.model.specs.Settle.{timedOut, inFrame, passOn, pass, aboveFull, inFifo, emptyThreshold, belowEmpty, assertLevels}
 use Rattle.model.specs.Settle.{drive, levels, settle}

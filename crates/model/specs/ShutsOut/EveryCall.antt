@@ -7,8 +7,9 @@ use mathlib.Core.Bool.{Bool, true, false}
 use mathlib.Core.Option.{Option, some}
 use mathlib.Core.List.{List, [], _∷_}
 use Rattle.dates.specs.Dates.{subcycles}
-use Rattle.model.specs.State.{OnTheLine, Uart, withWake, withMistimed, withPoweredDownAt, withControl, withTx, lineOf}
-use Rattle.model.specs.State.{withLineOf}
+use Rattle.model.specs.State.{OnTheLine, Uart, lineOf}
+use Rattle.model.specs.Setters.{withWake, withMistimed, withPoweredDownAt, withControl, withTx}
+use Rattle.model.specs.Setters.{withLineOf}
 use Rattle.model.specs.Settle.{levels, noLaterThan, settlingDate, settleTo, settle}
 use Rattle.model.specs.Arm.{arm, called}
 use Rattle.model.specs.Replies.{ReadOf}

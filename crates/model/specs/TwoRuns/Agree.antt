@@ -15,21 +15,6 @@ use Rattle.model.specs.declared.Taken.{Taken}
 use Rattle.model.specs.declared.Unsupported.{Unsupported}
 use Rattle.model.specs.declared.Unsupported.the-variants.{UartEmptyRead, UartReceiveClock}
 
--- an answer without the rest of a lent buffer that the call has not written, of which only the length is kept
-abbrev pub Bare : Type 0
-Bare = Answer ℕ ℕ (Unit {0})
-
-unfoldable pub bareReply : Reply ℕ ℕ ℕ → Reply ℕ ℕ (Unit {0})
-bareReply (reads r) = reads r
-bareReply (writes r) = writes r
-bareReply (does r) = does r
-bareReply (takes t) = takes (record { taken = t .taken; front = t .front; rest = map (λ b. tt) (t .rest) })
-bareReply (left b) = left b
-bareReply (pends n) = pends n
-
-unfoldable pub withoutRest : Answer ℕ ℕ ℕ → Bare
-withoutRest a = record { reply = bareReply (a .reply); report = a .report }
-
 -- a report with these notices and no other
 abbrev pub Notes : Report → List Unsupported → Type 0
 Notes r ns = (r .notices ≡ notices ns) × (r .noted ≡ length ns)
@@ -37,24 +22,25 @@ Notes r ns = (r .notices ≡ notices ns) × (r .noted ≡ length ns)
 module _ (fifo : ℕ) (cs ds : List Request) where
   -- the replies of two lists of calls, cs and ds, to a call with which h host bytes and w FIFO writes have been given; their report is
   -- one and the same. They differ at most in the byte that a read of FIFO gives and in the bytes handed out as sent, which have the same
-  -- numbers in both. A read of FIFO notes a mistimed reception where there was one, and then UartEmptyRead where it gives 0
-  pub data Agree (h w : ℕ) (r : Report) : Request → Reply ℕ ℕ (Unit {0}) → Reply ℕ ℕ (Unit {0}) → Type 0 where
+  -- numbers in both, and in what was lent. A read of FIFO notes a mistimed reception where there was one, and then UartEmptyRead where it
+  -- gives 0
+  pub data Agree (h w : ℕ) (r : Report) : Request → Reply ℕ ℕ ℕ → Reply ℕ ℕ ℕ → Type 0 where
     fifoByte : {now n : ℕ} (s : Source) → Notes r (sourceNotes UartReceiveClock s) → n < h
         → Agree h w r (Call.at now (Dated.read fifo)) (reads (byte (hostByte cs n))) (reads (byte (hostByte ds n)))
     fifoEmpty : {now : ℕ} (s : Source) → Notes r (sourceNotes UartReceiveClock s ++ (UartEmptyRead ∷ []))
         → Agree h w r (Call.at now (Dated.read fifo)) (reads (word 0)) (reads (word 0))
     fifoRefused : {now : ℕ} {x : Refusal} → Agree h w r (Call.at now (Dated.read fifo)) (reads (refused x)) (reads (refused x))
-    handedOut : {c : Request} {t : Taken} {ns : List ℕ} {rest : List (Unit {0})} → ((now : ℕ) → ¬ (c ≡ Call.at now (Dated.read fifo)))
-        → All (λ n. n < w) ns
+    handedOut : {c : Request} {t : Taken} {ns : List ℕ} {rest rest′ : List ℕ} → ((now : ℕ) → ¬ (c ≡ Call.at now (Dated.read fifo)))
+        → All (λ n. n < w) ns → length rest ≡ length rest′
         → Agree h w r c (takes (record { taken = t; front = map (writeByte fifo cs) ns; rest = rest }))
-        (takes (record { taken = t; front = map (writeByte fifo ds) ns; rest = rest }))
-    noByte : {c : Request} {x : Reply ℕ ℕ (Unit {0})} → ((now : ℕ) → ¬ (c ≡ Call.at now (Dated.read fifo))) → ((b : ℕ) → ¬ (x ≡ reads (byte b)))
-        → ((t : Take ℕ (Unit {0})) → ¬ (x ≡ takes t)) → Agree h w r c x x
+        (takes (record { taken = t; front = map (writeByte fifo ds) ns; rest = rest′ }))
+    noByte : {c : Request} {x : Reply ℕ ℕ ℕ} → ((now : ℕ) → ¬ (c ≡ Call.at now (Dated.read fifo))) → ((b : ℕ) → ¬ (x ≡ reads (byte b)))
+        → ((t : Take ℕ ℕ) → ¬ (x ≡ takes t)) → Agree h w r c x x
 
   -- call by call, h host bytes and w FIFO writes having been given before
-  pub data Agreeing : ℕ → ℕ → List Request → List Bare → List Bare → Type 0 where
+  pub data Agreeing : ℕ → ℕ → List Request → List (Answer ℕ ℕ ℕ) → List (Answer ℕ ℕ ℕ) → Type 0 where
     nil : {h w : ℕ} → Agreeing h w [] [] []
-    cons : {h w : ℕ} {c : Request} {rest : List Request} {r : Report} {x y : Reply ℕ ℕ (Unit {0})} {s t : List Bare}
+    cons : {h w : ℕ} {c : Request} {rest : List Request} {r : Report} {x y : Reply ℕ ℕ ℕ} {s t : List (Answer ℕ ℕ ℕ)}
         → Agree (h + length (hostOf c)) (w + length (fifoBytesOf fifo c)) r c x y
         → Agreeing (h + length (hostOf c)) (w + length (fifoBytesOf fifo c)) rest s t
         → Agreeing h w (c ∷ rest) (record { reply = x; report = r } ∷ s) (record { reply = y; report = r } ∷ t)

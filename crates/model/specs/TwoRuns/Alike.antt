@@ -1,5 +1,4 @@
--- When two lists of calls are alike, how their bytes are numbered, and an answer with numbers in the place of bytes: what a
--- reader of demand 3 must believe. Assumes nothing.
+-- When two lists of calls are alike, and how their bytes are numbered: what a reader of demand 3 must believe. Assumes nothing.
 use mathlib.Core.Path.{_≡_}
 use Prim.Native.Nat.{ℕ, _%_}
 use mathlib.Core.List.{List, [], _∷_, map, flatMap}
@@ -54,36 +53,3 @@ hostByte cs n = getD (flatMap hostOf cs) n 0
 
 abbrev pub writeByte : ℕ → List Request → ℕ → ℕ
 writeByte fifo cs n = getD (flatMap (fifoBytesOf fifo) cs) n 0
-
--- ---- an answer with other bytes in it
-
-unfoldable pub mapReadOf : {H H′ : Type 0} → (H → H′) → ReadOf H → ReadOf H′
-mapReadOf f (word n) = word n
-mapReadOf f (byte b) = byte (f b)
-mapReadOf f noValue = noValue
-mapReadOf f (refused r) = refused r
-
-unfoldable pub mapTake : {W W′ L L′ : Type 0} → (W → W′) → (L → L′) → Take W L → Take W′ L′
-mapTake g h t = record { taken = t .taken; front = map g (t .front); rest = map h (t .rest) }
-
-unfoldable pub mapReply : {H H′ W W′ L L′ : Type 0} → (H → H′) → (W → W′) → (L → L′) → Reply H W L → Reply H′ W′ L′
-mapReply f g h (reads r) = reads (mapReadOf f r)
-mapReply f g h (writes r) = writes r
-mapReply f g h (does r) = does r
-mapReply f g h (takes t) = takes (mapTake g h t)
-mapReply f g h (left b) = left b
-mapReply f g h (pends n) = pends n
-
-unfoldable pub mapAnswer : {H H′ W W′ L L′ : Type 0} → (H → H′) → (W → W′) → (L → L′) → Answer H W L → Answer H′ W′ L′
-mapAnswer f g h a = record { reply = mapReply f g h (a .reply); report = a .report }
-
--- the same byte
-abbrev pub itself : {A : Type 0} → A → A
-itself a = a
-
-unfoldable pub forget : {A : Type 0} → A → Unit {0}
-forget a = tt
-
--- each number replaced by the byte that has it in a list of calls
-unfoldable pub withBytesOf : ℕ → List Request → Answer ℕ ℕ (Unit {0}) → Answer ℕ ℕ (Unit {0})
-withBytesOf fifo cs a = mapAnswer (hostByte cs) (writeByte fifo cs) itself a

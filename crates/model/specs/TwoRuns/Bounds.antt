@@ -9,19 +9,20 @@ use lib.Dec.{ltb}
 use lib.ListN.{length}
 use borrow.Author.Tests.{ltb-true, lt-ltb}
 use Rattle.model.specs.Numbers.{choose}
-use Rattle.model.specs.State.{Uart, mapUart}
+use Rattle.model.specs.State.{Uart}
+use Rattle.model.specs.TwoRuns.Renamed.{mapUart}
 use Rattle.model.specs.Limits.{All}
 use Rattle.model.specs.Replies.{ReadOf, word, byte, noValue, refused}
 use Rattle.model.specs.Call.{Request, Reply, reads, writes, does, takes, left, pends}
-use Rattle.model.specs.Run.{Step, runBy}
-use Rattle.model.specs.TwoRuns.Alike.{hostOf, itself, mapReadOf, mapTake, mapReply}
-use Rattle.model.specs.TwoRuns.Alike.{mapAnswer}
-use Rattle.model.specs.TwoRuns.Placed.{Put, Placed, placed, stepPlaced}
+use Rattle.model.specs.Run.{Step}
+use Rattle.model.specs.TwoRuns.Alike.{hostOf}
+use Rattle.model.specs.TwoRuns.Renamed.{itself, mapReadOf, mapTake, mapReply}
+use Rattle.model.specs.TwoRuns.Renamed.{mapAnswer}
+use Rattle.model.specs.TwoRuns.Placed.{Put, Placed, placed, stepPlaced, runPlaced}
 use Rattle.model.specs.TwoRuns.NaturalCalls.{mapPut, mapPlaced, mapStep, stepPlaced-nat}
 use Rattle.model.specs.TwoRuns.Numbering.{writesOf, changed-twice, putOf, writtenOf, upFrom, numbered, number, host-of-placed}
 use Rattle.model.specs.TwoRuns.Numbering.{written-of-placed}
-use Rattle.model.specs.TwoRuns.Agree.{Bare}
-use Rattle.model.specs.TwoRuns.Numbered.{byteRead, bytesRead, bytesSent, Below, EachBelow}
+use Rattle.model.specs.TwoRuns.Numbered.{Bare, byteRead, bytesRead, bytesSent, Below, EachBelow}
 
 -- ---- the bytes in an answer with other bytes
 
@@ -134,8 +135,8 @@ module _ {H W L : Type 0} (h w : ℕ) (c : Placed H W L) (u : Uart ℕ ℕ) (k :
 
 module _ (fifo : ℕ) (others : List ℕ) where
   pub run-below : (h w : ℕ) (cs : List Request) (u : Uart ℕ ℕ) → Fixed h w u
-      → EachBelow fifo h w cs (runBy stepPlaced (number h w (map (placed (fifo ∷ others)) cs)) u)
-  unfolding runBy number
+      → EachBelow fifo h w cs (runPlaced (number h w (map (placed (fifo ∷ others)) cs)) u)
+  unfolding runPlaced number
   run-below h w [] u k = EachBelow.nil
   run-below h w (c ∷ cs) u k =
       EachBelow.cons
@@ -153,4 +154,4 @@ module _ (fifo : ℕ) (others : List ℕ) where
 
       further : List Bare
       further =
-          runBy stepPlaced (number (h + length (hostOf pc)) (w + length (writtenOf pc)) (map (placed (fifo ∷ others)) cs)) (next .state)
+          runPlaced (number (h + length (hostOf pc)) (w + length (writtenOf pc)) (map (placed (fifo ∷ others)) cs)) (next .state)

@@ -12,11 +12,12 @@ use Rattle.model.specs.State.{Uart}
 use Rattle.model.specs.Map.{isFifo, registerOf}
 use Rattle.model.specs.SetUp.{mapOf, new}
 use Rattle.model.specs.Call.{Dated, Call, Request}
-use Rattle.model.specs.Run.{step, runBy, run}
+use Rattle.model.specs.Run.{step, run}
 use Rattle.model.specs.Refuses.FifoPlace.{first-is-fifo}
 use Rattle.model.specs.TwoRuns.Alike.{Each, Alike, fifoOffset, given, hostOf, fifoBytesOf}
-use Rattle.model.specs.TwoRuns.Alike.{itself, mapAnswer, withBytesOf}
-use Rattle.model.specs.TwoRuns.Agree.{withoutRest, Agreeing}
+use Rattle.model.specs.TwoRuns.Renamed.{itself, mapAnswer, withBytesOf}
+use Rattle.model.specs.TwoRuns.Agree.{Agreeing}
+use Rattle.model.specs.TwoRuns.Numbered.{withoutRest}
 use Rattle.model.specs.TwoRuns.MapKept.{step-kept}
 use Rattle.model.specs.TwoRuns.Theorem.{OneList, one-list, lists-agree}
 use Rattle.model.specs.TwoRuns.Unused.{takesWord, SameInUse, step-unused, new-unused}
@@ -78,7 +79,7 @@ module _ (fifo : ℕ) (others : List ℕ) where
 -- and every call of it does what that of the second list does
 run-same : (offsets : List ℕ) {es ds : List Request} → Each (Same offsets) es ds → (u : Uart ℕ ℕ) → u .map .offsets ≡ offsets
     → run es u ≡ run ds u
-unfolding run runBy
+unfolding run
 run-same offsets Each.nil u k = refl
 run-same offsets (Each.cons {a = c} Same.same rest) u k =
     ap (λ l. step c u .answer ∷ l) (run-same offsets rest (step c u .state) (ap (λ m. m .offsets) (step-kept c u) ∙ k))
@@ -113,7 +114,7 @@ one-list-in-use (fifo ∷ others) ws e cs ds a =
 
 pub runs-agree-in-use : (offsets ws ws′ : List ℕ) → length offsets ≡ 16 → SameInUse ws ws′ → (cs ds : List Request)
     → Each (AlikeInUse offsets) cs ds
-    → Agreeing (fifoOffset offsets) cs ds 0 0 cs (map withoutRest (run cs (new offsets ws))) (map withoutRest (run ds (new offsets ws′)))
+    → Agreeing (fifoOffset offsets) cs ds 0 0 cs (run cs (new offsets ws)) (run ds (new offsets ws′))
 runs-agree-in-use offsets ws ws′ e s cs ds a =
-    subst (λ u. Agreeing (fifoOffset offsets) cs ds 0 0 cs (map withoutRest (run cs (new offsets ws))) (map withoutRest (run ds u)))
+    subst (λ u. Agreeing (fifoOffset offsets) cs ds 0 0 cs (run cs (new offsets ws)) (run ds u))
     (new-unused offsets ws ws′ s) (lists-agree offsets ws cs ds (one-list-in-use offsets ws e cs ds a))

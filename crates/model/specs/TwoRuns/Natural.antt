@@ -6,7 +6,9 @@ use mathlib.Core.Option.{Option, none, some}
 use mathlib.Core.List.{List, [], _∷_, map, map-append}
 use lib.Dec.{leb}
 use lib.ListN.{take, length-map}
-use Rattle.model.specs.State.{Sent, Run, OnTheLine, Uart, lineOf, withLineOf, mapSent, mapOnTheLine, mapReceiving, mapUart}
+use Rattle.model.specs.State.{Sent, Run, OnTheLine, Uart, lineOf}
+use Rattle.model.specs.TwoRuns.Renamed.{mapSent, mapOnTheLine, mapReceiving, mapUart}
+use Rattle.model.specs.Setters.{withLineOf}
 use Rattle.model.specs.Events.{Event, departure, timeout, landing, nothing, goesOn, onePass, lost, total, passesIn, overflowsIn}
 use Rattle.model.specs.Line.{frame}
 use Rattle.model.specs.Settle.{gone, leave, depart, Pass, received, nothingDue, timedOut, landed, inFrame, begun, beforeStart, idle}

@@ -6,7 +6,9 @@ use mathlib.Core.Option.{Option, none, some}
 use mathlib.Core.List.{List, [], _∷_, _++_, map, map-append}
 use lib.Dec.{ltb}
 use lib.ListN.{length, take, length-map}
-use Rattle.model.specs.State.{Uart, withHost, mapSent, mapUart}
+use Rattle.model.specs.State.{Uart}
+use Rattle.model.specs.TwoRuns.Renamed.{mapSent, mapUart}
+use Rattle.model.specs.Setters.{withHost}
 use Rattle.model.specs.Events.{passesIn, overflowsIn}
 use Rattle.model.specs.Settle.{Settled, found, ended, settle, levels}
 use Rattle.model.specs.Arm.{arm}
@@ -19,11 +21,11 @@ use Rattle.model.specs.Calls.{Outcome, Settling, Plan, dated, settles, s
 use Rattle.model.specs.Calls.{carried, outcome, filled, notTaken, quiet, readPlaced, writePlaced, send, joined, handOver, clocked}
 use Rattle.model.specs.Calls.{cleared, written}
 use Rattle.model.specs.Call.{Machine, Dated, Undated, Call, dateOf, Reply}
-use Rattle.model.specs.Run.{Step, stepped, replying, machinePlan, planBy, stepBy, runBy}
+use Rattle.model.specs.Run.{Step, stepped, replying, machinePlan, planBy}
 use Rattle.model.specs.TwoRuns.Natural.{mapEvent, mapSettled, found-nat, passes-in-nat, overflows-in-nat, bytes-nat}
 use Rattle.model.specs.TwoRuns.Natural.{lastGone-nat, pending-nat, levels-nat, settle-nat, arm-nat}
-use Rattle.model.specs.TwoRuns.Placed.{Put, Placed, changedDated, changedUndated, changed, putting, stepPlaced}
-use Rattle.model.specs.TwoRuns.Alike.{mapReadOf, mapTake, mapReply, mapAnswer, itself}
+use Rattle.model.specs.TwoRuns.Placed.{Put, Placed, changedDated, changedUndated, changed, putting, stepPlaced, stepBy, runPlaced}
+use Rattle.model.specs.TwoRuns.Renamed.{mapReadOf, mapTake, mapReply, mapAnswer, itself}
 use Rattle.model.specs.declared.Refusal.{Refusal}
 use Rattle.model.specs.declared.Unsupported.{Unsupported}
 use Rattle.model.specs.declared.Write.{Write}
@@ -375,9 +377,9 @@ module _ {H H′ W W′ : Type 0} (f : H → H′) (g : W → W′) where
 
     -- and so does a whole list of them
     pub runPlaced-nat : (cs : List (Placed H W L)) (u : Uart H W)
-        → runBy stepPlaced (map (mapPlaced f g h) cs) (mapUart f g u) ≡ map (mapAnswer f g h) (runBy stepPlaced cs u)
-    unfolding runBy mapStep
+        → runPlaced (map (mapPlaced f g h) cs) (mapUart f g u) ≡ map (mapAnswer f g h) (runPlaced cs u)
+    unfolding runPlaced mapStep
     runPlaced-nat [] u = refl
     runPlaced-nat (c ∷ cs) u =
-        ap (λ s. s .answer ∷ runBy stepPlaced (map (mapPlaced f g h) cs) (s .state)) (stepPlaced-nat c u)
+        ap (λ s. s .answer ∷ runPlaced (map (mapPlaced f g h) cs) (s .state)) (stepPlaced-nat c u)
         ∙ ap (λ r. mapAnswer f g h (stepPlaced c u .answer) ∷ r) (runPlaced-nat cs (stepPlaced c u .state))

@@ -2,20 +2,35 @@
 -- read of FIFO gives. Assumes nothing.
 use mathlib.Core.Path.{_≡_}
 use Prim.Native.Nat.{ℕ, _+_, _<_}
-use mathlib.Core.List.{List, [], _∷_, _++_}
+use mathlib.Core.List.{List, [], _∷_, _++_, map}
 use lib.ListN.{length}
 use Rattle.model.specs.Limits.{All}
 use Rattle.model.specs.Replies.{ReadOf, word, byte, noValue, refused, Take}
 use Rattle.model.specs.Registers.{sourceNotes}
-use Rattle.model.specs.Call.{Dated, Call, Request, Reply, reads, writes, does, takes, left, pends}
+use Rattle.model.specs.Call.{Dated, Call, Request, Reply, reads, writes, does, takes, left, pends, Answer}
 use Rattle.model.specs.TwoRuns.Alike.{hostOf, fifoBytesOf}
-use Rattle.model.specs.TwoRuns.Agree.{Bare, Notes}
+use Rattle.model.specs.TwoRuns.Agree.{Notes}
 use Rattle.model.specs.declared.Refusal.{Refusal}
 use Rattle.model.specs.declared.Report.{Report}
 use Rattle.model.specs.declared.Source.{Source}
 use Rattle.model.specs.declared.Unsupported.the-variants.{UartEmptyRead, UartReceiveClock}
 
 -- ---- the bytes in an answer
+
+-- an answer without the rest of a lent buffer that the call has not written, of which only the length is kept
+abbrev pub Bare : Type 0
+Bare = Answer ℕ ℕ (Unit {0})
+
+unfoldable pub bareReply : Reply ℕ ℕ ℕ → Reply ℕ ℕ (Unit {0})
+bareReply (reads r) = reads r
+bareReply (writes r) = writes r
+bareReply (does r) = does r
+bareReply (takes t) = takes (record { taken = t .taken; front = t .front; rest = map (λ b. tt) (t .rest) })
+bareReply (left b) = left b
+bareReply (pends n) = pends n
+
+unfoldable pub withoutRest : Answer ℕ ℕ ℕ → Bare
+withoutRest a = record { reply = bareReply (a .reply); report = a .report }
 
 -- the byte that a read gives
 unfoldable pub byteRead : {H : Type 0} → ReadOf H → List H

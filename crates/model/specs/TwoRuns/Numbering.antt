@@ -16,7 +16,8 @@ use Rattle.model.specs.Refuses.FifoPlace.{after-first}
 use Rattle.model.specs.Call.{Dated, Undated, Call, Written, Request}
 use Rattle.model.specs.TwoRuns.Placed.{Put, Placed, changedDated, changedUndated, changed, putAt, placed}
 use Rattle.model.specs.TwoRuns.Alike.{Each, Alike, same, hostBytes, fifoWord, lentToTakeTx, lentToTakeWritten, given, hostOf}
-use Rattle.model.specs.TwoRuns.Alike.{fifoBytesOf, itself, forget}
+use Rattle.model.specs.TwoRuns.Alike.{fifoBytesOf}
+use Rattle.model.specs.TwoRuns.Renamed.{itself, forget}
 use Rattle.model.specs.TwoRuns.NaturalCalls.{mapPut, mapPlaced}
 
 abbrev pub writesOf : {R X H L : Type 0} → Call R X H L → List X

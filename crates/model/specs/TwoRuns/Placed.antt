@@ -3,14 +3,15 @@
 use mathlib.Core.Path.{_≡_, refl, ap}
 use Prim.Native.Nat.{ℕ, _%_}
 use mathlib.Core.Option.{some}
-use mathlib.Core.List.{List}
+use mathlib.Core.List.{List, [], _∷_}
 use Rattle.model.specs.Numbers.{choose}
 use Rattle.model.specs.State.{Uart}
 use Rattle.model.specs.Map.{Register, isFifo, registerOf}
 use Rattle.model.specs.Calls
 use Rattle.model.specs.Calls.{Plan, outcome, readPlaced, writePlaced, send, writeAt}
-use Rattle.model.specs.Call.{Dated, Undated, Call, dateOf, Request, writes}
-use Rattle.model.specs.Run.{Step, stepped, replying, planBy, stepBy, writing, plan, step}
+use Rattle.model.specs.Call.{Dated, Undated, Call, dateOf, Request, writes, Answer}
+use Rattle.model.specs.Run.{Step, stepped, replying, planBy, writing, plan, step}
+use Rattle.model.specs.Replies.{ReadOf}
 use Rattle.model.specs.Laws.Choose.{choose-nat}
 use Rattle.model.specs.declared.Write.{Write}
 
@@ -55,8 +56,16 @@ module _ {H W : Type 0} where
   putting now (Put.byte b) u = send now b u
   putting now (Put.word p v) u = writePlaced now p v u
 
+  unfoldable pub stepBy : {R X L : Type 0} → (ℕ → R → Uart H W → Plan (ReadOf H) H W) → (ℕ → X → Uart H W → Plan Write H W)
+      → Call R X H L → Uart H W → Step H W L
+  stepBy rd wr c u = stepped (outcome (dateOf c) (planBy rd wr c u) u)
+
   unfoldable pub stepPlaced : {L : Type 0} → Placed H W L → Uart H W → Step H W L
   stepPlaced c u = stepBy readPlaced putting c u
+
+  unfoldable pub runPlaced : {L : Type 0} → List (Placed H W L) → Uart H W → List (Answer H W L)
+  runPlaced [] u = []
+  runPlaced (c ∷ cs) u = stepPlaced c u .answer ∷ runPlaced cs (stepPlaced c u .state)
 
 writeAt-placed : (now : ℕ) (p : Register) (v : ℕ) (u : Uart ℕ ℕ) → writeAt now p v u ≡ putting now (putAt p v) u
 unfolding writeAt putting putAt

@@ -14,10 +14,10 @@ use Rattle.model.specs.Registers.{sourceNotes, looks, pop, readRegister,
 use Rattle.model.specs.Tests.{refuseDate}
 use Rattle.model.specs.Calls.{Plan, refusing, unless, afterSettling, carried, outcome, settleAt, readPlaced}
 use Rattle.model.specs.Call.{Dated, Undated, Call, dateOf, Request, Reply, reads, writes, does, takes, left, pends}
-use Rattle.model.specs.Run.{Step, stepped, replying, planBy, stepBy, runBy}
+use Rattle.model.specs.Run.{Step, stepped, replying, planBy}
 use Rattle.model.specs.Laws.Plans.{answering, replied}
 use Rattle.model.specs.Ends.Passes.{apart}
-use Rattle.model.specs.TwoRuns.Placed.{changedDated, changedUndated, changed, placed, stepPlaced}
+use Rattle.model.specs.TwoRuns.Placed.{changedDated, changedUndated, changed, placed, stepPlaced, stepBy, runPlaced}
 use Rattle.model.specs.TwoRuns.Alike.{Each}
 use Rattle.model.specs.TwoRuns.Numbering.{other-place, fifo-place, numbered, number}
 use Rattle.model.specs.TwoRuns.Numbered.{NotFifo, Shape}
@@ -126,7 +126,7 @@ module _ (fifo : ℕ) (others : List ℕ) where
 
   -- every answer of a numbered list has its call's shape
   pub run-shape : (h w : ℕ) (cs : List Request) (u : Uart ℕ ℕ)
-      → Each (Shape fifo) cs (runBy stepPlaced (number h w (map (placed (fifo ∷ others)) cs)) u)
-  unfolding runBy number
+      → Each (Shape fifo) cs (runPlaced (number h w (map (placed (fifo ∷ others)) cs)) u)
+  unfolding runPlaced number
   run-shape h w [] u = Each.nil
   run-shape h w (c ∷ cs) u = Each.cons (step-shape h w c u) (run-shape _ _ cs _)

@@ -3,27 +3,29 @@ use mathlib.Core.Path.{_≡_, refl, sym, ap, ap₂, subst₂, _∙_}
 use Prim.Native.Nat.{ℕ}
 use native.Mathlib.Nat.{suc-ne-zero}
 use mathlib.Core.List.{List, [], _∷_, map, flatMap, map-id}
-use lib.ListN.{length}
-use Rattle.model.specs.State.{mapUart, mapReceiving}
+use lib.ListN.{length, length-map}
+use Rattle.model.specs.TwoRuns.Renamed.{mapUart, mapReceiving}
 use Rattle.model.specs.SetUp.{mapOf, new}
 use Rattle.model.specs.Limits.{All}
 use Rattle.model.specs.Replies.{word, byte, noValue, refused, Take}
 use Rattle.model.specs.Call.{Request, Reply, reads, writes, does, takes, left, pends, Answer}
-use Rattle.model.specs.Run.{runBy, run}
-use Rattle.model.specs.TwoRuns.Alike.{Each, Alike, fifoOffset, hostOf, fifoBytesOf, hostByte, writeByte, itself, forget, mapReadOf}
-use Rattle.model.specs.TwoRuns.Alike.{mapTake, mapReply, mapAnswer, withBytesOf}
-use Rattle.model.specs.TwoRuns.Agree.{Bare, bareReply, withoutRest, Agree, Agreeing}
-use Rattle.model.specs.TwoRuns.Numbered.{byteRead, bytesRead, bytesSent, Below, EachBelow, Shape}
-use Rattle.model.specs.TwoRuns.Placed.{Placed, placed, stepPlaced}
+use Rattle.model.specs.Run.{run}
+use Rattle.model.specs.TwoRuns.Alike.{Each, Alike, fifoOffset, hostOf, fifoBytesOf, hostByte, writeByte}
+use Rattle.model.specs.TwoRuns.Renamed.{itself, forget, mapReadOf}
+use Rattle.model.specs.TwoRuns.Renamed.{mapTake, mapReply, mapAnswer, withBytesOf}
+use Rattle.model.specs.TwoRuns.Agree.{Agree, Agreeing}
+use Rattle.model.specs.TwoRuns.Numbered.{Bare, bareReply, withoutRest, byteRead, bytesRead, bytesSent, Below, EachBelow, Shape}
+use Rattle.model.specs.TwoRuns.Placed.{Placed, placed, stepPlaced, runPlaced}
 use Rattle.model.specs.TwoRuns.MapKept.{run-placed}
 use Rattle.model.specs.TwoRuns.NaturalCalls.{mapPlaced, runPlaced-nat}
 use Rattle.model.specs.TwoRuns.Numbering.{number, host-placed, written-placed, calls-back, calls-alike}
 use Rattle.model.specs.TwoRuns.Bounds.{run-below}
 use Rattle.model.specs.TwoRuns.Shapes.{run-shape}
+use Rattle.model.specs.Ends.Passes.{apart}
 
 -- the answers of a list of calls with numbers in the place of its bytes
 unfoldable pub numberedAnswers : List ℕ → List ℕ → List Request → List Bare
-numberedAnswers offsets ws cs = runBy stepPlaced (number 0 0 (map (placed offsets) cs)) (new offsets ws)
+numberedAnswers offsets ws cs = runPlaced (number 0 0 (map (placed offsets) cs)) (new offsets ws)
 
 -- a new UART holds no byte
 new-nat : {H H′ W W′ : Type 0} (f : H → H′) (g : W → W′) (offsets ws : List ℕ) → mapUart f g (new offsets ws) ≡ new offsets ws
@@ -33,9 +35,9 @@ new-nat f g offsets ws = refl
 module _ {H H′ W W′ L L′ : Type 0} (f : H → H′) (g : W → W′) (h : L → L′) where
   -- from set-up on, a list with other bytes answers the same with other bytes
   runNew-nat : (offsets ws : List ℕ) (cs : List (Placed H W L))
-      → runBy stepPlaced (map (mapPlaced f g h) cs) (new offsets ws) ≡ map (mapAnswer f g h) (runBy stepPlaced cs (new offsets ws))
+      → runPlaced (map (mapPlaced f g h) cs) (new offsets ws) ≡ map (mapAnswer f g h) (runPlaced cs (new offsets ws))
   runNew-nat offsets ws cs =
-      ap (runBy stepPlaced (map (mapPlaced f g h) cs)) (sym (new-nat f g offsets ws)) ∙ runPlaced-nat f g h cs (new offsets ws)
+      ap (runPlaced (map (mapPlaced f g h) cs)) (sym (new-nat f g offsets ws)) ∙ runPlaced-nat f g h cs (new offsets ws)
 
 -- an answer without the rest of a lent buffer, by a change of bytes
 bare-mapped : (r : Reply ℕ ℕ ℕ) → bareReply r ≡ mapReply itself itself forget r
@@ -63,7 +65,7 @@ module _ (fifo : ℕ) (others ws : List ℕ) where
       rest-mapped (run cs (new (fifo ∷ others) ws))
       ∙ ap (map (mapAnswer itself itself forget)) (run-placed cs (new (fifo ∷ others) ws))
       ∙ sym (runNew-nat itself itself forget (fifo ∷ others) ws placedCalls)
-      ∙ ap (λ l. runBy stepPlaced l (new (fifo ∷ others) ws)) (sym looked-up)
+      ∙ ap (λ l. runPlaced l (new (fifo ∷ others) ws)) (sym looked-up)
       ∙ runNew-nat (hostByte cs) (writeByte fifo cs) itself (fifo ∷ others) ws (number 0 0 placedCalls)
     where
       placedCalls : List (Placed ℕ ℕ ℕ)
@@ -95,7 +97,7 @@ one-list (fifo ∷ others) ws e cs ds a = record {
   answers = numberedAnswers (fifo ∷ others) ws cs;
   first = run-numbered fifo others ws cs;
   second =
-      run-numbered fifo others ws ds ∙ ap (λ l. map (withBytesOf fifo ds) (runBy stepPlaced l (new (fifo ∷ others) ws)))
+      run-numbered fifo others ws ds ∙ ap (λ l. map (withBytesOf fifo ds) (runPlaced l (new (fifo ∷ others) ws)))
       (sym (calls-alike fifo others 0 0 a));
   below = run-below fifo others 0 0 cs (new (fifo ∷ others) ws) (λ f g p q. new-nat f g (fifo ∷ others) ws);
   shape = run-shape fifo others 0 0 cs (new (fifo ∷ others) ws);
@@ -120,33 +122,109 @@ plain f g (pends n) p q = refl
 all-head : {P : ℕ → Type 0} {n : ℕ} {l : List ℕ} → All P (n ∷ l) → P n
 all-head (All.cons p ps) = p
 
+-- a reply that hands nothing out is known without the rest of a lent buffer
+again : Reply ℕ ℕ (Unit {0}) → Reply ℕ ℕ ℕ
+again (reads r) = reads r
+again (writes r) = writes r
+again (does r) = does r
+again (takes t) = takes (record { taken = t .taken; front = t .front; rest = [] })
+again (left b) = left b
+again (pends n) = pends n
+
+abbrev NoTake : Reply ℕ ℕ (Unit {0}) → Type 0
+NoTake r = (t : Take ℕ (Unit {0})) → ¬ (r ≡ takes t)
+
+back : (x : Reply ℕ ℕ ℕ) → NoTake (bareReply x) → again (bareReply x) ≡ x
+unfolding bareReply again
+back (reads r) n = refl
+back (writes r) n = refl
+back (does r) n = refl
+back (takes t) n = absurd (n _ refl)
+back (left b) n = refl
+back (pends k) n = refl
+
+forth : (r : Reply ℕ ℕ (Unit {0})) → NoTake r → bareReply (again r) ≡ r
+unfolding bareReply again
+forth (reads r) n = refl
+forth (writes r) n = refl
+forth (does r) n = refl
+forth (takes t) n = absurd (n t refl)
+forth (left b) n = refl
+forth (pends k) n = refl
+
+known : (x : Reply ℕ ℕ ℕ) {r : Reply ℕ ℕ (Unit {0})} → bareReply x ≡ r → NoTake r → again r ≡ x
+known x e n = ap again (sym e) ∙ back x (λ t f. n t (sym e ∙ f))
+
+-- one that hands out is known but for that rest, of which the length is
+record Took (x : Reply ℕ ℕ ℕ) (t : Take ℕ (Unit {0})) : Type 0 where
+  rest : List ℕ
+  is : takes (record { taken = t .taken; front = t .front; rest = rest }) ≡ x
+  long : length rest ≡ length (t .rest)
+
+took : (x : Reply ℕ ℕ ℕ) (t : Take ℕ (Unit {0})) → bareReply x ≡ takes t → Took x t
+unfolding bareReply
+took (reads r) t e = apart (cc)
+took (writes r) t e = apart (cc)
+took (does r) t e = apart (cc)
+took (takes u) t e =
+    let same : record { taken = u .taken; front = u .front; rest = map (λ b. tt) (u .rest) } ≡ t = cc in
+    record {
+      rest = u .rest;
+      is = ap₂ (λ k l. takes (record { taken = k; front = l; rest = u .rest })) (sym (ap (λ v. v .taken) same)) (sym (ap (λ v. v .front) same));
+      long = sym (length-map (u .rest) (λ b. tt)) ∙ ap (λ v. length (v .rest)) same;
+    }
+took (left b) t e = apart (cc)
+took (pends n) t e = apart (cc)
+
+firsts : {A : Type 0} {x y : A} {xs ys : List A} → x ∷ xs ≡ y ∷ ys → (x ≡ y) × (xs ≡ ys)
+firsts e = (cc, cc)
+
 module _ (fifo : ℕ) (cs ds : List Request) where
-  agree : {h w : ℕ} {c : Request} {a : Bare} → Shape fifo c a → Below h w a
-      → Agree fifo cs ds h w (a .report) c (withBytesOf fifo cs a .reply) (withBytesOf fifo ds a .reply)
-  unfolding withBytesOf mapAnswer mapReply mapReadOf mapTake bytesRead byteRead bytesSent
-  agree (Shape.fifoByte s p) b = Agree.fifoByte s p (all-head (b .read))
-  agree (Shape.fifoEmpty s p) b = Agree.fifoEmpty s p
-  agree Shape.fifoRefused b = Agree.fifoRefused
-  agree (Shape.handedOut e) b = Agree.handedOut e (b .sent)
-  agree (Shape.noByte {a = a} e p q) b =
-      subst₂ (Agree fifo cs ds _ _ _ _) (sym (plain _ _ (a .reply) p q)) (sym (plain _ _ (a .reply) p q)) (Agree.noByte e p q)
+  agree : {h w : ℕ} {c : Request} {a : Bare} → Shape fifo c a → Below h w a → (x y : Reply ℕ ℕ ℕ)
+      → bareReply x ≡ withBytesOf fifo cs a .reply → bareReply y ≡ withBytesOf fifo ds a .reply → Agree fifo cs ds h w (a .report) c x y
+  unfolding withBytesOf mapAnswer mapReply mapReadOf mapTake bytesRead byteRead bytesSent again bareReply
+  agree (Shape.fifoByte s p) b x y e f =
+      subst₂ (Agree fifo cs ds _ _ _ _) (known x e (λ t k. apart (cc))) (known y f (λ t k. apart (cc)))
+      (Agree.fifoByte s p (all-head (b .read)))
+  agree (Shape.fifoEmpty s p) b x y e f =
+      subst₂ (Agree fifo cs ds _ _ _ _) (known x e (λ t k. apart (cc))) (known y f (λ t k. apart (cc))) (Agree.fifoEmpty s p)
+  agree Shape.fifoRefused b x y e f =
+      subst₂ (Agree fifo cs ds _ _ _ _) (known x e (λ t k. apart (cc))) (known y f (λ t k. apart (cc))) Agree.fifoRefused
+  agree (Shape.handedOut {t = t} n) b x y e f =
+      let p = took x _ e in
+      let q = took y _ f in
+      subst₂ (Agree fifo cs ds _ _ _ _) (p .is) (q .is) (Agree.handedOut n (b .sent) (p .long ∙ sym (q .long)))
+  agree (Shape.noByte {a = a} n p q) b x y e f =
+      let r = a .reply in
+      let same = forth r q in
+      subst₂ (Agree fifo cs ds _ _ _ _) (known x (e ∙ plain _ _ r p q) q) (known y (f ∙ plain _ _ r p q) q)
+      (Agree.noByte n (λ k g. p k (sym same ∙ ap bareReply g)) (λ t g. q _ (sym same ∙ ap bareReply g)))
 
   agreeing : {h w : ℕ} {rest : List Request} {t : List Bare} → Each (Shape fifo) rest t → EachBelow fifo h w rest t
-      → Agreeing fifo cs ds h w rest (map (withBytesOf fifo cs) t) (map (withBytesOf fifo ds) t)
-  unfolding withBytesOf mapAnswer
-  agreeing Each.nil EachBelow.nil = Agreeing.nil
-  agreeing (Each.cons s ss) (EachBelow.cons b bs) = Agreeing.cons (agree s b) (agreeing ss bs)
+      → (xs ys : List (Answer ℕ ℕ ℕ)) → map withoutRest xs ≡ map (withBytesOf fifo cs) t → map withoutRest ys ≡ map (withBytesOf fifo ds) t
+      → Agreeing fifo cs ds h w rest xs ys
+  unfolding withBytesOf mapAnswer withoutRest
+  agreeing Each.nil EachBelow.nil [] [] e f = Agreeing.nil
+  agreeing Each.nil EachBelow.nil [] (y ∷ ys) e f = apart (cc)
+  agreeing Each.nil EachBelow.nil (x ∷ xs) ys e f = apart (cc)
+  agreeing (Each.cons s ss) (EachBelow.cons b bs) [] ys e f = apart (cc)
+  agreeing (Each.cons s ss) (EachBelow.cons b bs) (x ∷ xs) [] e f = apart (cc)
+  agreeing {h} {w} (Each.cons {a = c} {l = rest} s ss) (EachBelow.cons b bs) (x ∷ xs) (y ∷ ys) e f =
+      let (e₀, e₁) = firsts e in
+      let (f₀, f₁) = firsts f in
+      subst₂ (λ r q. Agreeing fifo cs ds h w (c ∷ rest) (record { reply = x .reply; report = r } ∷ xs)
+      (record { reply = y .reply; report = q } ∷ ys))
+      (sym (ap (λ k. k .report) e₀)) (sym (ap (λ k. k .report) f₀))
+      (Agreeing.cons (agree s b (x .reply) (y .reply) (ap (λ k. k .reply) e₀) (ap (λ k. k .reply) f₀)) (agreeing ss bs xs ys e₁ f₁))
 
 -- the answers of both runs, by the one list
 pub lists-agree : (offsets ws : List ℕ) (cs ds : List Request) → OneList offsets ws cs ds
-    → Agreeing (fifoOffset offsets) cs ds 0 0 cs (map withoutRest (run cs (new offsets ws))) (map withoutRest (run ds (new offsets ws)))
-lists-agree offsets ws cs ds o =
-    subst₂ (Agreeing (fifoOffset offsets) cs ds 0 0 cs) (sym (o .first)) (sym (o .second))
-    (agreeing (fifoOffset offsets) cs ds (o .shape) (o .below))
+    → Agreeing (fifoOffset offsets) cs ds 0 0 cs (run cs (new offsets ws)) (run ds (new offsets ws))
+lists-agree offsets ws cs ds o = agreeing (fifoOffset offsets) cs ds (o .shape) (o .below) _ _ (o .first) (o .second)
 
 -- demand 3, for every register map of sixteen offsets, those that set-up refuses too, and all reset words: all answers agree,
 -- apart from the byte that a read of FIFO gives and the bytes handed out as sent; these agree in count at every call, and each is
 -- the byte of the same number in both runs
 pub runs-agree : (offsets ws : List ℕ) → length offsets ≡ 16 → (cs ds : List Request) → Each (Alike (fifoOffset offsets)) cs ds
-    → Agreeing (fifoOffset offsets) cs ds 0 0 cs (map withoutRest (run cs (new offsets ws))) (map withoutRest (run ds (new offsets ws)))
+    → Agreeing (fifoOffset offsets) cs ds 0 0 cs (run cs (new offsets ws)) (run ds (new offsets ws))
 runs-agree offsets ws e cs ds a = lists-agree offsets ws cs ds (one-list offsets ws e cs ds a)

@@ -7,7 +7,8 @@ use mathlib.Core.List.{List, [], _∷_}
 use lib.Dec.{ltb}
 use lib.ListN.{length}
 use Rattle.model.specs.Numbers.{choose}
-use Rattle.model.specs.State.{Run, OnTheLine, Uart, withLineOf, lineOf}
+use Rattle.model.specs.State.{Run, OnTheLine, Uart, lineOf}
+use Rattle.model.specs.Setters.{withLineOf}
 use Rattle.model.specs.Events.{Event, departure, timeout, landing, nothing}
 use Rattle.model.specs.Line.{afterDate, timeoutAt, start, fate}
 use Rattle.model.specs.Settle.{Pass, nothingDue, timedOut, landed, inFrame, begun, beforeStart, idle, lineFree, passOn, pass}

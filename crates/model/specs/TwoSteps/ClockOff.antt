@@ -7,7 +7,8 @@ use mathlib.Core.Bool.{Bool, true, false, _&&_}
 use mathlib.Core.List.{List}
 use borrow.Author.Tests.{lt-leb}
 use Rattle.model.specs.Numbers.{choose, dueBy}
-use Rattle.model.specs.State.{Uart, withIdleSince, withLineFreeAt, withLineOf, lineOf}
+use Rattle.model.specs.State.{Uart, lineOf}
+use Rattle.model.specs.Setters.{withIdleSince, withLineFreeAt, withLineOf}
 use Rattle.model.specs.Events.{Event}
 use Rattle.model.specs.Line.{afterDate, timeoutAt, timeOut, start, fate, land}
 use Rattle.model.specs.Settle.{Pass, nothingDue, timedOut, landed, begun, pass, passes}

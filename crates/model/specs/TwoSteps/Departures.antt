@@ -8,7 +8,8 @@ use lib.Dec.{leb, ltb, eqb}
 use lib.ListN.{length, take, drop, length-drop}
 use lib.Seq.{drop-drop, take-add}
 use borrow.Author.Tests.{leb-true, le-leb, lt-ltb, eqb-true, eqb-false}
-use Rattle.model.specs.State.{Sent, Uart, uartFrom, withIntRaw, withLine, lineOf}
+use Rattle.model.specs.State.{Sent, Uart, lineOf}
+use Rattle.model.specs.Setters.{uartFrom, withIntRaw, withLine}
 use Rattle.model.specs.Events.{departure}
 use Rattle.model.specs.Line.{TX-DONE, raiseIf}
 use Rattle.model.specs.Settle.{gone, txDone, leave, depart, departures}

@@ -7,7 +7,8 @@ use mathlib.Core.Option.{Option, none, some}
 use mathlib.Core.List.{List, [], _∷_}
 use lib.ListN.{length}
 use lib.Bits.{bitOr}
-use Rattle.model.specs.State.{Sent, Run, OnTheLine, Uart, uartFrom, withIntRaw, withLine, withLevel, withLineFreeAt, lineOf}
+use Rattle.model.specs.State.{Sent, Run, OnTheLine, Uart, lineOf}
+use Rattle.model.specs.Setters.{uartFrom, withIntRaw, withLine, withLevel, withLineFreeAt}
 use Rattle.model.specs.Events.{Event}
 use Rattle.model.specs.Line.{raiseIf, noteSource, opened, timeoutAt, timeOut, start, land}
 use Rattle.model.specs.Settle.{Pass, nothingDue, timedOut, landed, inFrame, begun, beforeStart, idle, lineFree, passOn}

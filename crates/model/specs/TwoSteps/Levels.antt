@@ -8,7 +8,8 @@ use lib.ListN.{length}
 use lib.Bits.{bitOr}
 use borrow.Author.Tests.{ltb-true, lt-ltb}
 use Rattle.model.specs.Numbers.{field}
-use Rattle.model.specs.State.{Uart, withIntRaw, withLine, withControl, lineOf}
+use Rattle.model.specs.State.{Uart, lineOf}
+use Rattle.model.specs.Setters.{withIntRaw, withLine, withControl}
 use Rattle.model.specs.Line.{RXFIFO-FULL, TXFIFO-EMPTY, raiseIf}
 use Rattle.model.specs.Settle.{aboveFull, inFifo, emptyThreshold, belowEmpty, assertLevels, intStatus, drive, levels}
 use Rattle.model.specs.TwoSteps.Raises.{raises, raises-free, raises-swap, raises-within}

@@ -6,7 +6,8 @@ use native.Mathlib.Omega.{arith}
 use mathlib.Core.Bool.{true}
 use mathlib.Core.List.{[], _++_, map}
 use lib.ListN.{length, take, length-drop, length-append}
-use Rattle.model.specs.State.{Uart, withIntRaw, withControl, withLine, withLevel, lineOf}
+use Rattle.model.specs.State.{Uart, lineOf}
+use Rattle.model.specs.Setters.{withIntRaw, withControl, withLine, withLevel}
 use Rattle.model.specs.Events.{departure}
 use Rattle.model.specs.Timing.{settings}
 use Rattle.model.specs.Line.{TX-DONE, raiseIf}
