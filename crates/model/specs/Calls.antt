@@ -17,6 +17,7 @@ use Rattle.model.specs.Replies.{noReport, report, ReadOf, refused, Take}
 use Rattle.model.specs.Map.{Register, isFifo, registerOf}
 use Rattle.model.specs.Registers.{Access, readAt, sendByte, writeRegister, concluded}
 use Rattle.model.specs.Tests.{transmitFull, hostFull, runsFull, periodTooLong, bufferTooShort, refuseIf, refuseDate}
+use Rattle.model.specs.Call.{Machine}
 use Rattle.model.specs.declared.Date.{Date}
 use Rattle.model.specs.declared.Source.{Source}
 use Rattle.model.specs.declared.Line.{Line}
@@ -37,17 +38,12 @@ pub record Outcome (R H W : Type 0) : Type 0 where
   -- what its settlings found
   pub events : List (Event H W)
 
--- a settling: its cycle, and the state that it begins with
-pub record Settling (H W : Type 0) : Type 0 where
-  pub now : ℕ
-  pub begins : Uart H W
-
--- what a call is made of: the first of its own tests that refuses it, and its reply then; its settlings; and its work on the state that
--- they leave
+-- what a call is made of: the first of its own tests that refuses it, and its reply then; what it changes before each of its settlings;
+-- and its work on the state that they leave
 pub record Plan (R H W : Type 0) : Type 0 where
   pub test : Option Refusal
   pub refuses : Refusal → R
-  pub settlings : List (Settling H W)
+  pub changes : List (Uart H W → Uart H W)
   pub work : Uart H W → Access R H W
 
 module _ {H W : Type 0} where
@@ -58,13 +54,10 @@ module _ {H W : Type 0} where
   abbrev pub settleAt : ℕ → Uart H W → Settled H W
   settleAt now u = settle now (dated now u)
 
-  abbrev pub settles : Settling H W → Settled H W
-  settles s = settle (s .now) (s .begins)
-
-  -- one settling after the other: what each finds, and the state that the last one leaves
-  abbrev pub settledBy : List (Settling H W) → Settled H W → Settled H W
-  settledBy [] t = t
-  settledBy (s ∷ ss) t = settledBy ss (found (t .events) (settles s))
+  -- one settling after the other, each of the state that the one before left, changed: what they find, and what the last one leaves
+  abbrev pub settledBy : ℕ → List (Uart H W → Uart H W) → Settled H W → Settled H W
+  settledBy now [] t = t
+  settledBy now (f ∷ fs) t = settledBy now fs (found (t .events) (settle now (f (t .state))))
 
 -- tests 2 and 3 come first in a dated call
 abbrev pub refusalBy : Option ℕ → Option Refusal → Control → Option Refusal
@@ -97,7 +90,7 @@ module _ {R H W : Type 0} where
   -- where no test refuses it
   unfoldable pub carried : Option ℕ → Plan R H W → Uart H W → Outcome R H W
   carried none p u = undated (p .work u)
-  carried (some now) p u = afterSettling (settledBy (p .settlings) (ended (dated now u))) (p .work)
+  carried (some now) p u = afterSettling (settledBy now (p .changes) (ended (dated now u))) (p .work)
 
   -- a call with its date, if it is dated
   unfoldable pub outcome : Option ℕ → Plan R H W → Uart H W → Outcome R H W
@@ -140,33 +133,31 @@ module _ {H W : Type 0} where
   quiet r u = record { reply = r; notes = []; state = u }
 
   -- a call that settles once
-  abbrev pub once : ℕ → Uart H W → List (Settling H W)
-  once now u = record { now = now; begins = dated now u } ∷ []
+  abbrev pub once : List (Uart H W → Uart H W)
+  once = (λ s. s) ∷ []
 
   -- one that answers done
-  abbrev pub doing : Option Refusal → List (Settling H W) → (Uart H W → Uart H W) → Plan Done H W
-  doing test settlings change =
-      record { test = test; refuses = Done.Refused; settlings = settlings; work = λ s. quiet Done.Done (change s) }
+  abbrev pub doing : Option Refusal → List (Uart H W → Uart H W) → (Uart H W → Uart H W) → Plan Done H W
+  doing test changes change = record { test = test; refuses = Done.Refused; changes = changes; work = λ s. quiet Done.Done (change s) }
 
   -- one that is never refused and changes nothing
   abbrev pub asking : {R : Type 0} → (Uart H W → R) → Uart H W → Plan R H W
-  asking look u = record { test = none; refuses = λ r. look u; settlings = []; work = λ s. quiet (look s) s }
+  asking look u = record { test = none; refuses = λ r. look u; changes = []; work = λ s. quiet (look s) s }
 
   -- ---- register access
 
   unfoldable pub readPlaced : ℕ → Register → Uart H W → Plan (ReadOf H) H W
-  readPlaced now p u = record { test = none; refuses = refused; settlings = once now u; work = readAt p }
+  readPlaced now p u = record { test = none; refuses = refused; changes = once; work = readAt p }
 
-  abbrev pub writing : ℕ → Option Refusal → (Uart H W → Access Write H W) → Uart H W → Plan Write H W
-  writing now test access u =
-      record { test = test; refuses = Write.Refused; settlings = once now u; work = λ s. concluded (access s) }
+  abbrev pub writing : Option Refusal → (Uart H W → Access Write H W) → Plan Write H W
+  writing test access = record { test = test; refuses = Write.Refused; changes = once; work = λ s. concluded (access s) }
 
   unfoldable pub writePlaced : ℕ → Register → ℕ → Uart H W → Plan Write H W
-  writePlaced now p v u = writing now none (writeRegister p v) u
+  writePlaced now p v u = writing none (writeRegister p v)
 
   -- a write to FIFO
   unfoldable pub send : ℕ → W → Uart H W → Plan Write H W
-  send now b u = writing now (refuseIf (transmitFull (length (u .tx)) (length (u .inFlight))) TransmitFull none) (sendByte now b) u
+  send now b u = writing (refuseIf (transmitFull (length (u .tx)) (length (u .inFlight))) TransmitFull none) (sendByte now b)
 
   -- ---- the host
 
@@ -180,42 +171,34 @@ module _ {H W : Type 0} where
       doing
       (refuseIf (hostFull (length (u .host)) (length bs)) HostFull
       (refuseIf (runsFull (length bs) (length (u .hostRuns)) (lastDate (u .hostRuns)) (hostDate now at)) RunsFull none))
-      (once now u) (handOver (hostDate now at) bs)
+      once (handOver (hostDate now at) bs)
 
   unfoldable pub hostPending : Uart H W → Plan ℕ H W
   hostPending u = asking pending u
 
-  -- ---- wake, watch, clock, power-down, reset
-
-  -- only a wake clears the Deadline
-  unfoldable pub wake : ℕ → Uart H W → Plan Done H W
-  wake now u = doing none (once now (withControl (withWake (called now (u .control .wake)) (u .control)) u)) arm
-
-  -- watching arms without settling
-  unfoldable pub watch : ℕ → Bool → Uart H W → Plan Done H W
-  watch now b u = doing none [] (λ s. arm (withControl (withWatched b (s .control)) s))
-
-  -- power-down neither settles nor arms
-  unfoldable pub powerDown : ℕ → Uart H W → Plan Done H W
-  powerDown now u = doing none [] (λ s. withControl (withPoweredDownAt (Date.At (subcycles now)) (s .control)) s)
+  -- ---- what the machine around the UART does
 
   unfoldable pub clocked : ℕ → Uart H W → Uart H W
   clocked period u = withControl (withPeriod (periodOf period) (u .control)) u
-
-  -- settled with the old period, and again with the new one
-  unfoldable pub clockChange : ℕ → ℕ → Uart H W → Plan Done H W
-  clockChange now period u =
-      doing (refuseIf (periodTooLong period) PeriodTooLong none)
-      (once now u ++ (record { now = now; begins = clocked period (settle now (dated now u) .state) } ∷ [])) arm
 
   -- stored words as at reset; bytes in flight and received are dropped, the others stay
   unfoldable pub cleared : Uart H W → Uart H W
   cleared u =
       withRx [] (withInFlight [] (withControl (withWords (u .map .reset) (withLine (clearedLine (u .control .line)) (u .control))) u))
 
+  unfoldable pub machine : ℕ → Machine → Uart H W → Plan Done H W
+  -- only a wake clears the Deadline
+  machine now Machine.wake u = doing none ((λ s. withControl (withWake (called now (s .control .wake)) (s .control)) s) ∷ []) arm
   -- a reset first ends a power-down and settles
-  unfoldable pub reset : ℕ → Uart H W → Plan Done H W
-  reset now u = doing none (once now (withControl (withPoweredDownAt Date.None (u .control)) u)) (λ s. arm (levels (cleared s)))
+  machine now Machine.reset u =
+      doing none ((λ s. withControl (withPoweredDownAt Date.None (s .control)) s) ∷ []) (λ s. arm (levels (cleared s)))
+  -- power-down neither settles nor arms
+  machine now Machine.powerDown u = doing none [] (λ s. withControl (withPoweredDownAt (Date.At (subcycles now)) (s .control)) s)
+  -- watching arms without settling
+  machine now (Machine.watch b) u = doing none [] (λ s. arm (withControl (withWatched b (s .control)) s))
+  -- settled with the old period, and again with the new one
+  machine now (Machine.clockChange period) u =
+      doing (refuseIf (periodTooLong period) PeriodTooLong none) ((λ s. s) ∷ clocked period ∷ []) arm
 
   -- ---- taking what was sent
 
@@ -227,17 +210,17 @@ module _ {H W : Type 0} where
   written u = u .tx ++ map (λ s. s .byte) (u .inFlight)
 
   module _ {L : Type 0} where
-    abbrev pub taking : List L → List (Settling H W) → (Uart H W → Access (Take W L) H W) → Plan (Take W L) H W
-    taking lent settlings work =
+    abbrev pub taking : List L → List (Uart H W → Uart H W) → (Uart H W → Access (Take W L) H W) → Plan (Take W L) H W
+    taking lent changes work =
         record {
           test = refuseIf (bufferTooShort (length lent)) BufferTooShort none;
           refuses = notTaken lent;
-          settlings = settlings;
+          changes = changes;
           work = work;
         }
 
     unfoldable pub takeTx : ℕ → List L → Uart H W → Plan (Take W L) H W
-    takeTx now lent u = taking lent (once now u) (λ s. quiet (filled (s .tx) lent) (withTx [] s))
+    takeTx now lent u = taking lent once (λ s. quiet (filled (s .tx) lent) (withTx [] s))
 
     unfoldable pub takeWritten : List L → Uart H W → Plan (Take W L) H W
     takeWritten lent u = taking lent [] (λ s. quiet (filled (written s) lent) (withTx [] (withInFlight [] s)))

@@ -32,7 +32,7 @@ use Rattle.model.specs.Calls.{writePlaced, send, handOver, writeAt}
 use Rattle.model.specs.Calls
 use Rattle.model.specs.SetUp.{wordsAmong, mapOf, newControl, new}
 use Rattle.model.specs.Call.{wake, Dated, receive, machine, at, dateOf, Request, Reply, reads, writes, does}
-use Rattle.model.specs.Run.{numberOf, stepped, replying, machinePlan, planBy, writing, plan, step, run}
+use Rattle.model.specs.Run.{numberOf, stepped, replying, planBy, writing, plan, step, run}
 use Rattle.model.specs.declared.Date.{Date}
 use Rattle.model.specs.declared.Date.the-variants.{At}
 use Rattle.model.specs.declared.Unsupported.{Unsupported}
@@ -127,10 +127,11 @@ unfolding benchWords bench Hold p7 marks choose dueBy instantOf onlyIf earliest 
     total goesOn onePass lost passesIn overflowsIn onTheLine passesFrom pending departures passes aboveFull inFifo emptyThreshold belowEmpty
     assertLevels intStatus drive noLaterThan settlingDate levels leveled settingsOf settleTo settle called nthGone firstGone lastGone
     belowThresholdAt nextStart landingOf nextLanding instants armAll arm number notices noReport report readNumber writeNumber doneNumber
-    takenNumber registerAmong registerOf placeAmong decide valueOf wordsBy replaced noteIf sourceNotes statusWord Registers.fsmStatus looks pop shownIn
-    readRegister readLooking readAt conf0Notes storedNotes startsAt goneAt sent dropped sendByte resetFifos storing clearing writeRegister
-    concluded among repeated pastEnd wentBack transmitFull hostFull runsFull periodTooLong bufferTooShort refuseIf refuseDate refusing
-    unless afterSettling carried outcome joined lastDate hostDate dated quiet readPlaced writePlaced send handOver Calls.receive Calls.wake
-    writeAt Calls.read Calls.write wordsAmong mapOf newControl new numberOf dateOf stepped replying machinePlan planBy writing plan step run
+    takenNumber registerAmong registerOf placeAmong decide valueOf wordsBy replaced noteIf sourceNotes statusWord Registers.fsmStatus looks
+    pop shownIn readRegister readLooking readAt conf0Notes storedNotes startsAt goneAt sent dropped sendByte resetFifos storing clearing
+    writeRegister concluded among repeated pastEnd wentBack transmitFull hostFull runsFull periodTooLong bufferTooShort refuseIf refuseDate
+    refusing unless afterSettling carried outcome joined lastDate hostDate dated quiet readPlaced writePlaced send handOver Calls.receive
+    Calls.machine writeAt Calls.read Calls.write wordsAmong mapOf newControl new numberOf dateOf stepped replying planBy writing plan step
+    run
 marks-hold =
     (refl, (refl, (refl, (refl, (refl, (refl, (refl, (refl, (refl, (refl, (refl, (refl, (refl, (refl, (refl, (refl, (refl, tt)))))))))))))))))

@@ -8,10 +8,9 @@ use Rattle.model.specs.Replies.{ReadOf, readNumber, writeNumber, doneNum
 use Rattle.model.specs.Calls
 use Rattle.model.specs.Registers.{gives}
 use Rattle.model.specs.Calls.{Outcome, Plan, outcome}
-use Rattle.model.specs.Call.{Machine, Dated, Undated, Call, dateOf, Written, Request, Reply, reads, writes, does, takes, left, pends}
+use Rattle.model.specs.Call.{Dated, Undated, Call, dateOf, Written, Request, Reply, reads, writes, does, takes, left, pends}
 use Rattle.model.specs.Call.{Answer}
 use Rattle.model.specs.declared.Write.{Write}
-use Rattle.model.specs.declared.Done.{Done}
 
 -- document 01's number of an answer, 0 for done
 unfoldable pub numberOf : {H W L : Type 0} → Reply H W L → ℕ
@@ -35,16 +34,9 @@ unfoldable pub replying : {R H W L : Type 0} → (R → Reply H W L) → Plan R 
 replying as-reply p = record {
   test = p .test;
   refuses = λ r. as-reply (p .refuses r);
-  settlings = p .settlings;
+  changes = p .changes;
   work = λ s. gives (p .work s .notes) (p .work s .state) (as-reply (p .work s .reply));
 }
-
-unfoldable pub machinePlan : {H W : Type 0} → ℕ → Machine → Uart H W → Plan Done H W
-machinePlan now Machine.wake u = Calls.wake now u
-machinePlan now Machine.reset u = Calls.reset now u
-machinePlan now Machine.powerDown u = Calls.powerDown now u
-machinePlan now (Machine.watch b) u = Calls.watch now b u
-machinePlan now (Machine.clockChange p) u = Calls.clockChange now p u
 
 -- the plan of a call, given those of reads and writes
 unfoldable pub planBy : {R X H W L : Type 0} → (ℕ → R → Uart H W → Plan (ReadOf H) H W) → (ℕ → X → Uart H W → Plan Write H W)
@@ -53,7 +45,7 @@ planBy rd wr (Call.at now (Dated.read r)) u = replying reads (rd now r u)
 planBy rd wr (Call.at now (Dated.write x)) u = replying writes (wr now x u)
 planBy rd wr (Call.at now (Dated.receive date bs)) u = replying does (Calls.receive now date bs u)
 planBy rd wr (Call.at now (Dated.takeTx lent)) u = replying takes (Calls.takeTx now lent u)
-planBy rd wr (Call.at now (Dated.machine m)) u = replying does (machinePlan now m u)
+planBy rd wr (Call.at now (Dated.machine m)) u = replying does (Calls.machine now m u)
 planBy rd wr (Call.undated (Undated.takeWritten lent)) u = replying takes (Calls.takeWritten lent u)
 planBy rd wr (Call.undated Undated.hasLeft) u = replying left (Calls.hasLeft u)
 planBy rd wr (Call.undated Undated.hostPending) u = replying pends (Calls.hostPending u)

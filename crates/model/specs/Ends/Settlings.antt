@@ -1,82 +1,123 @@
--- The settlings of a call, each bounded and leaving nothing due: `settlings` of its plan, one after the other, with which the definition
--- carries it out. Assumes, for what is due, that dates in flight never fall.
-use mathlib.Core.Path.{_≡_, refl}
+-- The settlings of a call, each bounded and leaving nothing due: those with which the definition carries it out. Assumes, for what is
+-- due, that dates in flight never fall.
+use mathlib.Core.Path.{_≡_, refl, sym, ap, _∙_}
 use Prim.Native.Nat.{ℕ, _+_, _*_, _≤_}
 use mathlib.Core.List.{List, [], _∷_}
 use Rattle.model.specs.Events.{passesIn}
 use Rattle.model.specs.State.{Uart}
-use Rattle.model.specs.Settle.{pending, settlingDate, settle}
+use Rattle.model.specs.Setters.{withWake, withPoweredDownAt, withControl}
+use Rattle.model.specs.Settle.{Settled, pending, settlingDate, settle}
+use Rattle.model.specs.Arm.{called}
 use Rattle.model.specs.Map.{registerOf}
 use Rattle.model.specs.Calls
-use Rattle.model.specs.Calls.{Settling, settles, dated, clocked, readPlaced, send, writePlaced}
-use Rattle.model.specs.Call.{Machine, Dated, Undated, Call, Request}
-use Rattle.model.specs.Run.{replying, machinePlan, planBy, writing, plan}
+use Rattle.model.specs.Calls.{settledBy, dated, clocked, readPlaced, send, writePlaced}
+use Rattle.model.specs.Call.{Machine, Dated, Call, Written, Request}
+use Rattle.model.specs.Run.{replying, planBy, writing, plan}
 use Rattle.model.specs.Limits.{All, nil, cons, Chain, flightDates}
 use Rattle.model.specs.Laws.AccessCases.{write-ind}
+use Rattle.model.specs.Ends.Passes.{apart}
 use Rattle.model.specs.Ends.NothingDue.{NothingLeft, settle-passes, settle-order, settle-nothing-left}
+use Rattle.model.specs.declared.Date.{Date}
 
--- the settlings of a call that is carried out, in order: a wake first calls the Deadline, a reset first ends a power-down,
--- a clock change settles with the old period and with the new one, and watch, power-down and the undated calls do not settle
-abbrev pub settlings : Request → Uart ℕ ℕ → List (Settling ℕ ℕ)
-settlings c u = plan c u .settlings
+-- a settling: its cycle, and the state that it begins with
+pub record Settling : Type 0 where
+  pub now : ℕ
+  pub begins : Uart ℕ ℕ
 
--- no undated call settles
-pub undated-settles : (a : Undated ℕ) (u : Uart ℕ ℕ) → settlings (Call.undated a) u ≡ []
-unfolding plan planBy replying Calls.takeWritten Calls.hasLeft Calls.hostPending
-undated-settles (Undated.takeWritten lent) u = refl
-undated-settles Undated.hasLeft u = refl
-undated-settles Undated.hostPending u = refl
+abbrev pub settles : Settling → Settled ℕ ℕ
+settles s = settle (s .now) (s .begins)
 
--- demand 1: two passes for each byte pending as the settling begins and two more, and nothing due is left
-pub record Settles (s : Settling ℕ ℕ) : Type 0 where
+abbrev pub settlingsBy : ℕ → List (Uart ℕ ℕ → Uart ℕ ℕ) → Uart ℕ ℕ → List Settling
+settlingsBy now [] u = []
+settlingsBy now (f ∷ fs) u = record { now = now; begins = f u } ∷ settlingsBy now fs (settle now (f u) .state)
+
+-- the settlings of a call that is carried out, in order; an undated one has none
+abbrev pub settlings : Request → Uart ℕ ℕ → List Settling
+settlings (Call.at now c) u = settlingsBy now (plan (Call.at now c) u .changes) (dated now u)
+settlings (Call.undated c) u = []
+
+-- ---- what is changed before them
+
+abbrev pub Change : Type 0
+Change = Uart ℕ ℕ → Uart ℕ ℕ
+
+-- nothing; the Deadline is called; a power-down ends; or the period is set, by a clock change
+module _ (Q : Change → Type 0) (now : ℕ) (nothing : Q (λ s. s))
+    (wake : Q (λ s. withControl (withWake (called now (s .control .wake)) (s .control)) s))
+    (reset : Q (λ s. withControl (withPoweredDownAt Date.None (s .control)) s)) where
+  machine-changes : (m : Machine) (u : Uart ℕ ℕ) → ((period : ℕ) → m ≡ Machine.clockChange period → Q (clocked period))
+      → All Q (Calls.machine now m u .changes)
+  unfolding Calls.machine
+  machine-changes Machine.wake u clock = cons wake nil
+  machine-changes Machine.reset u clock = cons reset nil
+  machine-changes Machine.powerDown u clock = nil
+  machine-changes (Machine.watch b) u clock = nil
+  machine-changes (Machine.clockChange period) u clock = cons nothing (cons (clock period refl) nil)
+
+  pub call-changes : (c : Dated ℕ Written ℕ ℕ) (u : Uart ℕ ℕ)
+      → ((period : ℕ) → c ≡ Dated.machine (Machine.clockChange period) → Q (clocked period)) → All Q (plan (Call.at now c) u .changes)
+  unfolding plan planBy replying writing Calls.read readPlaced Calls.write send writePlaced Calls.receive Calls.takeTx
+  call-changes (Dated.read offset) u clock = cons nothing nil
+  call-changes (Dated.write x) u clock =
+      write-ind (λ p. All Q (p .changes)) now (registerOf (u .map .offsets) (x .offset)) (x .value) u (λ _. cons nothing nil)
+      (λ _. cons nothing nil)
+  call-changes (Dated.receive date bs) u clock = cons nothing nil
+  call-changes (Dated.takeTx lent) u clock = cons nothing nil
+  call-changes (Dated.machine m) u clock = machine-changes m u (λ period e. clock period (ap Dated.machine e))
+
+-- what these changes and a settling keep holds as each settling begins, and when they are over
+module _ (P : Uart ℕ ℕ → Type 0) (now : ℕ) (settled : (v : Uart ℕ ℕ) → P v → P (settle now v .state)) where
+  pub begins-all : (fs : List Change) (u : Uart ℕ ℕ) → P u → All (λ f. (v : Uart ℕ ℕ) → P v → P (f v)) fs
+      → All (λ s. P (s .begins)) (settlingsBy now fs u)
+  begins-all [] u p nil = nil
+  begins-all (f ∷ fs) u p (cons k ks) = cons (k u p) (begins-all fs _ (settled (f u) (k u p)) ks)
+
+  pub settled-all : (fs : List Change) (t : Settled ℕ ℕ) → P (t .state) → All (λ f. (v : Uart ℕ ℕ) → P v → P (f v)) fs
+      → P (settledBy now fs t .state)
+  settled-all [] t p nil = p
+  settled-all (f ∷ fs) t p (cons k ks) = settled-all fs _ (settled (f (t .state)) (k (t .state) p)) ks
+
+pub all-map : {P Q : Settling → Type 0} (ss : List Settling) → ((s : Settling) → P s → Q s) → All P ss → All Q ss
+all-map [] f nil = nil
+all-map (s ∷ ss) f (cons p a) = cons (f s p) (all-map ss f a)
+
+-- ---- demand 1
+
+-- two passes for each byte pending as the settling begins and two more, and nothing due is left
+pub record Settles (s : Settling) : Type 0 where
   pub passes : passesIn (settles s .events) ≤ 2 * pending (s .begins) + 2
   pub quiet : NothingLeft (settlingDate (s .now) (s .begins .control)) (settles s .state)
 
-settle-both : (now : ℕ) (u : Uart ℕ ℕ) → Chain _≤_ (flightDates (u .inFlight)) → Settles (record { now = now; begins = u })
-settle-both now u c = record { passes = settle-passes now u; quiet = settle-nothing-left now u c }
+abbrev InOrder : Uart ℕ ℕ → Type 0
+InOrder u = Chain _≤_ (flightDates (u .inFlight))
 
-machine-settles : (now : ℕ) (m : Machine) (u : Uart ℕ ℕ) → Chain _≤_ (flightDates (u .inFlight)) → All Settles (machinePlan now m u .settlings)
-unfolding machinePlan dated clocked Calls.wake Calls.reset Calls.powerDown Calls.watch Calls.clockChange
-machine-settles now Machine.wake u c = cons (settle-both now _ c) nil
-machine-settles now Machine.reset u c = cons (settle-both now _ c) nil
-machine-settles now Machine.powerDown u c = nil
-machine-settles now (Machine.watch b) u c = nil
-machine-settles now (Machine.clockChange period) u c =
-    cons (settle-both now _ c) (cons (settle-both now _ (settle-order now (dated now u) c)) nil)
+begins-in-order : (c : Request) (u : Uart ℕ ℕ) → InOrder u → All (λ s. InOrder (s .begins)) (settlings c u)
+unfolding dated clocked
+begins-in-order (Call.at now c) u o =
+    begins-all InOrder now (λ v. settle-order now v) _ _ o
+    (call-changes (λ f. (v : Uart ℕ ℕ) → InOrder v → InOrder (f v)) now (λ v k. k) (λ v k. k) (λ v k. k) c u (λ period e v k. k))
+begins-in-order (Call.undated c) u o = nil
 
--- demand 1 of every settling of every call, both of a clock change
+-- of every settling of every call, both of a clock change
 pub call-settles : (c : Request) (u : Uart ℕ ℕ) → Chain _≤_ (flightDates (u .inFlight)) → All Settles (settlings c u)
-unfolding plan planBy replying writing dated Calls.read readPlaced Calls.write send writePlaced Calls.receive Calls.takeTx
-    Calls.takeWritten Calls.hasLeft Calls.hostPending
-call-settles (Call.at now (Dated.read offset)) u c = cons (settle-both now _ c) nil
-call-settles (Call.at now (Dated.write x)) u c =
-    write-ind (λ p. All Settles (p .settlings)) now (registerOf (u .map .offsets) (x .offset)) (x .value) u
-    (λ _. cons (settle-both now _ c) nil) (λ _. cons (settle-both now _ c) nil)
-call-settles (Call.at now (Dated.receive date bs)) u c = cons (settle-both now _ c) nil
-call-settles (Call.at now (Dated.takeTx lent)) u c = cons (settle-both now _ c) nil
-call-settles (Call.at now (Dated.machine m)) u c = machine-settles now m u c
-call-settles (Call.undated a) u c = rw (undated-settles a u) nil
+call-settles c u o =
+    all-map (settlings c u)
+    (λ s k. record { passes = settle-passes (s .now) (s .begins); quiet = settle-nothing-left (s .now) (s .begins) k })
+    (begins-in-order c u o)
+
+heads : {x y : Settling} {xs ys : List Settling} → x ∷ xs ≡ y ∷ ys → x ≡ y
+heads e = cc
 
 -- the first settling begins with what is pending as the call comes
-abbrev pub FirstBegins : ℕ → List (Settling ℕ ℕ) → Type 0
-FirstBegins n [] = Unit {0}
-FirstBegins n (s ∷ ss) = pending (s .begins) ≡ n
-
-machine-pending : (now : ℕ) (m : Machine) (u : Uart ℕ ℕ) → FirstBegins (pending u) (machinePlan now m u .settlings)
-unfolding machinePlan dated pending Calls.wake Calls.reset Calls.powerDown Calls.watch Calls.clockChange
-machine-pending now Machine.wake u = refl
-machine-pending now Machine.reset u = refl
-machine-pending now Machine.powerDown u = tt
-machine-pending now (Machine.watch b) u = tt
-machine-pending now (Machine.clockChange period) u = refl
-
-pub call-pending : (c : Request) (u : Uart ℕ ℕ) → FirstBegins (pending u) (settlings c u)
-unfolding plan planBy replying writing dated pending Calls.read readPlaced Calls.write send writePlaced Calls.receive Calls.takeTx
-    Calls.takeWritten Calls.hasLeft Calls.hostPending
-call-pending (Call.at now (Dated.read offset)) u = refl
-call-pending (Call.at now (Dated.write x)) u =
-    write-ind (λ p. FirstBegins (pending u) (p .settlings)) now (registerOf (u .map .offsets) (x .offset)) (x .value) u (λ _. refl) (λ _. refl)
-call-pending (Call.at now (Dated.receive date bs)) u = refl
-call-pending (Call.at now (Dated.takeTx lent)) u = refl
-call-pending (Call.at now (Dated.machine m)) u = machine-pending now m u
-call-pending (Call.undated a) u = rw (undated-settles a u) tt
+pub call-pending : (c : Request) (u : Uart ℕ ℕ) (s : Settling) (ss : List Settling) → settlings c u ≡ s ∷ ss
+    → pending (s .begins) ≡ pending u
+unfolding dated clocked pending
+call-pending (Call.at now c) u s ss e =
+    first _ e (call-changes (λ f. (v : Uart ℕ ℕ) → pending (f v) ≡ pending v) now (λ v. refl) (λ v. refl) (λ v. refl) c u
+    (λ period _ v. refl))
+  where
+    first : (fs : List Change) → settlingsBy now fs (dated now u) ≡ s ∷ ss → All (λ f. (v : Uart ℕ ℕ) → pending (f v) ≡ pending v) fs
+        → pending (s .begins) ≡ pending u
+    first [] e nil = apart (cc)
+    first (f ∷ fs) e (cons k ks) = ap (λ x. pending (x .begins)) (sym (heads e)) ∙ k (dated now u)
+call-pending (Call.undated c) u s ss e = apart (cc)

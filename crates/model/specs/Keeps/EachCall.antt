@@ -14,6 +14,7 @@ use Rattle.model.specs.Setters.{withTx}
 use Rattle.model.specs.Map.{Register, registerOf}
 use Rattle.model.specs.Tests.{sentLimit, runsLimit, periodLimit, hostFull, runsFull, periodTooLong}
 use Rattle.model.specs.Calls
+use Rattle.model.specs.Call.{Machine}
 use Rattle.model.specs.Calls.{unless, afterSettling, undated, outcome, carried, lastDate, hostDate, clearedLine, dated, settleAt, quiet, handOver}
 use Rattle.model.specs.Calls.{clocked, cleared}
 use Rattle.model.specs.Limits.{Chain, All, Fits, Within}
@@ -68,8 +69,8 @@ module _ {H W : Type 0} where
 
   -- ---- wake, watch, clock, power-down, reset
 
-  wake-parts : (now : ℕ) (u : Uart H W) → Parts u → Parts (outcome (some now) (Calls.wake now u) u .state)
-  unfolding outcome carried Calls.wake afterSettling quiet
+  wake-parts : (now : ℕ) (u : Uart H W) → Parts u → Parts (outcome (some now) (Calls.machine now Machine.wake u) u .state)
+  unfolding outcome carried Calls.machine afterSettling quiet dated
   wake-parts now u p =
       dated-parts Done.Refused _ u p now none
       (λ h _. arm-parts _ (settleAt-parts now _ h (putClock p
@@ -80,12 +81,12 @@ module _ {H W : Type 0} where
         wake = called-within now (u .control .wake) (p .clock .wake);
       }))))
 
-  watch-parts : (now : ℕ) (b : Bool) (u : Uart H W) → Parts u → Parts (outcome (some now) (Calls.watch now b u) u .state)
-  unfolding outcome carried Calls.watch afterSettling quiet dated
+  watch-parts : (now : ℕ) (b : Bool) (u : Uart H W) → Parts u → Parts (outcome (some now) (Calls.machine now (Machine.watch b) u) u .state)
+  unfolding outcome carried Calls.machine afterSettling quiet dated
   watch-parts now b u p = dated-parts Done.Refused _ u p now none (λ h _. arm-parts _ (moved-parts now u h p))
 
-  powerDown-parts : (now : ℕ) (u : Uart H W) → Parts u → Parts (outcome (some now) (Calls.powerDown now u) u .state)
-  unfolding outcome carried Calls.powerDown afterSettling quiet dated
+  powerDown-parts : (now : ℕ) (u : Uart H W) → Parts u → Parts (outcome (some now) (Calls.machine now Machine.powerDown u) u .state)
+  unfolding outcome carried Calls.machine afterSettling quiet dated
   powerDown-parts now u p = dated-parts Done.Refused _ u p now none (λ h _. moved-parts now u h p)
 
   -- a period of 0 counts as 1, and test 7 keeps it at 1,000,000 or below
@@ -94,8 +95,8 @@ module _ {H W : Type 0} where
   clocked-parts period u h p =
       putClock p (record { low = le-max-right _ _; high = max-le h (lit≤ tt); last = p .clock .last; wake = p .clock .wake })
 
-  clockChange-parts : (now period : ℕ) (u : Uart H W) → Parts u → Parts (outcome (some now) (Calls.clockChange now period u) u .state)
-  unfolding outcome carried Calls.clockChange afterSettling quiet periodTooLong
+  clockChange-parts : (now period : ℕ) (u : Uart H W) → Parts u → Parts (outcome (some now) (Calls.machine now (Machine.clockChange period) u) u .state)
+  unfolding outcome carried Calls.machine afterSettling quiet periodTooLong
   clockChange-parts now period u p =
       dated-parts Done.Refused _ u p now _
       (λ h e. arm-parts _ (settle-parts now _ (clocked-parts period _ (ltb-false _ _ (not-refused _ _ none e .0))
@@ -107,8 +108,8 @@ module _ {H W : Type 0} where
       putLine (putRx (putFlight p (empty-flight (u .tx) (omega (arith, p .flight .sent)))) zero-le)
       (record { idle = λ _. refl; free = p .line .free; since = tt })
 
-  reset-parts : (now : ℕ) (u : Uart H W) → Parts u → Parts (outcome (some now) (Calls.reset now u) u .state)
-  unfolding outcome carried Calls.reset afterSettling quiet
+  reset-parts : (now : ℕ) (u : Uart H W) → Parts u → Parts (outcome (some now) (Calls.machine now Machine.reset u) u .state)
+  unfolding outcome carried Calls.machine afterSettling quiet dated
   reset-parts now u p =
       dated-parts Done.Refused _ u p now none (λ h _. arm-parts _ (levels-parts _ (cleared-parts _ (settleAt-parts now _ h p))))
 
@@ -155,19 +156,19 @@ module _ {H W : Type 0} where
   unfolding outcome carried Calls.hostPending undated unless quiet
   hostPending-within u w = w
 
-  pub wake-within : (now : ℕ) (u : Uart H W) → Within u → Within (outcome (some now) (Calls.wake now u) u .state)
+  pub wake-within : (now : ℕ) (u : Uart H W) → Within u → Within (outcome (some now) (Calls.machine now Machine.wake u) u .state)
   wake-within now u = through u _ (wake-parts now u)
 
-  pub watch-within : (now : ℕ) (b : Bool) (u : Uart H W) → Within u → Within (outcome (some now) (Calls.watch now b u) u .state)
+  pub watch-within : (now : ℕ) (b : Bool) (u : Uart H W) → Within u → Within (outcome (some now) (Calls.machine now (Machine.watch b) u) u .state)
   watch-within now b u = through u _ (watch-parts now b u)
 
-  pub powerDown-within : (now : ℕ) (u : Uart H W) → Within u → Within (outcome (some now) (Calls.powerDown now u) u .state)
+  pub powerDown-within : (now : ℕ) (u : Uart H W) → Within u → Within (outcome (some now) (Calls.machine now Machine.powerDown u) u .state)
   powerDown-within now u = through u _ (powerDown-parts now u)
 
-  pub clockChange-within : (now period : ℕ) (u : Uart H W) → Within u → Within (outcome (some now) (Calls.clockChange now period u) u .state)
+  pub clockChange-within : (now period : ℕ) (u : Uart H W) → Within u → Within (outcome (some now) (Calls.machine now (Machine.clockChange period) u) u .state)
   clockChange-within now period u = through u _ (clockChange-parts now period u)
 
-  pub reset-within : (now : ℕ) (u : Uart H W) → Within u → Within (outcome (some now) (Calls.reset now u) u .state)
+  pub reset-within : (now : ℕ) (u : Uart H W) → Within u → Within (outcome (some now) (Calls.machine now Machine.reset u) u .state)
   reset-within now u = through u _ (reset-parts now u)
 
   pub hasLeft-within : (u : Uart H W) → Within u → Within (outcome none (Calls.hasLeft u) u .state)

@@ -17,7 +17,7 @@ use Rattle.model.specs.Calls
 use Rattle.model.specs.Calls.{Plan, outcome}
 use Rattle.model.specs.SetUp.{fifoCounts, mapOf, newControl, new}
 use Rattle.model.specs.Call.{Machine, Dated, Undated, Call, dateOf, Request, Reply, Answer}
-use Rattle.model.specs.Run.{Step, stepped, replying, machinePlan, planBy, writing, plan, step}
+use Rattle.model.specs.Run.{Step, stepped, replying, planBy, writing, plan, step}
 use Rattle.model.specs.Limits.{Chain, All, sum, Within}
 use Rattle.model.specs.Laws.Plans.{answering, replied}
 use Rattle.model.specs.Keeps.Parts.{together}
@@ -58,8 +58,8 @@ new-within offsets ws sixteen different =
 
 -- ---- one call
 
-machine-within : {H W : Type 0} (now : ℕ) (m : Machine) (u : Uart H W) → Within u → Within (outcome (some now) (machinePlan now m u) u .state)
-unfolding machinePlan
+machine-within : {H W : Type 0} (now : ℕ) (m : Machine) (u : Uart H W) → Within u → Within (outcome (some now) (Calls.machine now m u) u .state)
+unfolding Calls.machine
 machine-within now Machine.wake u w = wake-within now u w
 machine-within now Machine.reset u w = reset-within now u w
 machine-within now Machine.powerDown u w = powerDown-within now u w

@@ -22,10 +22,10 @@ use Rattle.model.specs.Map.{Word, Register, isFifo, registerOf, placeAmo
 use Rattle.model.specs.Registers.{Access, pop, readRegister, readLooking, readAt, sendByte, sent, dropped, resetFifos, storing}
 use Rattle.model.specs.Registers.{clearing, writeRegister, concluded}
 use Rattle.model.specs.Calls
-use Rattle.model.specs.Calls.{Settling, settledBy, afterSettling, undated, carried, quiet, dated, clocked, cleared, clearedLine}
+use Rattle.model.specs.Calls.{settledBy, afterSettling, undated, carried, quiet, dated, clocked, cleared, clearedLine}
 use Rattle.model.specs.Calls.{handOver, readPlaced, send, writePlaced}
-use Rattle.model.specs.Call.{Machine, Dated, Undated, Call, dateOf, Request}
-use Rattle.model.specs.Run.{Step, stepped, replying, machinePlan, planBy, writing, plan, step}
+use Rattle.model.specs.Call.{Machine, Dated, Undated, Call, dateOf, Written, Request}
+use Rattle.model.specs.Run.{Step, stepped, replying, planBy, writing, plan, step}
 use Rattle.model.specs.SetUp.{wordsAmong, fifoCounts, mapOf, newControl, new}
 use Rattle.model.specs.Limits.{All, nil, cons, NoLater}
 use Rattle.model.specs.Widths.{Word32, Words32, Bytes, ByteOn, Given, Widths}
@@ -34,7 +34,7 @@ use Rattle.model.specs.Laws.Cases.{KeptOnLine, passes-ind}
 use Rattle.model.specs.Laws.AccessCases.{write-ind, readRegister-ind, writeRegister-ind}
 use Rattle.model.specs.Refuses.Conditions.{Result, refusal, done}
 use Rattle.model.specs.Refuses.Refusals.{step-result}
-use Rattle.model.specs.Ends.Settlings.{settlings, undated-settles}
+use Rattle.model.specs.Ends.Settlings.{call-changes, settled-all}
 use Rattle.model.specs.TwoRuns.Renamed.{itself}
 use Rattle.model.specs.TwoRuns.Natural.{bytes-nat}
 use Rattle.model.specs.TwoRuns.NaturalCalls.{mapPut, mapPlaced, mapStep, stepPlaced-nat}
@@ -166,37 +166,17 @@ module _ {H W : Type 0} where
   unfolding sendByte sent dropped
   send-numbers now b u n = choose-ind (λ (a : Access _ H W). Numbers (a .state)) _ (λ _. n) (λ _. withRaw refl refl refl (n .raw) n)
 
-settled-numbers : (ss : List (Settling ℕ ℕ)) (t : Settled ℕ ℕ) → Numbers (t .state) → All (λ s. Numbers (s .begins)) ss
-    → Numbers (settledBy ss t .state)
-settled-numbers [] t n nil = n
-settled-numbers (s ∷ ss) t n (cons p a) = settled-numbers ss _ (settle-numbers (s .now) (s .begins) p) a
-
 -- ---- every call
 
-machine-begins : (now : ℕ) (m : Machine) (u : Uart ℕ ℕ) → Numbers u → All (λ s. Numbers (s .begins)) (machinePlan now m u .settlings)
-unfolding machinePlan dated clocked Calls.wake Calls.reset Calls.powerDown Calls.watch Calls.clockChange
-machine-begins now Machine.wake u n = cons (withRaw refl refl refl (n .raw) n) nil
-machine-begins now Machine.reset u n = cons (record { reset = n .reset; words = n .words; raw = n .raw; down = tt }) nil
-machine-begins now Machine.powerDown u n = nil
-machine-begins now (Machine.watch b) u n = nil
-machine-begins now (Machine.clockChange period) u n =
-    let first = settle-numbers now (dated now u) (withRaw refl refl refl (n .raw) n) in
-    cons (withRaw refl refl refl (n .raw) n) (cons (withRaw refl refl refl (first .raw) first) nil)
+changes-numbers : (now : ℕ) (c : Dated ℕ Written ℕ ℕ) (u : Uart ℕ ℕ)
+    → All (λ f. (v : Uart ℕ ℕ) → Numbers v → Numbers (f v)) (plan (Call.at now c) u .changes)
+unfolding clocked
+changes-numbers now c u =
+    call-changes (λ f. (v : Uart ℕ ℕ) → Numbers v → Numbers (f v)) now (λ v n. n) (λ v n. withRaw refl refl refl (n .raw) n)
+    (λ v n. record { reset = n .reset; words = n .words; raw = n .raw; down = tt }) c u (λ period _ v n. withRaw refl refl refl (n .raw) n)
 
-begins-numbers : (c : Request) (u : Uart ℕ ℕ) → Numbers u → All (λ s. Numbers (s .begins)) (settlings c u)
-unfolding plan planBy replying writing dated Calls.read readPlaced Calls.write send writePlaced Calls.receive Calls.takeTx
-begins-numbers (Call.at now (Dated.read offset)) u n = cons (withRaw refl refl refl (n .raw) n) nil
-begins-numbers (Call.at now (Dated.write x)) u n =
-    let one = cons (withRaw refl refl refl (n .raw) n) nil in
-    write-ind (λ p. All (λ s. Numbers (s .begins)) (p .settlings)) now (registerOf (u .map .offsets) (x .offset)) (x .value) u (λ _. one)
-    (λ _. one)
-begins-numbers (Call.at now (Dated.receive date bs)) u n = cons (withRaw refl refl refl (n .raw) n) nil
-begins-numbers (Call.at now (Dated.takeTx lent)) u n = cons (withRaw refl refl refl (n .raw) n) nil
-begins-numbers (Call.at now (Dated.machine m)) u n = machine-begins now m u n
-begins-numbers (Call.undated a) u n = subst (All (λ s. Numbers (s .begins))) (sym (undated-settles a u)) nil
-
-machine-worked : (now : ℕ) (m : Machine) (u v : Uart ℕ ℕ) → Numbers v → Numbers (machinePlan now m u .work v .state)
-unfolding machinePlan quiet cleared clearedLine Calls.wake Calls.reset Calls.powerDown Calls.watch Calls.clockChange
+machine-worked : (now : ℕ) (m : Machine) (u v : Uart ℕ ℕ) → Numbers v → Numbers (Calls.machine now m u .work v .state)
+unfolding Calls.machine quiet cleared clearedLine
 machine-worked now Machine.wake u v n = arm-numbers v n
 machine-worked now Machine.reset u v n =
     arm-numbers _ (levels-numbers _ (record { reset = n .reset; words = n .reset; raw = omega arith; down = n .down }))
@@ -219,16 +199,17 @@ worked-numbers (Call.undated (Undated.takeWritten lent)) u v g n = withRaw refl 
 worked-numbers (Call.undated Undated.hasLeft) u v g n = n
 worked-numbers (Call.undated Undated.hostPending) u v g n = n
 
-carried-numbers : (c : Request) (u : Uart ℕ ℕ) → Given c → Numbers u → (d : Option ℕ) → Numbers (carried d (plan c u) u .state)
-unfolding carried undated afterSettling dated
-carried-numbers c u g n none = worked-numbers c u u g n
-carried-numbers c u g n (some now) =
-    worked-numbers c u _ g (settled-numbers (settlings c u) _ (withRaw refl refl refl (n .raw) n) (begins-numbers c u n))
+carried-numbers : (c : Request) (u : Uart ℕ ℕ) → Given c → Numbers u → Numbers (carried (dateOf c) (plan c u) u .state)
+unfolding carried undated afterSettling dated dateOf
+carried-numbers (Call.at now c) u g n =
+    worked-numbers (Call.at now c) u _ g
+    (settled-all Numbers now (settle-numbers now) _ _ (withRaw refl refl refl (n .raw) n) (changes-numbers now c u))
+carried-numbers (Call.undated c) u g n = worked-numbers (Call.undated c) u u g n
 
 result-numbers : (c : Request) (u : Uart ℕ ℕ) {s : Step ℕ ℕ ℕ} → Given c → Numbers u → Result c u s → Numbers (s .state)
 unfolding stepped
 result-numbers c u g n (refusal f) = n
-result-numbers c u g n (done all) = carried-numbers c u g n (dateOf c)
+result-numbers c u g n (done all) = carried-numbers c u g n
 
 step-numbers : (c : Request) (u : Uart ℕ ℕ) → Given c → Numbers u → Numbers (step c u .state)
 step-numbers c u g n = result-numbers c u g n (step-result c u)

@@ -13,14 +13,14 @@ use Rattle.model.specs.Arm.{arm}
 use Rattle.model.specs.Map.{Register, registerOf}
 use Rattle.model.specs.Registers.{pop, readRegister, readLooking, readAt, concluded}
 use Rattle.model.specs.Calls
-use Rattle.model.specs.Calls.{Settling, afterSettling, undated, carried, dated, quiet, handOver, readPlaced, send, writePlaced}
+use Rattle.model.specs.Calls.{afterSettling, undated, carried, dated, quiet, handOver, readPlaced, send, writePlaced}
 use Rattle.model.specs.Call.{Machine, Dated, Undated, Call, dateOf, Request, writes}
-use Rattle.model.specs.Run.{numberOf, stepped, replying, machinePlan, planBy, writing, plan, step}
+use Rattle.model.specs.Run.{numberOf, stepped, replying, planBy, writing, plan, step}
 use Rattle.model.specs.SetUp.{newControl, new}
 use Rattle.model.specs.Laws.AccessCases.{write-ind, readRegister-ind}
 use Rattle.model.specs.Ends.Passes.{apart}
 use Rattle.model.specs.Refuses.Exactly.{done-carried}
-use Rattle.model.specs.Ends.Settlings.{settlings, undated-settles}
+use Rattle.model.specs.Ends.Settlings.{Settling, settlingsBy, settlings}
 use Rattle.model.specs.declared.Unsupported.{Unsupported}
 use Rattle.model.specs.declared.Control.{Control}
 
@@ -70,9 +70,9 @@ module _ {H W : Type 0} where
 
 -- ---- every call
 
-machine-drives : (now : ℕ) (m : Machine) (u : Uart ℕ ℕ) (s : Settling ℕ ℕ) (ss : List (Settling ℕ ℕ))
-    → machinePlan now m u .settlings ≡ s ∷ ss → Driven (carried (some now) (machinePlan now m u) u .state)
-unfolding carried afterSettling machinePlan quiet Calls.wake Calls.reset Calls.powerDown Calls.watch Calls.clockChange
+machine-drives : (now : ℕ) (m : Machine) (u : Uart ℕ ℕ) (s : Settling) (ss : List Settling)
+    → settlingsBy now (Calls.machine now m u .changes) (dated now u) ≡ s ∷ ss → Driven (carried (some now) (Calls.machine now m u) u .state)
+unfolding carried afterSettling Calls.machine quiet
 machine-drives now Machine.wake u s ss e = arm-driven _ (settled-driven now _)
 machine-drives now Machine.reset u s ss e = arm-driven _ (levels-driven _)
 machine-drives now Machine.powerDown u s ss e = apart (cc)
@@ -80,7 +80,7 @@ machine-drives now (Machine.watch b) u s ss e = apart (cc)
 machine-drives now (Machine.clockChange period) u s ss e = arm-driven _ (settled-driven now _)
 
 -- one that settles
-carried-drives : (c : Request) (u : Uart ℕ ℕ) (s : Settling ℕ ℕ) (ss : List (Settling ℕ ℕ)) → settlings c u ≡ s ∷ ss
+carried-drives : (c : Request) (u : Uart ℕ ℕ) (s : Settling) (ss : List Settling) → settlings c u ≡ s ∷ ss
     → Driven (stepped (carried (dateOf c) (plan c u) u) .state)
 unfolding stepped carried afterSettling dateOf plan planBy replying writing quiet readAt concluded Calls.read readPlaced Calls.write send
     writePlaced Calls.receive Calls.takeTx
@@ -92,11 +92,11 @@ carried-drives (Call.at now (Dated.write x)) u s ss e =
 carried-drives (Call.at now (Dated.receive date bs)) u s ss e = hand-driven _ bs _ (settled-driven now (dated now u))
 carried-drives (Call.at now (Dated.takeTx lent)) u s ss e = taken-driven _ (settled-driven now (dated now u))
 carried-drives (Call.at now (Dated.machine m)) u s ss e = machine-drives now m u s ss e
-carried-drives (Call.undated a) u s ss e = let none = undated-settles a u in apart (cc)
+carried-drives (Call.undated a) u s ss e = apart (cc)
 
-machine-leaves : (now : ℕ) (m : Machine) (u : Uart ℕ ℕ) → machinePlan now m u .settlings ≡ []
-    → carried (some now) (machinePlan now m u) u .state .control .level ≡ u .control .level
-unfolding carried afterSettling dated machinePlan quiet arm Calls.wake Calls.reset Calls.powerDown Calls.watch Calls.clockChange
+machine-leaves : (now : ℕ) (m : Machine) (u : Uart ℕ ℕ) → settlingsBy now (Calls.machine now m u .changes) (dated now u) ≡ []
+    → carried (some now) (Calls.machine now m u) u .state .control .level ≡ u .control .level
+unfolding carried afterSettling dated Calls.machine quiet arm
 machine-leaves now Machine.wake u e = apart (cc)
 machine-leaves now Machine.reset u e = apart (cc)
 machine-leaves now Machine.powerDown u e = refl
@@ -110,7 +110,7 @@ unfolding stepped carried afterSettling undated dated dateOf plan planBy replyin
     writePlaced Calls.receive Calls.takeTx Calls.takeWritten Calls.hasLeft Calls.hostPending
 carried-leaves (Call.at now (Dated.read offset)) u e = apart (cc)
 carried-leaves (Call.at now (Dated.write x)) u e =
-    write-ind (λ p. p .settlings ≡ [] → carried (some now) (replying {L = ℕ} writes p) u .state .control .level ≡ u .control .level) now
+    write-ind (λ p. settlingsBy now (p .changes) (dated now u) ≡ [] → carried (some now) (replying {L = ℕ} writes p) u .state .control .level ≡ u .control .level) now
     (registerOf (u .map .offsets) (x .offset)) (x .value) u (λ _ h. apart (cc)) (λ _ h. apart (cc)) e
 carried-leaves (Call.at now (Dated.receive date bs)) u e = apart (cc)
 carried-leaves (Call.at now (Dated.takeTx lent)) u e = apart (cc)
@@ -121,7 +121,7 @@ carried-leaves (Call.undated Undated.hostPending) u e = refl
 
 module _ (c : Request) (u : Uart ℕ ℕ) (done : numberOf (step c u .answer .reply) ≡ 0) where
   -- after a call that settles the level is whether INT_ST is other than 0
-  pub call-drives : (s : Settling ℕ ℕ) (ss : List (Settling ℕ ℕ)) → settlings c u ≡ s ∷ ss → Driven (step c u .state)
+  pub call-drives : (s : Settling) (ss : List Settling) → settlings c u ≡ s ∷ ss → Driven (step c u .state)
   call-drives s ss e = subst (λ x. Driven (x .state)) (sym (done-carried c u done)) (carried-drives c u s ss e)
 
   -- one that does not settle leaves it

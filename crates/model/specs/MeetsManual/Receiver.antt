@@ -18,10 +18,10 @@ use Rattle.model.specs.Arm.{called}
 use Rattle.model.specs.Tests.{dateEnd, periodLimit}
 use Rattle.model.specs.Map.{registerOf}
 use Rattle.model.specs.Calls
-use Rattle.model.specs.Calls.{Settling, settles, dated, clocked, readPlaced, send, writePlaced}
+use Rattle.model.specs.Calls.{dated, clocked, readPlaced, send, writePlaced}
 use Rattle.model.specs.Laws.AccessCases.{write-ind}
-use Rattle.model.specs.Call.{Machine, Dated, Call, dateOf, Request}
-use Rattle.model.specs.Run.{numberOf, replying, machinePlan, planBy, writing, plan, step}
+use Rattle.model.specs.Call.{Machine, Dated, Call, dateOf, Written, Request}
+use Rattle.model.specs.Run.{numberOf, replying, planBy, writing, plan, step}
 use Rattle.model.specs.Limits.{All, nil, cons, Within}
 use Rattle.model.specs.Laws.Lists.{all-head, all-drop}
 use Rattle.model.specs.Keeps.Parts.{Parts, putClock, through}
@@ -29,37 +29,17 @@ use Rattle.model.specs.Keeps.Wake.{called-within}
 use Rattle.model.specs.Keeps.Settling.{settle-parts}
 use Rattle.model.specs.Keeps.Dated.{moved-parts}
 use Rattle.model.specs.Keeps.EachCall.{clocked-parts}
-use Rattle.model.specs.Refuses.Conditions.{Condition, number2, number7, order}
+use Rattle.model.specs.Refuses.Conditions.{Condition, number2, number7}
 use Rattle.model.specs.Refuses.Exactly.{done-exactly}
-use Rattle.model.specs.Ends.Settlings.{settlings, undated-settles}
+use Rattle.model.specs.Ends.Settlings.{Settling, settles, settlings, call-changes, begins-all, all-map}
 use Rattle.model.specs.MeetsManual.Timing.{Meant, FrameTime, TimeoutTime, byte-lasts, timeout-lasts}
 use Rattle.model.specs.MeetsManual.Reception.{comes, arrivalsIn, settling-receives}
 use Rattle.model.specs.MeetsManual.ReceiveTimeout.{showsIn, shownIn, settling-shows}
 use Rattle.model.specs.declared.Date.{Date}
 use Rattle.model.specs.declared.Words.{Words}
+use Rattle.model.specs.declared.Refusal.the-variants.{PeriodTooLong}
 
 -- ---- the settlings of a call begin within the limits
-
-module _ (u : Uart ℕ ℕ) (w : Within u) where
-  -- its last date moved
-  moved : (now : ℕ) → now < dateEnd → Within (dated now u)
-  moved now h = through u (dated now u) (moved-parts now u h) w
-
-  woken : (now : ℕ) → now < dateEnd → Within (dated now (withControl (withWake (called now (u .control .wake)) (u .control)) u))
-  woken now h =
-      through u _ (λ (p : Parts u). moved-parts now _ h (putClock p (record {
-        low = p .clock .low;
-        high = p .clock .high;
-        last = p .clock .last;
-        wake = called-within now (u .control .wake) (p .clock .wake);
-      }))) w
-
-  powered : (now : ℕ) → now < dateEnd → Within (dated now (withControl (withPoweredDownAt Date.None (u .control)) u))
-  powered now h = through u _ (λ (p : Parts u). moved-parts now _ h p) w
-
-  reclocked : (now period : ℕ) → now < dateEnd → period ≤ periodLimit → Within (clocked period (settle now (dated now u) .state))
-  reclocked now period h low =
-      through u _ (λ (p : Parts u). clocked-parts period _ low (settle-parts now (dated now u) (moved-parts now u h p))) w
 
 -- a number is below another unless it reaches it
 below : (n m : ℕ) → ¬ (m ≤ n) → n < m
@@ -74,39 +54,39 @@ module _ (c : Request) (u : Uart ℕ ℕ) (done : numberOf (step c u .answer .re
   early : (now : ℕ) → dateOf c ≡ some now → now < dateEnd
   early now e = below now dateEnd (λ h. all-head (done-exactly c u .0 done) (number2 e h))
 
-clock-low : (now period : ℕ) (u : Uart ℕ ℕ) → numberOf (step (Call.at now (Dated.machine (Machine.clockChange period))) u .answer .reply) ≡ 0 → period ≤ periodLimit
-clock-low now period u done =
+clock-low : (now period : ℕ) (c : Dated ℕ Written ℕ ℕ) (u : Uart ℕ ℕ) → c ≡ Dated.machine (Machine.clockChange period)
+    → numberOf (step (Call.at now c) u .answer .reply) ≡ 0 → period ≤ periodLimit
+clock-low now period c u is done =
     let h : period < periodLimit + 1 =
-    below period (periodLimit + 1) (λ h. all-head (all-drop 2 _ (done-exactly _ u .0 done)) (number7 (omega arith)))
+    below period (periodLimit + 1)
+    (λ h. all-head (all-drop 2 _ (done-exactly (Call.at now c) u .0 done))
+    (subst (λ x. Condition u PeriodTooLong (Call.at now x)) (sym is) (number7 (omega arith))))
     in omega arith
 
-machine-begins : (now : ℕ) (m : Machine) (u : Uart ℕ ℕ) → Within u → numberOf (step (Call.at now (Dated.machine m)) u .answer .reply) ≡ 0
-    → All (λ s. Within (s .begins)) (machinePlan now m u .settlings)
-unfolding machinePlan dateOf Calls.wake Calls.reset Calls.powerDown Calls.watch Calls.clockChange
-machine-begins now Machine.wake u w d = cons (woken u w now (early _ u d now refl)) nil
-machine-begins now Machine.reset u w d = cons (powered u w now (early _ u d now refl)) nil
-machine-begins now Machine.powerDown u w d = nil
-machine-begins now (Machine.watch b) u w d = nil
-machine-begins now (Machine.clockChange period) u w d =
-    let h : now < dateEnd = early _ u d now refl in
-    cons (moved u w now h) (cons (reclocked u w now period h (clock-low now period u d)) nil)
+changes-within : (now : ℕ) (c : Dated ℕ Written ℕ ℕ) (u : Uart ℕ ℕ) → numberOf (step (Call.at now c) u .answer .reply) ≡ 0
+    → All (λ f. (v : Uart ℕ ℕ) → Within v → Within (f v)) (plan (Call.at now c) u .changes)
+changes-within now c u done =
+    call-changes (λ f. (v : Uart ℕ ℕ) → Within v → Within (f v)) now (λ v w. w)
+    (λ v. through v _ (λ p. putClock p (record {
+      low = p .clock .low;
+      high = p .clock .high;
+      last = p .clock .last;
+      wake = called-within now (v .control .wake) (p .clock .wake);
+    })))
+    (λ v. through v _ (λ p. putClock p (p .clock))) c u
+    (λ period is v. through v _ (clocked-parts period v (clock-low now period c u is done)))
 
 begins-within : (c : Request) (u : Uart ℕ ℕ) → Within u → numberOf (step c u .answer .reply) ≡ 0
     → All (λ s. Within (s .begins)) (settlings c u)
-unfolding dateOf plan planBy replying writing Calls.read readPlaced Calls.write send writePlaced Calls.receive Calls.takeTx
-begins-within (Call.at now (Dated.read offset)) u w d = cons (moved u w now (early _ u d now refl)) nil
-begins-within (Call.at now (Dated.write x)) u w d =
-    let one = cons (moved u w now (early _ u d now refl)) nil in
-    write-ind (λ p. All (λ s. Within (s .begins)) (p .settlings)) now (registerOf (u .map .offsets) (x .offset)) (x .value) u (λ _. one)
-    (λ _. one)
-begins-within (Call.at now (Dated.receive date bs)) u w d = cons (moved u w now (early _ u d now refl)) nil
-begins-within (Call.at now (Dated.takeTx lent)) u w d = cons (moved u w now (early _ u d now refl)) nil
-begins-within (Call.at now (Dated.machine m)) u w d = machine-begins now m u w d
-begins-within (Call.undated a) u w d = subst (All (λ s. Within (s .begins))) (sym (undated-settles a u)) nil
+unfolding dateOf
+begins-within (Call.at now c) u w done =
+    begins-all Within now (λ v. through v _ (settle-parts now v)) _ _
+    (through u _ (moved-parts now u (early (Call.at now c) u done now refl)) w) (changes-within now c u done)
+begins-within (Call.undated c) u w done = nil
 
 -- ---- what the manual says of a settling
 
-module _ (s : Settling ℕ ℕ) where
+module _ (s : Settling) where
   abbrev words : Words
   words = s .begins .control .words
 
@@ -157,10 +137,6 @@ module _ (s : Settling ℕ ℕ) where
         shown = r .shown;
         rest = r .rest;
       }
-
-all-map : {P Q : Settling ℕ ℕ → Type 0} (ss : List (Settling ℕ ℕ)) → ((s : Settling ℕ ℕ) → P s → Q s) → All P ss → All Q ss
-all-map [] f nil = nil
-all-map (s ∷ ss) f (cons p a) = cons (f s p) (all-map ss f a)
 
 -- of every call that is carried out, whatever it is
 pub call-lands : (c : Request) (u : Uart ℕ ℕ) → Within u → numberOf (step c u .answer .reply) ≡ 0 → All Lands (settlings c u)

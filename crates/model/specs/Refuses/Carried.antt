@@ -18,7 +18,7 @@ use Rattle.model.specs.Registers.{storing, clearing, writeRegister, conc
 use Rattle.model.specs.Calls
 use Rattle.model.specs.Calls.{afterSettling, undated, carried, filled, quiet, readPlaced, send, writePlaced}
 use Rattle.model.specs.Call.{Machine, Dated, Undated, Call, dateOf, Request, writes, Answer}
-use Rattle.model.specs.Run.{numberOf, stepped, replying, machinePlan, planBy, writing, plan}
+use Rattle.model.specs.Run.{numberOf, stepped, replying, planBy, writing, plan}
 use Rattle.model.specs.Laws.Choose.{choose-ind}
 use Rattle.model.specs.Laws.AccessCases.{write-ind, writeRegister-ind}
 use Rattle.model.specs.declared.Source.{Source}
@@ -107,8 +107,8 @@ module _ {H W : Type 0} where
 
 -- ---- calls
 
-machine-proper : (now : ℕ) (m : Machine) (u v : Uart ℕ ℕ) → Proper doneNumber (machinePlan now m u .work v)
-unfolding machinePlan doneNumber quiet Calls.wake Calls.reset Calls.powerDown Calls.watch Calls.clockChange
+machine-proper : (now : ℕ) (m : Machine) (u v : Uart ℕ ℕ) → Proper doneNumber (Calls.machine now m u .work v)
+unfolding Calls.machine doneNumber quiet
 machine-proper now Machine.wake u v = record { zero = refl; few = omega arith }
 machine-proper now Machine.reset u v = record { zero = refl; few = omega arith }
 machine-proper now Machine.powerDown u v = record { zero = refl; few = omega arith }

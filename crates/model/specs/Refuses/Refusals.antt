@@ -17,7 +17,7 @@ use Rattle.model.specs.Calls
 use Rattle.model.specs.Calls.{refusalBy, refusing, unless, carried, outcome, lastDate, hostDate, notTaken, readPlaced, writePlaced}
 use Rattle.model.specs.Calls.{send, writeAt}
 use Rattle.model.specs.Call.{Machine, Dated, Undated, Call, dateOf, Written, Request}
-use Rattle.model.specs.Run.{numberOf, stepped, replying, machinePlan, planBy, writing, plan, step}
+use Rattle.model.specs.Run.{numberOf, stepped, replying, planBy, writing, plan, step}
 use Rattle.model.specs.Limits.{All, nil, cons}
 use Rattle.model.specs.Ends.Passes.{apart}
 use Rattle.model.specs.Laws.AccessCases.{write-ind}
@@ -198,8 +198,8 @@ module _ (now : ℕ) (x : Written) (u : Uart ℕ ℕ) where
 
 -- the tests of each call
 machine-verdict : (now : ℕ) (m : Machine) (u : Uart ℕ ℕ)
-    → Verdict (λ q. Condition u q (Call.at now (Dated.machine m))) order (refuseDate now (u .control) (machinePlan now m u .test))
-unfolding machinePlan dateOf Calls.wake Calls.reset Calls.powerDown Calls.watch Calls.clockChange
+    → Verdict (λ q. Condition u q (Call.at now (Dated.machine m))) order (refuseDate now (u .control) (Calls.machine now m u .test))
+unfolding Calls.machine dateOf
 machine-verdict now Machine.wake u = dates _ u now none refl (no-other (elim [ ]) (elim [ ]) (elim [ ]) (elim [ ]) (elim [ ]))
 machine-verdict now Machine.reset u = dates _ u now none refl (no-other (elim [ ]) (elim [ ]) (elim [ ]) (elim [ ]) (elim [ ]))
 machine-verdict now Machine.powerDown u = dates _ u now none refl (no-other (elim [ ]) (elim [ ]) (elim [ ]) (elim [ ]) (elim [ ]))
@@ -236,8 +236,8 @@ step-result c u = ends c u _ (verdict c u)
 never : {P : Refusal → Type 0} {rs : List Refusal} {r : Refusal} → Verdict P rs none → First P rs r → ⊥
 never (clear n) f = first-none f n
 
-machine-refuses : (now : ℕ) (m : Machine) (u : Uart ℕ ℕ) (r : Refusal) → doneNumber (machinePlan now m u .refuses r) ≡ number r
-unfolding machinePlan doneNumber Calls.wake Calls.reset Calls.powerDown Calls.watch Calls.clockChange
+machine-refuses : (now : ℕ) (m : Machine) (u : Uart ℕ ℕ) (r : Refusal) → doneNumber (Calls.machine now m u .refuses r) ≡ number r
+unfolding Calls.machine doneNumber
 machine-refuses now Machine.wake u r = refl
 machine-refuses now Machine.reset u r = refl
 machine-refuses now Machine.powerDown u r = refl

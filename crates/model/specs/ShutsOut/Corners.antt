@@ -23,7 +23,7 @@ use Rattle.model.specs.Registers.{resetFifos, storing, writeRegister, co
 use Rattle.model.specs.Calls
 use Rattle.model.specs.Calls.{afterSettling, quiet, dated, settleAt, handOver, cleared, clearedLine, writePlaced, carried}
 use Rattle.model.specs.Call.{Machine, Dated, Call, dateOf, Written}
-use Rattle.model.specs.Run.{Step, numberOf, stepped, replying, machinePlan, planBy, plan, step}
+use Rattle.model.specs.Run.{Step, numberOf, stepped, replying, planBy, plan, step}
 use Rattle.model.specs.Laws.Plans.{answering}
 use Rattle.model.specs.Laws.Choose.{choose-true}
 use Rattle.model.specs.Keeps.Kept.{settle-keeps}
@@ -49,7 +49,7 @@ module _ (now : ℕ) (u : Uart ℕ ℕ) (done : numberOf (step (Call.at now (Dat
   found = settle now (dated now (withControl (withPoweredDownAt Date.None (u .control)) u)) .state
 
   reset-is : step (Call.at now (Dated.machine Machine.reset)) u .state ≡ arm (levels (cleared found))
-  unfolding stepped carried afterSettling dateOf plan machinePlan planBy replying quiet Calls.reset
+  unfolding stepped carried afterSettling dated dateOf plan Calls.machine planBy replying quiet
   reset-is = ap (λ (s : Step ℕ ℕ ℕ). s .state) (done-carried (Call.at now (Dated.machine Machine.reset)) u done)
 
   found-map : found .map ≡ u .map

@@ -20,7 +20,7 @@ use Rattle.model.specs.Calls
 use Rattle.model.specs.Calls.{Outcome, Plan, refusing, undated, carried, outcome, quiet, filled, settleAt, dated, clocked, hostDate}
 use Rattle.model.specs.Calls.{cleared, handOver, afterSettling, writePlaced, send}
 use Rattle.model.specs.Call.{Machine, Dated, Undated, Call, dateOf, Written, Request, Reply}
-use Rattle.model.specs.Run.{stepped, replying, machinePlan, planBy, writing, plan, step}
+use Rattle.model.specs.Run.{stepped, replying, planBy, writing, plan, step}
 use Rattle.model.specs.Laws.Choose.{choose-ind}
 use Rattle.model.specs.Laws.AccessCases.{write-ind, unless-ind, writeRegister-ind, readRegister-ind}
 use Rattle.model.specs.declared.Date.{Date}
@@ -122,21 +122,21 @@ module _ (now : ℕ) (R : Uart ℕ ℕ → Uart ℕ ℕ → Type 0) (k : Walk (s
   walk-armed u v e =
       k .on u v _ (k .alike u v e) (k .on v (settleAt now v .state) _ (walk-settled v) (k .alike (settleAt now v .state) _ refl))
 
-  walk-wake : (u : Uart ℕ ℕ) → R u (carried (some now) (Calls.wake now u) u .state)
-  unfolding carried Calls.wake afterSettling quiet
+  walk-wake : (u : Uart ℕ ℕ) → R u (carried (some now) (Calls.machine now Machine.wake u) u .state)
+  unfolding carried Calls.machine afterSettling quiet dated
   walk-wake u = walk-armed u (withControl (withWake (called now (u .control .wake)) (u .control)) u) refl
 
   -- a clock change settles twice
-  walk-clock : (period : ℕ) (u : Uart ℕ ℕ) → R u (carried (some now) (Calls.clockChange now period u) u .state)
-  unfolding carried Calls.clockChange afterSettling clocked arm quiet
+  walk-clock : (period : ℕ) (u : Uart ℕ ℕ) → R u (carried (some now) (Calls.machine now (Machine.clockChange period) u) u .state)
+  unfolding carried Calls.machine afterSettling clocked arm quiet
   walk-clock period u =
       let v : Uart ℕ ℕ = settleAt now u .state in
       let w : Uart ℕ ℕ = clocked period v in
       k .on u v _ (walk-settled u) (k .on v w _ (k .alike v w refl)
       (k .on w (settle now w .state) _ (walk-settle w) (k .alike (settle now w .state) _ refl)))
 
-  walk-reset : (u : Uart ℕ ℕ) → ((s : Uart ℕ ℕ) → R s (cleared s)) → R u (carried (some now) (Calls.reset now u) u .state)
-  unfolding carried Calls.reset afterSettling quiet arm
+  walk-reset : (u : Uart ℕ ℕ) → ((s : Uart ℕ ℕ) → R s (cleared s)) → R u (carried (some now) (Calls.machine now Machine.reset u) u .state)
+  unfolding carried Calls.machine afterSettling quiet arm dated
   walk-reset u clr =
       let v : Uart ℕ ℕ = withControl (withPoweredDownAt Date.None (u .control)) u in
       let w : Uart ℕ ℕ = settleAt now v .state in
@@ -146,8 +146,8 @@ module _ (now : ℕ) (R : Uart ℕ ℕ → Uart ℕ ℕ → Type 0) (k : Walk (s
 
 -- what each call does where it is not refused
 machine-walk : (now : ℕ) (m : Machine) (u : Uart ℕ ℕ) (R : Uart ℕ ℕ → Uart ℕ ℕ → Type 0) → Walk (some now) R
-    → (m ≡ Machine.reset → (s : Uart ℕ ℕ) → R s (cleared s)) → R u (carried (some now) (machinePlan now m u) u .state)
-unfolding machinePlan carried afterSettling quiet arm dated Calls.powerDown Calls.watch
+    → (m ≡ Machine.reset → (s : Uart ℕ ℕ) → R s (cleared s)) → R u (carried (some now) (Calls.machine now m u) u .state)
+unfolding Calls.machine carried afterSettling quiet arm dated
 machine-walk now Machine.wake u R k rst = walk-wake now R k u
 machine-walk now Machine.reset u R k rst = walk-reset now R k u (rst refl)
 machine-walk now Machine.powerDown u R k rst = k .alike u _ refl

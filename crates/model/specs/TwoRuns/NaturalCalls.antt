@@ -17,13 +17,14 @@ use Rattle.model.specs.Map.{Word, Shown, Register}
 use Rattle.model.specs.Registers.{Access, gives, pop, shownIn, readRegister, readLooking, readAt, goneAt, sent, dropped, sendByte}
 use Rattle.model.specs.Registers.{resetFifos, storing, clearing, writeRegister, concluded}
 use Rattle.model.specs.Calls
-use Rattle.model.specs.Calls.{Outcome, Settling, Plan, dated, settles, settledBy, refusalBy, refusing, unless, afterSettling, undated}
+use Rattle.model.specs.Calls.{Outcome, Plan, dated, settledBy, refusalBy, refusing, unless, afterSettling, undated}
 use Rattle.model.specs.Calls.{carried, outcome, filled, notTaken, quiet, readPlaced, writePlaced, send, joined, handOver, clocked}
 use Rattle.model.specs.Calls.{cleared, written}
 use Rattle.model.specs.Call.{Machine, Dated, Undated, Call, dateOf, Reply}
-use Rattle.model.specs.Run.{Step, stepped, replying, machinePlan, planBy}
+use Rattle.model.specs.Run.{Step, stepped, replying, planBy}
 use Rattle.model.specs.TwoRuns.Natural.{mapEvent, mapSettled, found-nat, passes-in-nat, overflows-in-nat, bytes-nat}
 use Rattle.model.specs.TwoRuns.Natural.{lastGone-nat, pending-nat, levels-nat, settle-nat, arm-nat}
+use Rattle.model.specs.TwoRuns.Alike.{Each}
 use Rattle.model.specs.TwoRuns.Placed.{Put, Placed, changedDated, changedUndated, changed, putting, stepPlaced, stepBy, runPlaced}
 use Rattle.model.specs.TwoRuns.Renamed.{mapReadOf, mapTake, mapReply, mapAnswer, itself}
 use Rattle.model.specs.declared.Refusal.{Refusal}
@@ -56,14 +57,11 @@ module _ {R R′ H H′ W W′ : Type 0} (m : R → R′) (f : H → H′) (g : 
         (o .events);
   }
 
-  unfoldable mapSettling : Settling H W → Settling H′ W′
-  mapSettling s = record { now = s .now; begins = mapUart f g (s .begins) }
-
   -- the second plan is the first with other bytes
   record Natural (p : Plan R H W) (p′ : Plan R′ H′ W′) : Type 0 where
     test : p′ .test ≡ p .test
     refuses : (r : Refusal) → p′ .refuses r ≡ m (p .refuses r)
-    settlings : p′ .settlings ≡ map mapSettling (p .settlings)
+    changes : Each (λ k k′. (v : Uart H W) → k′ (mapUart f g v) ≡ mapUart f g (k v)) (p .changes) (p′ .changes)
     work : (v : Uart H W) → p′ .work (mapUart f g v) ≡ mapAccess (p .work v)
 
   unless-nat : (o : Option Refusal) (reply : Refusal → R) (reply′ : Refusal → R′) (work : Uart H W → Outcome R H W)
@@ -87,21 +85,24 @@ module _ {R R′ H H′ W W′ : Type 0} (m : R → R′) (f : H → H′) (g : 
       }) (p (t .state))
       ∙ rw (passes-in-nat f g (t .events), overflows-in-nat f g (t .events))
 
-  settledBy-nat : (ss : List (Settling H W)) (t : Settled H W)
-      → settledBy (map mapSettling ss) (mapSettled f g t) ≡ mapSettled f g (settledBy ss t)
-  unfolding mapSettled mapSettling
-  settledBy-nat [] t = refl
-  settledBy-nat (s ∷ ss) t =
-      ap (λ x. settledBy (map mapSettling ss) (found (mapSettled f g t .events) x)) (settle-nat f g (s .now) (s .begins))
-      ∙ ap (settledBy (map mapSettling ss)) (found-nat f g (t .events) (settles s)) ∙ settledBy-nat ss (found (t .events) (settles s))
+  settledBy-nat : {ks : List (Uart H W → Uart H W)} {ks′ : List (Uart H′ W′ → Uart H′ W′)} (now : ℕ)
+      → Each (λ k k′. (v : Uart H W) → k′ (mapUart f g v) ≡ mapUart f g (k v)) ks ks′ → (t : Settled H W)
+      → settledBy now ks′ (mapSettled f g t) ≡ mapSettled f g (settledBy now ks t)
+  unfolding mapSettled
+  settledBy-nat now Each.nil t = refl
+  settledBy-nat now (Each.cons {a = k} {m = ks′} e es) t =
+      let es₀ = mapSettled f g t .events in
+      ap (λ v. settledBy now ks′ (found es₀ (settle now v))) (e (t .state))
+      ∙ ap (λ x. settledBy now ks′ (found es₀ x)) (settle-nat f g now (k (t .state)))
+      ∙ ap (settledBy now ks′) (found-nat f g (t .events) (settle now (k (t .state))))
+      ∙ settledBy-nat now es (found (t .events) (settle now (k (t .state))))
 
   module _ {p : Plan R H W} {p′ : Plan R′ H′ W′} (n : Natural p p′) (u : Uart H W) where
     carried-nat : (d : Option ℕ) → carried d p′ (mapUart f g u) ≡ mapOutcome (carried d p u)
     unfolding carried undated mapAccess mapOutcome dated mapSettled
     carried-nat none = ap undated (n .work u)
     carried-nat (some now) =
-        ap (λ ss. afterSettling (settledBy ss (ended (dated now (mapUart f g u)))) (p′ .work)) (n .settlings)
-        ∙ ap (λ t. afterSettling t (p′ .work)) (settledBy-nat (p .settlings) (ended (dated now u)))
+        ap (λ t. afterSettling t (p′ .work)) (settledBy-nat now (n .changes) (ended (dated now u)))
         ∙ after-nat _ (p .work) (p′ .work) (n .work)
 
     outcome-nat : (d : Option ℕ) → outcome d p′ (mapUart f g u) ≡ mapOutcome (outcome d p u)
@@ -154,8 +155,8 @@ module _ {H H′ W W′ : Type 0} (f : H → H′) (g : W → W′) where
 
   readPlaced-nat : (now : ℕ) (p : Register) (u : Uart H W)
       → Natural (mapReadOf f) f g (readPlaced now p u) (readPlaced now p (mapUart f g u))
-  unfolding readPlaced readAt dated mapReadOf mapSettling
-  readPlaced-nat now p u = record { test = refl; refuses = λ r. refl; settlings = refl; work = λ v. readLooking-nat _ p v }
+  unfolding readPlaced readAt dated mapReadOf
+  readPlaced-nat now p u = record { test = refl; refuses = λ r. refl; changes = Each.cons (λ v. refl) Each.nil; work = λ v. readLooking-nat _ p v }
 
   storing-nat : (x : Word) (v : ℕ) (u : Uart H W) → storing x v (mapUart f g u) ≡ mapAccess itself f g (storing x v u)
   unfolding storing mapAccess
@@ -194,17 +195,17 @@ module _ {H H′ W W′ : Type 0} (f : H → H′) (g : W → W′) where
   sendByte-nat now b u = rw (length-map (u .inFlight) (mapSent g)) (choose-nat (mapAccess itself f g) _ (dropped-nat u) (sent-nat now b u))
 
   putting-nat : (now : ℕ) (x : Put W) (u : Uart H W) → Natural itself f g (putting now x u) (putting now (mapPut g x) (mapUart f g u))
-  unfolding putting mapPut send writePlaced dated mapSettling
+  unfolding putting mapPut send writePlaced dated
   putting-nat now (Put.byte b) u = record {
     test = rw (length-map (u .tx) g, length-map (u .inFlight) (mapSent g));
     refuses = λ r. refl;
-    settlings = refl;
+    changes = Each.cons (λ v. refl) Each.nil;
     work = λ v. ap concluded (sendByte-nat now b v) ∙ concluded-nat itself f g _;
   }
   putting-nat now (Put.word p x) u = record {
     test = refl;
     refuses = λ r. refl;
-    settlings = refl;
+    changes = Each.cons (λ v. refl) Each.nil;
     work = λ v. ap concluded (writeRegister-nat p x v) ∙ concluded-nat itself f g _;
   }
 
@@ -219,11 +220,11 @@ module _ {H H′ W W′ : Type 0} (f : H → H′) (g : W → W′) where
 
   receive-nat : (now at : ℕ) (bs : List H) (u : Uart H W)
       → Natural itself f g (Calls.receive now at bs u) (Calls.receive now at (map f bs) (mapUart f g u))
-  unfolding Calls.receive dated mapSettling
+  unfolding Calls.receive dated
   receive-nat now at bs u = record {
     test = rw (length-map (u .host) f, length-map bs f);
     refuses = λ r. refl;
-    settlings = refl;
+    changes = Each.cons (λ v. refl) Each.nil;
     work = λ v. quiet-nat itself f g Done.Done _ refl (handOver-nat _ bs v);
   }
 
@@ -232,7 +233,7 @@ module _ {H H′ W W′ : Type 0} (f : H → H′) (g : W → W′) where
   hostPending-nat u = record {
     test = refl;
     refuses = λ r. pending-nat f g u;
-    settlings = refl;
+    changes = Each.nil;
     work = λ v. quiet-nat itself f g _ v (pending-nat f g v) refl;
   }
 
@@ -241,42 +242,40 @@ module _ {H H′ W W′ : Type 0} (f : H → H′) (g : W → W′) where
   armed-nat : (v : Uart H W) → quiet Done.Done (arm (mapUart f g v)) ≡ mapAccess itself f g (quiet Done.Done (arm v))
   armed-nat v = quiet-nat itself f g Done.Done (arm v) refl (arm-nat f g v)
 
-  wake-nat : (now : ℕ) (u : Uart H W) → Natural itself f g (Calls.wake now u) (Calls.wake now (mapUart f g u))
-  unfolding Calls.wake dated mapSettling
-  wake-nat now u = record { test = refl; refuses = λ r. refl; settlings = refl; work = armed-nat }
+  wake-nat : (now : ℕ) (u : Uart H W) → Natural itself f g (Calls.machine now Machine.wake u) (Calls.machine now Machine.wake (mapUart f g u))
+  unfolding Calls.machine dated
+  wake-nat now u = record { test = refl; refuses = λ r. refl; changes = Each.cons (λ v. refl) Each.nil; work = armed-nat }
 
-  watch-nat : (now : ℕ) (b : Bool) (u : Uart H W) → Natural itself f g (Calls.watch now b u) (Calls.watch now b (mapUart f g u))
-  unfolding Calls.watch
-  watch-nat now b u = record { test = refl; refuses = λ r. refl; settlings = refl; work = λ v. armed-nat _ }
+  watch-nat : (now : ℕ) (b : Bool) (u : Uart H W) → Natural itself f g (Calls.machine now (Machine.watch b) u) (Calls.machine now (Machine.watch b) (mapUart f g u))
+  unfolding Calls.machine
+  watch-nat now b u = record { test = refl; refuses = λ r. refl; changes = Each.nil; work = λ v. armed-nat _ }
 
-  powerDown-nat : (now : ℕ) (u : Uart H W) → Natural itself f g (Calls.powerDown now u) (Calls.powerDown now (mapUart f g u))
-  unfolding Calls.powerDown
+  powerDown-nat : (now : ℕ) (u : Uart H W) → Natural itself f g (Calls.machine now Machine.powerDown u) (Calls.machine now Machine.powerDown (mapUart f g u))
+  unfolding Calls.machine
   powerDown-nat now u =
-      record { test = refl; refuses = λ r. refl; settlings = refl; work = λ v. quiet-nat itself f g Done.Done _ refl refl }
+      record { test = refl; refuses = λ r. refl; changes = Each.nil; work = λ v. quiet-nat itself f g Done.Done _ refl refl }
 
   clockChange-nat : (now period : ℕ) (u : Uart H W)
-      → Natural itself f g (Calls.clockChange now period u) (Calls.clockChange now period (mapUart f g u))
-  unfolding Calls.clockChange dated clocked mapSettling mapSettled
+      → Natural itself f g (Calls.machine now (Machine.clockChange period) u) (Calls.machine now (Machine.clockChange period) (mapUart f g u))
+  unfolding Calls.machine dated clocked mapSettled
   clockChange-nat now period u = record {
     test = refl;
     refuses = λ r. refl;
-    settlings =
-        ap (λ t. record { now = now; begins = dated now (mapUart f g u) } ∷ record { now = now; begins = clocked period (t .state) } ∷ [])
-        (settle-nat f g now (dated now u));
+    changes = Each.cons (λ v. refl) (Each.cons (λ v. refl) Each.nil);
     work = armed-nat;
   }
 
-  reset-nat : (now : ℕ) (u : Uart H W) → Natural itself f g (Calls.reset now u) (Calls.reset now (mapUart f g u))
-  unfolding Calls.reset dated cleared mapSettling
+  reset-nat : (now : ℕ) (u : Uart H W) → Natural itself f g (Calls.machine now Machine.reset u) (Calls.machine now Machine.reset (mapUart f g u))
+  unfolding Calls.machine dated cleared
   reset-nat now u = record {
     test = refl;
     refuses = λ r. refl;
-    settlings = refl;
+    changes = Each.cons (λ v. refl) Each.nil;
     work = λ v. ap (λ w. quiet Done.Done (arm w)) (levels-nat f g (cleared v)) ∙ armed-nat (levels (cleared v));
   }
 
-  machine-nat : (now : ℕ) (m : Machine) (u : Uart H W) → Natural itself f g (machinePlan now m u) (machinePlan now m (mapUart f g u))
-  unfolding machinePlan
+  machine-nat : (now : ℕ) (m : Machine) (u : Uart H W) → Natural itself f g (Calls.machine now m u) (Calls.machine now m (mapUart f g u))
+  unfolding Calls.machine
   machine-nat now Machine.wake u = wake-nat now u
   machine-nat now Machine.reset u = reset-nat now u
   machine-nat now Machine.powerDown u = powerDown-nat now u
@@ -290,7 +289,7 @@ module _ {H H′ W W′ : Type 0} (f : H → H′) (g : W → W′) where
   hasLeft-nat u = record {
     test = refl;
     refuses = λ r. ap (ltb 0) (length-map (u .tx) g);
-    settlings = refl;
+    changes = Each.nil;
     work = λ v. quiet-nat itself f g _ v (ap (ltb 0) (length-map (v .tx) g)) refl;
   }
 
@@ -309,11 +308,11 @@ module _ {H H′ W W′ : Type 0} (f : H → H′) (g : W → W′) where
 
     takeTx-nat : (now : ℕ) (lent : List L) (u : Uart H W)
         → Natural (mapTake g h) f g (Calls.takeTx now lent u) (Calls.takeTx now (map h lent) (mapUart f g u))
-    unfolding Calls.takeTx dated mapSettling
+    unfolding Calls.takeTx dated
     takeTx-nat now lent u = record {
       test = rw (length-map lent h);
       refuses = notTaken-nat lent;
-      settlings = refl;
+      changes = Each.cons (λ v. refl) Each.nil;
       work = λ v. quiet-nat (mapTake g h) f g _ _ (filled-nat (v .tx) lent) refl;
     }
 
@@ -323,7 +322,7 @@ module _ {H H′ W W′ : Type 0} (f : H → H′) (g : W → W′) where
     takeWritten-nat lent u = record {
       test = rw (length-map lent h);
       refuses = notTaken-nat lent;
-      settlings = refl;
+      changes = Each.nil;
       work = λ v. quiet-nat (mapTake g h) f g _ _ (ap (λ o. filled o (map h lent)) (written-nat v) ∙ filled-nat (written v) lent) refl;
     }
 
@@ -331,11 +330,11 @@ module _ {H H′ W W′ : Type 0} (f : H → H′) (g : W → W′) where
 
     replying-nat : {R R′ : Type 0} (m : R → R′) (k : R → Reply H W L) (k′ : R′ → Reply H′ W′ L′) {p : Plan R H W} {p′ : Plan R′ H′ W′}
         → ((r : R) → k′ (m r) ≡ mapReply f g h (k r)) → Natural m f g p p′ → Natural (mapReply f g h) f g (replying k p) (replying k′ p′)
-    unfolding replying mapAccess mapSettling
+    unfolding replying mapAccess
     replying-nat m k k′ {p} q n = record {
       test = n .test;
       refuses = λ r. ap k′ (n .refuses r) ∙ q (p .refuses r);
-      settlings = n .settlings;
+      changes = n .changes;
       work = λ v. ap (λ a. gives (a .notes) (a .state) (k′ (a .reply))) (n .work v)
           ∙ ap (gives (p .work v .notes) (mapUart f g (p .work v .state))) (q (p .work v .reply));
     }
