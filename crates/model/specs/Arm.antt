@@ -14,8 +14,6 @@ use Rattle.model.specs.Line.{afterDate, timeoutAt}
 use Rattle.model.specs.Settle.{emptyThreshold, settingsOf}
 use Rattle.model.specs.declared.Date.{Date}
 use Rattle.model.specs.declared.Date.the-variants.{None, At}
-use Rattle.model.specs.declared.Control.{Control}
-use Rattle.model.specs.declared.Settings.{Settings}
 
 -- a Deadline that is armed for a cycle keeps the earlier one
 abbrev pub armed : Date → Date → Date

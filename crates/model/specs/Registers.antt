@@ -1,13 +1,13 @@
 -- Register access, after settling. Assumes nothing.
-use Prim.Native.Nat.{ℕ, _+_, _-_, _*_, _^_}
+use Prim.Native.Nat.{ℕ, _*_, _^_}
 use mathlib.Core.Bool.{Bool, true, false, not, _&&_, _||_}
 use mathlib.Core.List.{List, [], _∷_, _++_}
-use lib.Dec.{leb, ltb, eqb}
+use lib.Dec.{ltb, eqb}
 use lib.ListN.{length, take}
 use lib.Bits.{bitOr}
 use Rattle.dates.specs.Dates.{after, subcycles, later}
 use Rattle.model.specs.Numbers.{choose, field, bit, without}
-use Rattle.model.specs.State.{Sent, Uart, lineOf}
+use Rattle.model.specs.State.{Uart, lineOf}
 use Rattle.model.specs.Setters.{withIntRaw, withMistimed, withWords, withControl, withInFlight, withRx, withLineOf}
 use Rattle.model.specs.Timing.{byteTime, unmodelledSource}
 use Rattle.model.specs.Line.{fifoBytes}
@@ -17,7 +17,6 @@ use Rattle.model.specs.Replies.{ReadOf, word, byte, noValue}
 use Rattle.model.specs.Map.{Word, Shown, Register, fifo, intClr, unknown, shown, stored, sameWord, sameRegister, valueOf, replaced}
 use Rattle.model.specs.declared.Date.{Date}
 use Rattle.model.specs.declared.Source.{Source}
-use Rattle.model.specs.declared.Feature.{Feature}
 use Rattle.model.specs.declared.Feature.the-variants.{Loopback, InvertedRx, Autobaud, NoStopBit, FifoSize, Rs485, TxFlowControl}
 use Rattle.model.specs.declared.Feature.the-variants.{RxFlowControl, InvertedTx, Irda, TxBreak}
 use Rattle.model.specs.declared.Unsupported.{Unsupported}

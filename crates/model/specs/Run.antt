@@ -1,6 +1,5 @@
 -- One call, and a whole list of calls, each with the state as the one before left it. Assumes nothing.
-use Prim.Native.Nat.{ℕ, _%_}
-use mathlib.Core.Bool.{Bool}
+use Prim.Native.Nat.{ℕ}
 use mathlib.Core.List.{List, [], _∷_, _++_}
 use Rattle.model.specs.State.{Uart}
 use Rattle.model.specs.Events.{Event}

@@ -1,6 +1,5 @@
 -- Line timing: how long a frame, a bit and the receive timeout last, in subcycles. Assumes nothing.
 use Prim.Native.Nat.{ℕ, zero, suc, _+_, _*_}
-use mathlib.Core.Bool.{Bool}
 use lib.Dec.{eqb}
 use Rattle.model.specs.Numbers.{choose, field, bit}
 use Rattle.model.specs.declared.Source.{Source}

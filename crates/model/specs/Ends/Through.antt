@@ -9,7 +9,7 @@ use lib.ListN.{length}
 use Rattle.model.specs.State.{Uart, lineOf}
 use Rattle.model.specs.Events.{Event, departure, timeout, landing, nothing, total, goesOn, onePass, passesIn}
 use Rattle.model.specs.Line.{afterDate, timeoutAt}
-use Rattle.model.specs.Settle.{Pass, Settled, pass, found, ended, passesFrom, pending, passes}
+use Rattle.model.specs.Settle.{Pass, pass, found, ended, passesFrom, pending, passes}
 use Rattle.model.specs.Limits.{All, nil, cons}
 use Rattle.model.specs.Ends.Passes.{apart, LineQuiet, Kept, TakesTimeout, TakesByte, Takes, PassLaw, pass-law, kept-trans}
 use Rattle.model.specs.Ends.Fates.{landings, pass-pending, pending-underway}

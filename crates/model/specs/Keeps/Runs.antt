@@ -5,18 +5,17 @@ use native.Mathlib.Omega.{arith}
 use native.Mathlib.Nat.{pow-suc}
 use mathlib.Core.Bool.{false, decide}
 use mathlib.Core.Option.{Option, some}
-use mathlib.Core.List.{List, [], _∷_, _++_}
+use mathlib.Core.List.{List, [], _∷_}
 use lib.ListN.{length, getD}
 use lib.Bits.{bitAnd, and-step, and-zero-r}
 use Rattle.model.specs.Numbers.{choose, without}
 use Rattle.model.specs.State.{Uart}
-use Rattle.model.specs.Replies.{ReadOf}
 use Rattle.model.specs.Map.{placeAmong}
 use Rattle.model.specs.Tests.{repeated}
 use Rattle.model.specs.Calls
 use Rattle.model.specs.Calls.{Plan, outcome}
 use Rattle.model.specs.SetUp.{fifoCounts, mapOf, newControl, new}
-use Rattle.model.specs.Call.{Machine, Dated, Undated, Call, dateOf, Request, Reply, Answer}
+use Rattle.model.specs.Call.{Machine, Dated, Undated, Call, dateOf, Request, Reply}
 use Rattle.model.specs.Run.{Step, stepped, replying, planBy, writing, plan, step}
 use Rattle.model.specs.Limits.{Chain, All, sum, Within}
 use Rattle.model.specs.Laws.Plans.{answering, replied}
@@ -24,7 +23,6 @@ use Rattle.model.specs.Keeps.Parts.{together}
 use Rattle.model.specs.Keeps.EachCall.{read-within, write-within, receive-within, wake-within, reset-within, powerDown-within}
 use Rattle.model.specs.Keeps.EachCall.{watch-within, clockChange-within, takeTx-within, takeWritten-within, hasLeft-within}
 use Rattle.model.specs.Keeps.EachCall.{hostPending-within}
-use Rattle.model.specs.declared.Write.{Write}
 
 -- ---- set-up
 

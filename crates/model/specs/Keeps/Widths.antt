@@ -16,13 +16,13 @@ use Rattle.model.specs.Line.{RXFIFO-OVF, RXFIFO-TOUT, TXFIFO-EMPTY, RXFI
 use Rattle.model.specs.Line.{start, land}
 use Rattle.model.specs.Settle.{txDone, leave, depart, timedOut, landed, begun, assertLevels, drive, levels, leveled}
 use Rattle.model.specs.Settle.{settingsOf}
-use Rattle.model.specs.Settle.{Settled, settleTo, settle}
+use Rattle.model.specs.Settle.{settleTo, settle}
 use Rattle.model.specs.Arm.{arm}
 use Rattle.model.specs.Map.{Word, Register, isFifo, registerOf, placeAmong, sameWord, valueOf, wordsBy, replaced}
 use Rattle.model.specs.Registers.{Access, pop, readRegister, readLooking, readAt, sendByte, sent, dropped, resetFifos, storing}
 use Rattle.model.specs.Registers.{clearing, writeRegister, concluded}
 use Rattle.model.specs.Calls
-use Rattle.model.specs.Calls.{settledBy, afterSettling, undated, carried, quiet, dated, clocked, cleared, clearedLine}
+use Rattle.model.specs.Calls.{afterSettling, undated, carried, quiet, dated, clocked, cleared, clearedLine}
 use Rattle.model.specs.Calls.{handOver, readPlaced, send, writePlaced}
 use Rattle.model.specs.Call.{Machine, Dated, Undated, Call, dateOf, Written, Request}
 use Rattle.model.specs.Run.{Step, stepped, replying, planBy, writing, plan, step}

@@ -13,7 +13,7 @@ use Rattle.model.specs.Laws.Choose.{choose-ind}
 use Rattle.model.specs.State.{Run, OnTheLine, Uart, lineOf}
 use Rattle.model.specs.Line.{timeoutAt, fate}
 use Rattle.model.specs.Settle.{Pass, nothingDue, timedOut, landed, inFrame, begun, beforeStart, idle, lineFree, passOn, pass}
-use Rattle.model.specs.Settle.{found, ended, passesFrom, passes}
+use Rattle.model.specs.Settle.{passesFrom, passes}
 use Rattle.model.specs.declared.Date.{Date}
 use Rattle.model.specs.declared.Settings.{Settings}
 

@@ -12,7 +12,7 @@ use Rattle.model.specs.Map.{Register, registerOf}
 use Rattle.model.specs.Registers.{sendByte, sent, dropped}
 use Rattle.model.specs.Tests.{dateEnd, pastEnd, wentBack, sentLimit, transmitFull, refuseIf, refuseDate}
 use Rattle.model.specs.Calls
-use Rattle.model.specs.Calls.{Outcome, Plan, refusalBy, unless, carried, outcome, settleAt, readPlaced, writePlaced, send, writeAt}
+use Rattle.model.specs.Calls.{Outcome, Plan, unless, carried, outcome, settleAt, readPlaced, writePlaced, send, writeAt}
 use Rattle.model.specs.Call.{Dated, Call, dateOf, Written, Reply, reads, writes}
 use Rattle.model.specs.Run.{stepped, replying, planBy, writing, plan, step}
 use Rattle.model.specs.Laws.Plans.{answering, replied}

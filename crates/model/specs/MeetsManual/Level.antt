@@ -8,7 +8,7 @@ use mathlib.Core.List.{List, [], _∷_}
 use lib.Dec.{eqb}
 use Rattle.model.specs.State.{Uart, lineOf}
 use Rattle.model.specs.Setters.{withTx}
-use Rattle.model.specs.Settle.{intStatus, assertLevels, drive, levels, leveled, settleTo, settle}
+use Rattle.model.specs.Settle.{intStatus, drive, levels, leveled, settleTo, settle}
 use Rattle.model.specs.Arm.{arm}
 use Rattle.model.specs.Map.{Register, registerOf}
 use Rattle.model.specs.Registers.{pop, readRegister, readLooking, readAt, concluded}
@@ -22,7 +22,6 @@ use Rattle.model.specs.Ends.Passes.{apart}
 use Rattle.model.specs.Refuses.Exactly.{done-carried}
 use Rattle.model.specs.Ends.Settlings.{Settling, settlingsBy, settlings}
 use Rattle.model.specs.declared.Unsupported.{Unsupported}
-use Rattle.model.specs.declared.Control.{Control}
 
 -- INT_ST is other than 0
 unfoldable pub asserted : {H W : Type 0} → Uart H W → Bool

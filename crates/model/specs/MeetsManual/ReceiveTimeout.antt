@@ -1,7 +1,7 @@
 -- The receive timeout comes the manual's bit times after the last landing heard, unless a byte starts before: all that a settling finds
 -- on the line is what the manual has a receiver show whose clock is on. Assumes nothing.
 use mathlib.Core.Path.{_≡_, refl, sym, ap, ap₂, subst, _∙_}
-use Prim.Native.Nat.{ℕ, _+_, _-_, _≤_, _<_}
+use Prim.Native.Nat.{ℕ, _≤_, _<_}
 use native.Mathlib.Omega.{arith}
 use mathlib.Core.Bool.{true, false, true≢false}
 use mathlib.Core.Option.{Option, none, some}

@@ -1,30 +1,25 @@
 -- The receiver meets the manual, seen through `step`: whatever call settles, host bytes land and the receive timeout comes when the manual
 -- says. From every state within the limits. Assumes nothing.
-use mathlib.Core.Path.{_≡_, refl, sym, ap, subst, _∙_}
+use mathlib.Core.Path.{_≡_, refl, sym, subst}
 use Prim.Native.Nat.{ℕ, _+_, _≤_, _<_}
 use native.Mathlib.Omega.{arith}
 use mathlib.Core.Bool.{Bool, true, false}
 use mathlib.Core.Option.{some}
-use mathlib.Core.List.{List, [], _∷_, _++_}
+use mathlib.Core.List.{_++_}
 use lib.Dec.{leb}
 use borrow.Author.Tests.{leb-true, leb-false}
 use Rattle.model.specs.Manual.{by}
 use Rattle.model.specs.Numbers.{bit}
 use Rattle.model.specs.State.{OnTheLine, Uart}
-use Rattle.model.specs.Setters.{withWake, withPoweredDownAt, withControl}
 use Rattle.model.specs.Timing.{byteTime, timeoutTime, settings}
 use Rattle.model.specs.Settle.{settingsOf, settlingDate, settle}
-use Rattle.model.specs.Arm.{called}
 use Rattle.model.specs.Tests.{dateEnd, periodLimit}
-use Rattle.model.specs.Map.{registerOf}
 use Rattle.model.specs.Calls
-use Rattle.model.specs.Calls.{dated, clocked, readPlaced, send, writePlaced}
-use Rattle.model.specs.Laws.AccessCases.{write-ind}
 use Rattle.model.specs.Call.{Machine, Dated, Call, dateOf, Written, Request}
-use Rattle.model.specs.Run.{numberOf, replying, planBy, writing, plan, step}
-use Rattle.model.specs.Limits.{All, nil, cons, Within}
+use Rattle.model.specs.Run.{numberOf, plan, step}
+use Rattle.model.specs.Limits.{All, nil, Within}
 use Rattle.model.specs.Laws.Lists.{all-head, all-drop}
-use Rattle.model.specs.Keeps.Parts.{Parts, putClock, through}
+use Rattle.model.specs.Keeps.Parts.{putClock, through}
 use Rattle.model.specs.Keeps.Wake.{called-within}
 use Rattle.model.specs.Keeps.Settling.{settle-parts}
 use Rattle.model.specs.Keeps.Dated.{moved-parts}
@@ -35,7 +30,6 @@ use Rattle.model.specs.Ends.Settlings.{Settling, settles, settlings, cal
 use Rattle.model.specs.MeetsManual.Timing.{Meant, FrameTime, TimeoutTime, byte-lasts, timeout-lasts}
 use Rattle.model.specs.MeetsManual.Reception.{comes, arrivalsIn, settling-receives}
 use Rattle.model.specs.MeetsManual.ReceiveTimeout.{showsIn, shownIn, settling-shows}
-use Rattle.model.specs.declared.Date.{Date}
 use Rattle.model.specs.declared.Words.{Words}
 use Rattle.model.specs.declared.Refusal.the-variants.{PeriodTooLong}
 

@@ -1,5 +1,5 @@
 -- Every call ends in one of two ways: refused with the first number whose condition holds, or carried out. Assumes nothing.
-use mathlib.Core.Path.{_≡_, refl, sym, ap, subst, _∙_}
+use mathlib.Core.Path.{_≡_, refl, sym, ap, _∙_}
 use Prim.Native.Nat.{ℕ, _+_, _^_, _≤_, _<_}
 use native.Mathlib.Omega.{arith}
 use mathlib.Core.Bool.{Bool, true, false, decide, _&&_}
@@ -11,7 +11,7 @@ use borrow.Author.Tests.{ltb-true, ltb-false, leb-true, leb-false, lt-ltb, le-le
 use Rattle.model.specs.State.{Run, Uart}
 use Rattle.model.specs.Replies.{number, readNumber, writeNumber, doneNumber, takenNumber}
 use Rattle.model.specs.Map.{Register, isFifo, registerOf}
-use Rattle.model.specs.Tests.{pastEnd, wentBack, transmitFull, hostFull, runsFull, periodTooLong, bufferTooShort, refuseIf}
+use Rattle.model.specs.Tests.{pastEnd, wentBack, transmitFull, hostFull, runsFull, bufferTooShort, refuseIf}
 use Rattle.model.specs.Tests.{refuseDate}
 use Rattle.model.specs.Calls
 use Rattle.model.specs.Calls.{refusalBy, refusing, unless, carried, outcome, lastDate, hostDate, notTaken, readPlaced, writePlaced}

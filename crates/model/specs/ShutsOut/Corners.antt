@@ -21,7 +21,7 @@ use Rattle.model.specs.Arm.{instants, armAll, arm}
 use Rattle.model.specs.Map.{Word, Register, registerOf}
 use Rattle.model.specs.Registers.{resetFifos, storing, writeRegister, concluded}
 use Rattle.model.specs.Calls
-use Rattle.model.specs.Calls.{afterSettling, quiet, dated, settleAt, handOver, cleared, clearedLine, writePlaced, carried}
+use Rattle.model.specs.Calls.{afterSettling, quiet, dated, handOver, cleared, clearedLine, writePlaced, carried}
 use Rattle.model.specs.Call.{Machine, Dated, Call, dateOf, Written}
 use Rattle.model.specs.Run.{Step, numberOf, stepped, replying, planBy, plan, step}
 use Rattle.model.specs.Laws.Plans.{answering}

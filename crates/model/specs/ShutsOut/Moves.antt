@@ -14,10 +14,10 @@ use Rattle.model.specs.Timing.{unmodelledSource}
 use Rattle.model.specs.Events.{passesIn, overflowsIn}
 use Rattle.model.specs.Settle.{gone, leave, depart, levels, settleTo, settle, settlingDate}
 use Rattle.model.specs.Arm.{arm}
-use Rattle.model.specs.Replies.{Take, report}
+use Rattle.model.specs.Replies.{report}
 use Rattle.model.specs.Map.{Register, registerOf}
 use Rattle.model.specs.Registers.{Access, sourceNotes, goneAt, sent, dropped, sendByte, concluded}
-use Rattle.model.specs.Tests.{dateEnd, sentLimit, hostLimit, hostFull, runsFull, bufferTooShort, refuseIf}
+use Rattle.model.specs.Tests.{dateEnd, sentLimit, hostLimit, hostFull, runsFull, refuseIf}
 use Rattle.model.specs.Calls
 use Rattle.model.specs.Calls.{afterSettling, quiet, settleAt, dated, filled, hostDate, lastDate, send, carried}
 use Rattle.model.specs.Call.{Dated, Call, dateOf, Written, writes, does, takes}

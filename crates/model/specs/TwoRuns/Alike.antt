@@ -1,12 +1,11 @@
 -- When two lists of calls are alike, and how their bytes are numbered: what a reader of demand 3 must believe. Assumes nothing.
 use mathlib.Core.Path.{_≡_}
 use Prim.Native.Nat.{ℕ, _%_}
-use mathlib.Core.List.{List, [], _∷_, map, flatMap}
+use mathlib.Core.List.{List, [], _∷_, flatMap}
 use lib.Dec.{eqb}
 use lib.ListN.{length, getD}
 use Rattle.model.specs.Numbers.{choose}
-use Rattle.model.specs.Replies.{ReadOf, word, byte, noValue, refused, Take}
-use Rattle.model.specs.Call.{Dated, Undated, Call, Request, Reply, reads, writes, does, takes, left, pends, Answer}
+use Rattle.model.specs.Call.{Dated, Undated, Call, Request}
 
 -- ---- alike
 

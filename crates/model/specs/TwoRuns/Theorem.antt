@@ -15,7 +15,7 @@ use Rattle.model.specs.TwoRuns.Renamed.{itself, forget, mapReadOf}
 use Rattle.model.specs.TwoRuns.Renamed.{mapTake, mapReply, mapAnswer, withBytesOf}
 use Rattle.model.specs.TwoRuns.Agree.{Agree, Agreeing}
 use Rattle.model.specs.TwoRuns.Numbered.{Bare, bareReply, withoutRest, byteRead, bytesRead, bytesSent, Below, EachBelow, Shape}
-use Rattle.model.specs.TwoRuns.Placed.{Placed, placed, stepPlaced, runPlaced}
+use Rattle.model.specs.TwoRuns.Placed.{Placed, placed, runPlaced}
 use Rattle.model.specs.TwoRuns.MapKept.{run-placed}
 use Rattle.model.specs.TwoRuns.NaturalCalls.{mapPlaced, runPlaced-nat}
 use Rattle.model.specs.TwoRuns.Numbering.{number, host-placed, written-placed, calls-back, calls-alike}
