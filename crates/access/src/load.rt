@@ -2,10 +2,10 @@
 use device::Core;
 use line::levels;
 use model::Line;
-use model::Place;
 use model::Read;
 use model::Source;
 use registers::places;
+use registers::places::Place;
 use registers::words;
 use replies::notices::Notices;
 ghost use mathlib.Core.Path.{_≡_};

@@ -2,11 +2,11 @@
 
 use calls::settle_at;
 use device::Core;
-use model::Place;
 use model::Read;
 use model::Refusal;
 use model::Report;
 use registers::places;
+use registers::places::Place;
 use replies::notices::Notices;
 use replies::refusals::Verdict;
 use replies::report;

@@ -1,8 +1,8 @@
 // What a write at a place other than FIFO does once the UART is settled.
 use device::Core;
-use model::Place;
 use model::Write;
 use queue::Cursor;
+use registers::places::Place;
 use registers::words;
 use replies::notices::Notices;
 ghost use mathlib.Core.Path.{_≡_};

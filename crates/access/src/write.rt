@@ -3,11 +3,11 @@
 use crate::store::PlaceWrite;
 use calls::settle_at;
 use device::Core;
-use model::Place;
 use model::Refusal;
 use model::Report;
 use model::Write;
 use registers::places;
+use registers::places::Place;
 use replies::notices::Notices;
 use replies::refusals::Verdict;
 use replies::report;

@@ -6,7 +6,7 @@ use lib.ListN.{getD}
 use Rattle.model.specs.Numbers.{choose, without}
 use Rattle.model.specs.Map.{registerOf}
 use Rattle.model.specs.SetUp.{fifoCounts}
-use Rattle.model.specs.Call.{Call, Written, Request}
+use Rattle.model.specs.Call.{Dated, Undated, Call, Written, Request}
 use Rattle.model.specs.TwoRuns.Unused.{takesWord}
 
 -- every byte is replaced by 0
@@ -28,18 +28,14 @@ blankResets ws =
 
 -- call, date, length, offset and every other value are kept
 unfoldable pub blanked : List ℕ → Request → Request
-blanked offsets (Call.read now r) = Call.read now r
-blanked offsets (Call.write now x) = Call.write now (blankWritten offsets x)
-blanked offsets (Call.receive now at bs) = Call.receive now at (map blankByte bs)
-blanked offsets (Call.wake now) = Call.wake now
-blanked offsets (Call.reset now) = Call.reset now
-blanked offsets (Call.powerDown now) = Call.powerDown now
-blanked offsets (Call.watch now b) = Call.watch now b
-blanked offsets (Call.clockChange now p) = Call.clockChange now p
-blanked offsets (Call.takeTx now lent) = Call.takeTx now (map blankByte lent)
-blanked offsets (Call.takeWritten lent) = Call.takeWritten (map blankByte lent)
-blanked offsets Call.hasLeft = Call.hasLeft
-blanked offsets Call.hostPending = Call.hostPending
+blanked offsets (Call.at now (Dated.read r)) = Call.at now (Dated.read r)
+blanked offsets (Call.at now (Dated.write x)) = Call.at now (Dated.write (blankWritten offsets x))
+blanked offsets (Call.at now (Dated.receive date bs)) = Call.at now (Dated.receive date (map blankByte bs))
+blanked offsets (Call.at now (Dated.takeTx lent)) = Call.at now (Dated.takeTx (map blankByte lent))
+blanked offsets (Call.at now (Dated.machine m)) = Call.at now (Dated.machine m)
+blanked offsets (Call.undated (Undated.takeWritten lent)) = Call.undated (Undated.takeWritten (map blankByte lent))
+blanked offsets (Call.undated Undated.hasLeft) = Call.undated Undated.hasLeft
+blanked offsets (Call.undated Undated.hostPending) = Call.undated Undated.hostPending
 
 -- the list that is sent out
 abbrev pub blankedList : List ℕ → List Request → List Request

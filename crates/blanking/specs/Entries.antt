@@ -11,7 +11,7 @@ use Rattle.trace.specs.Names.{letters}
 use Rattle.trace.specs.declared.names.Name.{Name}
 use Rattle.trace.specs.declared.names.Name.the-variants.{Setup, Read, Write, Receive, Wake, Watch, Reset, PowerDown, Clock, TakeTx}
 use Rattle.trace.specs.declared.names.Name.the-variants.{TakeWritten, HasLeft, HostPending}
-use Rattle.model.specs.Call.{Call, Request}
+use Rattle.model.specs.Call.{Machine, Dated, Undated, Call, Request}
 use Rattle.blanking.specs.Blanked.{blankResets, blanked}
 
 -- a set-up by its offsets and reset words, or a call on the UART that is set up
@@ -22,19 +22,19 @@ pub data Entry : Type 0 where
 -- what a line's name, numbers, last word and bytes say. A lent buffer is known by its length
 unfoldable pub entryOf : Name → List ℕ → ℕ → List ℕ → Entry
 entryOf Setup ns last bs = Entry.setUp (take 16 (map lowOf (drop 0 ns))) (take 16 (map lowOf (drop 16 ns)))
-entryOf Read ns last bs = Entry.call (Call.read (getD ns 0 0) (lowOf (getD ns 1 0)))
+entryOf Read ns last bs = Entry.call (Call.at (getD ns 0 0) (Dated.read (lowOf (getD ns 1 0))))
 entryOf Write ns last bs =
-    Entry.call (Call.write (getD ns 0 0) (record { offset = lowOf (getD ns 1 0); value = lowOf (getD ns 2 0) }))
-entryOf Receive ns last bs = Entry.call (Call.receive (getD ns 0 0) (getD ns 1 0) (take last bs))
-entryOf Wake ns last bs = Entry.call (Call.wake (getD ns 0 0))
-entryOf Watch ns last bs = Entry.call (Call.watch (getD ns 0 0) (ltb 0 last))
-entryOf Reset ns last bs = Entry.call (Call.reset (getD ns 0 0))
-entryOf PowerDown ns last bs = Entry.call (Call.powerDown (getD ns 0 0))
-entryOf Clock ns last bs = Entry.call (Call.clockChange (getD ns 0 0) (getD ns 1 0))
-entryOf TakeTx ns last bs = Entry.call (Call.takeTx (getD ns 0 0) (replicate last 0))
-entryOf TakeWritten ns last bs = Entry.call (Call.takeWritten (replicate last 0))
-entryOf HasLeft ns last bs = Entry.call Call.hasLeft
-entryOf HostPending ns last bs = Entry.call Call.hostPending
+    Entry.call (Call.at (getD ns 0 0) (Dated.write (record { offset = lowOf (getD ns 1 0); value = lowOf (getD ns 2 0) })))
+entryOf Receive ns last bs = Entry.call (Call.at (getD ns 0 0) (Dated.receive (getD ns 1 0) (take last bs)))
+entryOf Wake ns last bs = Entry.call (Call.at (getD ns 0 0) (Dated.machine Machine.wake))
+entryOf Watch ns last bs = Entry.call (Call.at (getD ns 0 0) (Dated.machine (Machine.watch (ltb 0 last))))
+entryOf Reset ns last bs = Entry.call (Call.at (getD ns 0 0) (Dated.machine Machine.reset))
+entryOf PowerDown ns last bs = Entry.call (Call.at (getD ns 0 0) (Dated.machine Machine.powerDown))
+entryOf Clock ns last bs = Entry.call (Call.at (getD ns 0 0) (Dated.machine (Machine.clockChange (getD ns 1 0))))
+entryOf TakeTx ns last bs = Entry.call (Call.at (getD ns 0 0) (Dated.takeTx (replicate last 0)))
+entryOf TakeWritten ns last bs = Entry.call (Call.undated (Undated.takeWritten (replicate last 0)))
+entryOf HasLeft ns last bs = Entry.call (Call.undated Undated.hasLeft)
+entryOf HostPending ns last bs = Entry.call (Call.undated Undated.hostPending)
 
 -- the same without a client's bytes, for the register map that is set up
 unfoldable pub blankedEntry : List ℕ → Entry → Entry
@@ -56,37 +56,43 @@ bitNumber true = 1
 bitNumber false = 0
 
 -- what follows the name
+unfoldable pub machineWords : ℕ → Machine → List ℕ
+machineWords now Machine.wake = number now
+machineWords now Machine.reset = number now
+machineWords now Machine.powerDown = number now
+machineWords now (Machine.watch b) = number now ++ number (bitNumber b)
+machineWords now (Machine.clockChange p) = number now ++ number p
+
 unfoldable pub callWords : Request → List ℕ
-callWords (Call.read now r) = number now ++ number r
-callWords (Call.write now x) = number now ++ number (x .offset) ++ number (x .value)
-callWords (Call.receive now at bs) = number now ++ number at ++ (32 ∷ hexText bs)
-callWords (Call.wake now) = number now
-callWords (Call.reset now) = number now
-callWords (Call.powerDown now) = number now
-callWords (Call.watch now b) = number now ++ number (bitNumber b)
-callWords (Call.clockChange now p) = number now ++ number p
-callWords (Call.takeTx now lent) = number now ++ number (length lent)
-callWords (Call.takeWritten lent) = number (length lent)
-callWords Call.hasLeft = []
-callWords Call.hostPending = []
+callWords (Call.at now (Dated.read r)) = number now ++ number r
+callWords (Call.at now (Dated.write x)) = number now ++ number (x .offset) ++ number (x .value)
+callWords (Call.at now (Dated.receive date bs)) = number now ++ number date ++ (32 ∷ hexText bs)
+callWords (Call.at now (Dated.takeTx lent)) = number now ++ number (length lent)
+callWords (Call.at now (Dated.machine m)) = machineWords now m
+callWords (Call.undated (Undated.takeWritten lent)) = number (length lent)
+callWords (Call.undated Undated.hasLeft) = []
+callWords (Call.undated Undated.hostPending) = []
 
 unfoldable pub entryWords : Entry → List ℕ
 entryWords (Entry.setUp os ws) = numbers os ++ numbers ws
 entryWords (Entry.call c) = callWords c
 
+unfoldable pub machineName : Machine → Name
+machineName Machine.wake = Wake
+machineName Machine.reset = Reset
+machineName Machine.powerDown = PowerDown
+machineName (Machine.watch b) = Watch
+machineName (Machine.clockChange p) = Clock
+
 unfoldable pub callName : Request → Name
-callName (Call.read now r) = Read
-callName (Call.write now x) = Write
-callName (Call.receive now at bs) = Receive
-callName (Call.wake now) = Wake
-callName (Call.reset now) = Reset
-callName (Call.powerDown now) = PowerDown
-callName (Call.watch now b) = Watch
-callName (Call.clockChange now p) = Clock
-callName (Call.takeTx now lent) = TakeTx
-callName (Call.takeWritten lent) = TakeWritten
-callName Call.hasLeft = HasLeft
-callName Call.hostPending = HostPending
+callName (Call.at now (Dated.read r)) = Read
+callName (Call.at now (Dated.write x)) = Write
+callName (Call.at now (Dated.receive date bs)) = Receive
+callName (Call.at now (Dated.takeTx lent)) = TakeTx
+callName (Call.at now (Dated.machine m)) = machineName m
+callName (Call.undated (Undated.takeWritten lent)) = TakeWritten
+callName (Call.undated Undated.hasLeft) = HasLeft
+callName (Call.undated Undated.hostPending) = HostPending
 
 unfoldable pub entryName : Entry → Name
 entryName (Entry.setUp os ws) = Setup

@@ -17,7 +17,7 @@ use Rattle.trace.specs.declared.names.Name.{Name}
 use Rattle.trace.specs.declared.names.Name.the-variants.{Setup, Read, Write, Receive, Wake, Watch, Reset, PowerDown, Clock, TakeTx}
 use Rattle.trace.specs.declared.names.Name.the-variants.{TakeWritten, HasLeft, HostPending}
 use Rattle.blanking.specs.Blanked.{blankByte, blankWord, blankWritten, blankResets, blanked}
-use Rattle.blanking.specs.Entries.{entryOf, blankedEntry, number, numbers, bitNumber, callWords, entryWords, callName}
+use Rattle.blanking.specs.Entries.{entryOf, blankedEntry, number, numbers, bitNumber, machineWords, callWords, entryWords, machineName, callName}
 use Rattle.blanking.specs.Entries.{entryName, entryText}
 use Rattle.blanking.specs.Puts.{Puts}
 
@@ -71,7 +71,7 @@ write-same offsets date o o′ v v′ e f =
 module _ (offsets ns : List ℕ) (last : ℕ) (bs : List ℕ) where
   -- blanking keeps the name
   pub name-kept : (n : Name) → entryName (blankedEntry offsets (entryOf n ns last bs)) ≡ n
-  unfolding entryName callName blankedEntry blanked entryOf
+  unfolding entryName callName machineName blankedEntry blanked entryOf
   name-kept Setup = refl
   name-kept Read = refl
   name-kept Write = refl
@@ -157,7 +157,7 @@ letters-few HostPending = omega arith
 
 module _ (offsets ns : List ℕ) (last : ℕ) (bs : List ℕ) (h : length bs ≤ 8192) where
   words-few : (n : Name) → length (entryWords (blankedEntry offsets (entryOf n ns last bs))) ≤ 16428
-  unfolding entryWords callWords blankedEntry blanked blankWritten entryOf
+  unfolding entryWords callWords machineWords blankedEntry blanked blankWritten entryOf
   words-few Setup = omega (arith, set-up-few (map lowOf (drop 0 ns)) (take 16 (map lowOf (drop 16 ns))))
   words-few Read = omega (arith, two-few (getD ns 0 0) (lowOf (getD ns 1 0)))
   words-few Write =

@@ -10,12 +10,12 @@ use lib.ListN.{length, getD}
 use Rattle.model.specs.Numbers.{choose}
 use Rattle.model.specs.Laws.Choose.{choose-false}
 use Rattle.model.specs.Map.{isFifo, registerOf, registerAmong, placeAmong, wordsBy}
-use Rattle.model.specs.Call.{Call, Written, Request}
+use Rattle.model.specs.Call.{Dated, Undated, Call, Written, Request}
 use Rattle.model.specs.SetUp.{wordsAmong, new}
 use Rattle.model.specs.Run.{run}
 use Rattle.model.specs.Refuses.FifoPlace.{first-is-fifo, fifo-is-first}
 use Rattle.model.specs.TwoRuns.Alike.{Each, Alike, fifoOffset}
-use Rattle.model.specs.TwoRuns.Agree.{withoutRest, Agreeing}
+use Rattle.model.specs.TwoRuns.Agree.{Agreeing}
 use Rattle.model.specs.TwoRuns.Unused.{takesWord, SameInUse}
 use Rattle.model.specs.TwoRuns.InUse.{AlikeInUse, runs-agree-in-use}
 use Rattle.blanking.specs.Blanked.{blankByte, blankWord, blankWritten, blankResets, blanked, blankedList}
@@ -27,42 +27,38 @@ length-blank (b ∷ bs) = ap suc (length-blank bs)
 -- ---- a blanked list is alike in use to the list it was made from
 
 first-fifo : (offsets : List ℕ) (offset v v′ : ℕ) → isFifo (registerOf offsets offset) ≡ true
-    → (now : ℕ) → AlikeInUse offsets (Call.write now (record { offset = offset; value = v }))
-    (Call.write now (record { offset = offset; value = v′ }))
+    → (now : ℕ) → AlikeInUse offsets (Call.at now (Dated.write (record { offset = offset; value = v })))
+    (Call.at now (Dated.write (record { offset = offset; value = v′ })))
 first-fifo offsets offset v v′ f now =
     let (os, e) = fifo-is-first offsets offset f in
-    subst (λ l. AlikeInUse l (Call.write now (record { offset = offset; value = v }))
-    (Call.write now (record { offset = offset; value = v′ }))) (sym e) (AlikeInUse.alike Alike.fifoWord)
+    subst (λ l. AlikeInUse l (Call.at now (Dated.write (record { offset = offset; value = v })))
+    (Call.at now (Dated.write (record { offset = offset; value = v′ })))) (sym e) (AlikeInUse.alike Alike.fifoWord)
 
 write-alike : (offsets : List ℕ) (now : ℕ) (x : Written)
-    → AlikeInUse offsets (Call.write now x) (Call.write now (blankWritten offsets x))
+    → AlikeInUse offsets (Call.at now (Dated.write x)) (Call.at now (Dated.write (blankWritten offsets x)))
 unfolding blankWritten blankWord choose
 write-alike offsets now x = by-word (takesWord (registerOf offsets (x .offset))) refl
   where
     by-fifo : (t : Bool) → isFifo (registerOf offsets (x .offset)) ≡ t → takesWord (registerOf offsets (x .offset)) ≡ false
-        → AlikeInUse offsets (Call.write now x) (Call.write now (record { offset = x .offset; value = 0 }))
+        → AlikeInUse offsets (Call.at now (Dated.write x)) (Call.at now (Dated.write (record { offset = x .offset; value = 0 })))
     by-fifo true f e = first-fifo offsets (x .offset) (x .value) 0 f now
     by-fifo false f e = AlikeInUse.unusedWord f e
 
     by-word : (t : Bool) → takesWord (registerOf offsets (x .offset)) ≡ t
-        → AlikeInUse offsets (Call.write now x) (Call.write now (record { offset = x .offset; value = choose t (x .value) 0 }))
+        → AlikeInUse offsets (Call.at now (Dated.write x)) (Call.at now (Dated.write (record { offset = x .offset; value = choose t (x .value) 0 })))
     by-word true e = AlikeInUse.alike Alike.same
     by-word false e = by-fifo (isFifo (registerOf offsets (x .offset))) refl e
 
 alike : (offsets : List ℕ) (c : Request) → AlikeInUse offsets c (blanked offsets c)
 unfolding blanked
-alike offsets (Call.read now r) = AlikeInUse.alike Alike.same
-alike offsets (Call.write now x) = write-alike offsets now x
-alike offsets (Call.receive now at bs) = AlikeInUse.alike (Alike.hostBytes (length-blank bs))
-alike offsets (Call.wake now) = AlikeInUse.alike Alike.same
-alike offsets (Call.reset now) = AlikeInUse.alike Alike.same
-alike offsets (Call.powerDown now) = AlikeInUse.alike Alike.same
-alike offsets (Call.watch now b) = AlikeInUse.alike Alike.same
-alike offsets (Call.clockChange now p) = AlikeInUse.alike Alike.same
-alike offsets (Call.takeTx now lent) = AlikeInUse.alike (Alike.lentToTakeTx (length-blank lent))
-alike offsets (Call.takeWritten lent) = AlikeInUse.alike (Alike.lentToTakeWritten (length-blank lent))
-alike offsets Call.hasLeft = AlikeInUse.alike Alike.same
-alike offsets Call.hostPending = AlikeInUse.alike Alike.same
+alike offsets (Call.at now (Dated.read r)) = AlikeInUse.alike Alike.same
+alike offsets (Call.at now (Dated.write x)) = write-alike offsets now x
+alike offsets (Call.at now (Dated.receive date bs)) = AlikeInUse.alike (Alike.hostBytes (length-blank bs))
+alike offsets (Call.at now (Dated.takeTx lent)) = AlikeInUse.alike (Alike.lentToTakeTx (length-blank lent))
+alike offsets (Call.at now (Dated.machine m)) = AlikeInUse.alike Alike.same
+alike offsets (Call.undated (Undated.takeWritten lent)) = AlikeInUse.alike (Alike.lentToTakeWritten (length-blank lent))
+alike offsets (Call.undated Undated.hasLeft) = AlikeInUse.alike Alike.same
+alike offsets (Call.undated Undated.hostPending) = AlikeInUse.alike Alike.same
 
 pub blanked-alike : (offsets : List ℕ) (cs : List Request) → Each (AlikeInUse offsets) cs (blankedList offsets cs)
 blanked-alike offsets [] = Each.nil
@@ -87,8 +83,8 @@ blanked-resets ws = record { words = refl; status = sym (and-again 32 (getD ws 6
 -- so by demand 3 a blanked run times as the real one: all answers agree, apart from the byte that a read of FIFO gives and
 -- bytes handed out as sent, and these agree in count at every call
 pub blanked-times-alike : (offsets ws : List ℕ) → length offsets ≡ 16 → (cs : List Request)
-    → Agreeing (fifoOffset offsets) cs (blankedList offsets cs) 0 0 cs
-    (map withoutRest (run cs (new offsets ws))) (map withoutRest (run (blankedList offsets cs) (new offsets (blankResets ws))))
+    → Agreeing (fifoOffset offsets) cs (blankedList offsets cs) 0 0 cs (run cs (new offsets ws))
+    (run (blankedList offsets cs) (new offsets (blankResets ws)))
 blanked-times-alike offsets ws e cs =
     runs-agree-in-use offsets ws (blankResets ws) e (blanked-resets ws) cs _ (blanked-alike offsets cs)
 
@@ -112,20 +108,20 @@ fifo-takes-none [] = refl
 fifo-takes-none (fifo ∷ others) = ap takesWord (first-is-fifo fifo others)
 
 same-write : (offsets : List ℕ) (now offset v v′ : ℕ) → takesWord (registerOf offsets offset) ≡ false
-    → blanked offsets (Call.write now (record { offset = offset; value = v }))
-    ≡ blanked offsets (Call.write now (record { offset = offset; value = v′ }))
+    → blanked offsets (Call.at now (Dated.write (record { offset = offset; value = v })))
+    ≡ blanked offsets (Call.at now (Dated.write (record { offset = offset; value = v′ })))
 unfolding blanked blankWritten
 same-write offsets now offset v v′ e =
-    ap (λ w. Call.write now (record { offset = offset; value = w })) (same-word offsets offset v v′ e)
+    ap (λ w. Call.at now (Dated.write (record { offset = offset; value = w }))) (same-word offsets offset v v′ e)
 
 alike-same : (offsets : List ℕ) {c d : Request} → Alike (fifoOffset offsets) c d → blanked offsets c ≡ blanked offsets d
 unfolding blanked
 alike-same offsets Alike.same = refl
 alike-same offsets (Alike.hostBytes {now = now} {at = at} {bs = bs} {bs′ = bs′} e) =
-    ap (λ l. Call.receive now at l) (same-blank bs bs′ e)
+    ap (λ l. Call.at now (Dated.receive at l)) (same-blank bs bs′ e)
 alike-same offsets (Alike.fifoWord {now = now} {v = v} {v′ = v′}) = same-write offsets now _ v v′ (fifo-takes-none offsets)
-alike-same offsets (Alike.lentToTakeTx {now = now} {lent = l} {lent′ = m} e) = ap (λ k. Call.takeTx now k) (same-blank l m e)
-alike-same offsets (Alike.lentToTakeWritten {lent = l} {lent′ = m} e) = ap Call.takeWritten (same-blank l m e)
+alike-same offsets (Alike.lentToTakeTx {now = now} {lent = l} {lent′ = m} e) = ap (λ k. Call.at now (Dated.takeTx k)) (same-blank l m e)
+alike-same offsets (Alike.lentToTakeWritten {lent = l} {lent′ = m} e) = ap (λ k. Call.undated (Undated.takeWritten k)) (same-blank l m e)
 
 pub blank-same : (offsets : List ℕ) {c d : Request} → AlikeInUse offsets c d → blanked offsets c ≡ blanked offsets d
 blank-same offsets (AlikeInUse.alike a) = alike-same offsets a

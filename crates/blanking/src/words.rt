@@ -1,5 +1,5 @@
 // Words that are written, and the reset words of a set-up.
-use model::Place;
+use registers::places::Place;
 use registers::places::place_of;
 ghost use mathlib.Core.Path.{_≡_};
 ghost use Rattle.model.specs.TwoRuns.Unused.{takesWord};

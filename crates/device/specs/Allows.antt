@@ -11,7 +11,7 @@ use Rattle.model.specs.declared.Line.{Line}
 use Rattle.model.specs.declared.Frame.{Frame}
 use Rattle.model.specs.declared.Settings.{Settings}
 use Rattle.model.specs.declared.Fate.{Fate}
-use Rattle.model.specs.declared.Found.{Found}
+use Rattle.line.specs.declared.Found.{Found}
 use Rattle.line.specs.declared.Receiving.{Receiving}
 use Rattle.line.specs.declared.Move.{Move}
 use Rattle.line.specs.Applied.{isStored}

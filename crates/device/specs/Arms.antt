@@ -8,7 +8,8 @@ use native.Mathlib.Omega.{arith}
 use lib.ListN.{length, getD}
 use Rattle.model.specs.Numbers.{onlyIf}
 use Rattle.model.specs.State
-use Rattle.model.specs.State.{Sent, withWake}
+use Rattle.model.specs.State.{Sent}
+use Rattle.model.specs.Setters.{withWake}
 use Rattle.model.specs.Timing
 use Rattle.model.specs.Line.{timeoutAt}
 use Rattle.model.specs.Settle.{emptyThreshold, settingsOf}

@@ -11,14 +11,15 @@ use borrow.Author.Tests.{lt-ltb, le-ltb}
 use lib.Dec.{leb}
 use lib.ListN.{length, take, drop, getD, set, length-set}
 use Rattle.model.specs.State
-use Rattle.model.specs.State.{Run, OnTheLine, withRx, withReceiving, withHost, withLineOf}
+use Rattle.model.specs.State.{Run, OnTheLine}
+use Rattle.model.specs.Setters.{withRx, withReceiving, withHost, withLineOf}
 use Rattle.model.specs.Numbers.{choose}
 use Rattle.model.specs.Laws.Choose.{choose-true, choose-false}
 use Rattle.model.specs.Settle.{popRun, pass}
 use Rattle.model.specs.declared.Date.{Date}
 use Rattle.model.specs.declared.Line.{Line}
 use Rattle.model.specs.declared.Settings.{Settings}
-use Rattle.model.specs.declared.Found.{Found}
+use Rattle.line.specs.declared.Found.{Found}
 use Rattle.queue.specs.Slots.{side}
 use Rattle.queue.specs.Cursors.{Held, slotOf, backOf, pushedIf, poppedIf, oneIf}
 use Rattle.queue.specs.Cursors

@@ -8,7 +8,8 @@ use Rattle.dates.specs.Dates.{later, earlier}
 use mathlib.Core.List.{List}
 use mathlib.Core.Option.{Option}
 use Rattle.model.specs.State
-use Rattle.model.specs.State.{lineOf, withLineOf}
+use Rattle.model.specs.State.{lineOf}
+use Rattle.model.specs.Setters.{withLineOf}
 use Rattle.model.specs.Numbers.{choose, dueBy}
 use Rattle.model.specs.Laws.Choose.{choose-true, choose-false}
 use Rattle.model.specs.Line.{timeoutAt, afterDate}
@@ -16,7 +17,7 @@ use Rattle.model.specs.Settle.{pass}
 use Rattle.model.specs.declared.Date.{Date}
 use Rattle.model.specs.declared.Line.{Line}
 use Rattle.model.specs.declared.Settings.{Settings}
-use Rattle.model.specs.declared.Found.{Found}
+use Rattle.line.specs.declared.Found.{Found}
 use Rattle.line.specs.declared.Receiving.{Receiving}
 use Rattle.line.specs.Seen.{Seen, seen}
 use Rattle.line.specs.Moves.{resting, inFrame, beforeStart, idle, lineFree, move}

@@ -7,10 +7,10 @@ use Prim.Native.Nat.{ℕ}
 use lib.Dec.{leb}
 use lib.ListN.{length}
 use Rattle.model.specs.State
-use Rattle.model.specs.State.{withLine}
+use Rattle.model.specs.Setters.{withLine}
 use Rattle.model.specs.Settle
 use Rattle.model.specs.declared.Settings.{Settings}
-use Rattle.model.specs.declared.Found.{Found}
+use Rattle.line.specs.declared.Found.{Found}
 use Rattle.queue.specs.Cursors.{Held}
 use Rattle.line.specs.Seen.{Seen, seen}
 use Rattle.device.specs.Holds.{hostOf, runsOf, rxOf, onTheLine}

@@ -12,7 +12,7 @@ use Rattle.model.specs.Settle.{Settled, pass, found, ended, pending, onTheLine}
 use Rattle.model.specs.SetUp.{new}
 use Rattle.model.specs.Ends.Through.{pass-one, passes-go, passes-end, passes-bound}
 use Rattle.model.specs.declared.Settings.{Settings}
-use Rattle.model.specs.declared.Found.{Found}
+use Rattle.line.specs.declared.Found.{Found}
 use Rattle.queue.specs.Cursors.{slotOf}
 use Rattle.queue.specs.Laws.{elems-length}
 use Rattle.line.specs.Seen.{foundOf, Seen, seen, goesOn, lost, goes-on, loses}

@@ -7,7 +7,8 @@ use native.Mathlib.Omega.{arith}
 use lib.ListN.{length, take, drop}
 use Rattle.dates.specs.Dates.{subcycles}
 use Rattle.model.specs.State
-use Rattle.model.specs.State.{Sent, withLine, withLevel, withControl, withInFlight, withTx}
+use Rattle.model.specs.State.{Sent}
+use Rattle.model.specs.Setters.{withLine, withLevel, withControl, withInFlight, withTx}
 use Rattle.model.specs.Timing
 use Rattle.model.specs.Settle
 use Rattle.model.specs.Events.{passesIn, overflowsIn}

@@ -8,7 +8,7 @@ ghost use mathlib.Core.Path.{_≡_};
 ghost use mathlib.Core.List.{List};
 ghost use Prim.Native.Nat.{ℕ};
 ghost use lib.ListN.{length};
-ghost use Rattle.model.specs.State.{withWake};
+ghost use Rattle.model.specs.Setters.{withWake};
 ghost use Rattle.model.specs.Arm.{nthGone, lastGone};
 ghost use Rattle.line.specs.Instants.{goneBelow};
 ghost use Rattle.queue.specs.Cursors.{Held};

@@ -1,6 +1,6 @@
 // A pass over the receive line: control decides on numbers and marks, and the bytes follow.
+use line::Found;
 use line::Receiving;
-use model::Found;
 use model::Line;
 use model::Settings;
 use queue::Cursor;

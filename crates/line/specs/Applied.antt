@@ -9,7 +9,8 @@ use lib.ListN.{length, take, drop}
 use Rattle.dates.specs.Dates.{later, earlier}
 use Rattle.model.specs.Numbers.{choose, dueBy}
 use Rattle.model.specs.Laws.Choose.{choose-both}
-use Rattle.model.specs.State.{Run, OnTheLine, Uart, withRx, withReceiving, withHost, withLineOf, lineOf}
+use Rattle.model.specs.State.{Run, OnTheLine, Uart, lineOf}
+use Rattle.model.specs.Setters.{withRx, withReceiving, withHost, withLineOf}
 use Rattle.model.specs.Line.{timeoutAt, timeOut, frame, start, fate, land}
 use Rattle.model.specs.Settle
 use Rattle.model.specs.Settle.{popRun, received, nothingDue, timedOut, landed, begun, passOn, pass}
@@ -19,8 +20,8 @@ use Rattle.model.specs.declared.Frame.{Frame}
 use Rattle.model.specs.declared.Settings.{Settings}
 use Rattle.model.specs.declared.Fate.{Fate}
 use Rattle.model.specs.declared.Fate.the-variants.{Stored, Overflowed, Cleared, ClockOff, Unheard}
-use Rattle.model.specs.declared.Found.{Found}
-use Rattle.model.specs.declared.Found.the-variants.{NothingDue, TimedOut, Landed}
+use Rattle.line.specs.declared.Found.{Found}
+use Rattle.line.specs.declared.Found.the-variants.{NothingDue, TimedOut, Landed}
 use Rattle.line.specs.Seen.{foundOf, Seen, seen}
 use Rattle.line.specs.declared.Receiving.{Receiving}
 use Rattle.line.specs.declared.Move.{Move}

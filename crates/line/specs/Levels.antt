@@ -5,7 +5,7 @@ use Prim.Native.Nat.{ℕ}
 use mathlib.Core.Bool.{Bool, not}
 use lib.Dec.{eqb}
 use lib.Bits.{bitAnd}
-use Rattle.model.specs.State.{withLine, withLevel}
+use Rattle.model.specs.Setters.{withLine, withLevel}
 use Rattle.model.specs.Line.{RXFIFO-FULL, TXFIFO-EMPTY, raiseIf}
 use Rattle.model.specs.Settle
 use Rattle.model.specs.Settle.{aboveFull, belowEmpty, assertLevels, drive}

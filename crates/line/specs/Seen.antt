@@ -8,8 +8,8 @@ use Rattle.model.specs.Events.{Event, departure, timeout, landing, nothing}
 use Rattle.model.specs.State.{Uart}
 use Rattle.model.specs.Settle.{Pass}
 use Rattle.model.specs.declared.Fate.the-variants.{Stored, Overflowed, Cleared, ClockOff, Unheard}
-use Rattle.model.specs.declared.Found.{Found}
-use Rattle.model.specs.declared.Found.the-variants.{NothingDue, TimedOut, Landed}
+use Rattle.line.specs.declared.Found.{Found}
+use Rattle.line.specs.declared.Found.the-variants.{NothingDue, TimedOut, Landed}
 
 -- no pass finds a departure
 unfoldable pub foundOf : {H W : Type 0} → Event H W → Found

@@ -1,6 +1,6 @@
 // What follows from what a pass found.
+use crate::Found;
 use model::Fate;
-use model::Found;
 ghost use mathlib.Core.Path.{_≡_};
 ghost use Rattle.line.specs.Seen.{goesOn, lost};
 ghost use Rattle.line.specs.Applied.{isStored};

@@ -11,7 +11,7 @@ ghost use mathlib.Core.Path.{_≡_};
 ghost use Rattle.model.specs.Line.{noteSource, frame as Line·frame, start as Line·start};
 ghost use Rattle.model.specs.Line.{fate as Line·fate, opened as Line·opened, land as Line·land};
 ghost use Rattle.model.specs.Numbers.{choose};
-ghost use Rattle.model.specs.State.{withIdleSince};
+ghost use Rattle.model.specs.Setters.{withIdleSince};
 
 // A frame that starts now: who timed it, and whether it is heard.
 pub fn frame(settings: Settings) -> Frame

@@ -8,7 +8,7 @@ pub mod marks;
 pub mod next;
 pub mod pass;
 
-use model::Found;
+use model::Fate;
 use model::Frame;
 use model::Line;
 
@@ -16,6 +16,13 @@ use model::Line;
 pub enum Receiving {
     None,
     OnTheLine(Frame),
+}
+
+// What a pass found due.
+pub enum Found {
+    NothingDue,
+    TimedOut,
+    Landed(Fate),
 }
 
 // What a pass does: the line's part after it, what it found, and whether a host byte started in it.

@@ -5,7 +5,7 @@ use model::Source;
 ghost use mathlib.Core.Path.{_≡_};
 ghost use lib.Bits.{bitOr};
 ghost use Rattle.model.specs.Numbers.{choose};
-ghost use Rattle.model.specs.State.{withIntRaw, withIdleSince};
+ghost use Rattle.model.specs.Setters.{withIntRaw, withIdleSince};
 ghost use Rattle.model.specs.Line.{latest as Line·latest, noteSource};
 
 // INT_RAW bit 0: more bytes received than RXFIFO_FULL_THRHD.

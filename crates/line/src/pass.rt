@@ -1,9 +1,9 @@
 // A pass on the line: the first thing due by a date. Dates in subcycles.
+use crate::Found;
 use crate::Move;
 use crate::Receiving;
 use crate::idle;
 use model::Date;
-use model::Found;
 use model::Frame;
 use model::Line;
 use model::Settings;

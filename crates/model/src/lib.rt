@@ -14,27 +14,6 @@ pub enum Source {
     Sel2,
 }
 
-// A register's place, in the order of set-up; Unknown for an offset that the register map lacks.
-pub enum Place {
-    Fifo,
-    IntRaw,
-    IntSt,
-    IntEna,
-    IntClr,
-    Clkdiv,
-    Status,
-    FsmStatus,
-    Conf0,
-    Conf1,
-    ClkConf,
-    IdleConf,
-    Rs485Conf,
-    AtCmdChar,
-    MemConf,
-    MemRxStatus,
-    Unknown,
-}
-
 // The nine stored words: uart.rs's CONFIG. CLKDIV and CLK_CONF set the baud rate; IDLE_CONF, RS485_CONF and AT_CMD_CHAR have no effect of
 // their own.
 #[repr(C)]
@@ -120,13 +99,6 @@ pub enum Fate {
     ClockOff,
     // The receiver's clock was off at the start.
     Unheard,
-}
-
-// What a pass found due.
-pub enum Found {
-    NothingDue,
-    TimedOut,
-    Landed(Fate),
 }
 
 // The modes that the model refuses by name: diag.rs's UartFeature.

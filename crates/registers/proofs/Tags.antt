@@ -7,10 +7,10 @@ use lib.ListN.{getD}
 use types.Run.{OneOf}
 use denote.Enum.Declared.{tagOf}
 use Rattle.registers.specs.Places.{places}
-use Rattle.model.specs.declared.Place.{Place}
-use Rattle.model.specs.declared.Place.the-variants.{Fifo, IntRaw, IntSt, IntEna, IntClr, Clkdiv, Status, FsmStatus, Conf0, Conf1, ClkConf}
-use Rattle.model.specs.declared.Place.the-variants.{IdleConf, Rs485Conf, AtCmdChar, MemConf, MemRxStatus, Unknown}
-use Rattle.model.proofs.Place.{the-type}
+use Rattle.registers.specs.declared.places.Place.{Place}
+use Rattle.registers.specs.declared.places.Place.the-variants.{Fifo, IntRaw, IntSt, IntEna, IntClr, Clkdiv, Status, FsmStatus, Conf0, Conf1, ClkConf}
+use Rattle.registers.specs.declared.places.Place.the-variants.{IdleConf, Rs485Conf, AtCmdChar, MemConf, MemRxStatus, Unknown}
+use Rattle.registers.proofs.places.Place.{the-type}
 
 -- a fact of each key of an arm
 abbrev pub Each : (ℕ → Type 0) → List ℕ → Type 0

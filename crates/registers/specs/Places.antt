@@ -8,9 +8,9 @@ use lib.Seq.{drop-cons}
 use borrow.Author.Tests.{eq-eqb, ne-eqb}
 use Rattle.model.specs.Laws.Choose.{choose-true, choose-false}
 use Rattle.model.specs.Map.{Word, Shown, Register, fifo, intClr, unknown, shown, stored, registers, registerAmong}
-use Rattle.model.specs.declared.Place.{Place}
-use Rattle.model.specs.declared.Place.the-variants.{Fifo, IntRaw, IntSt, IntEna, IntClr, Clkdiv, Status, FsmStatus, Conf0, Conf1, ClkConf}
-use Rattle.model.specs.declared.Place.the-variants.{IdleConf, Rs485Conf, AtCmdChar, MemConf, MemRxStatus, Unknown}
+use Rattle.registers.specs.declared.places.Place.{Place}
+use Rattle.registers.specs.declared.places.Place.the-variants.{Fifo, IntRaw, IntSt, IntEna, IntClr, Clkdiv, Status, FsmStatus, Conf0, Conf1, ClkConf}
+use Rattle.registers.specs.declared.places.Place.the-variants.{IdleConf, Rs485Conf, AtCmdChar, MemConf, MemRxStatus, Unknown}
 
 -- the places in the order of set-up
 abbrev pub places : List Place

@@ -4,7 +4,7 @@ use mathlib.Core.Bool.{Bool, true, false}
 use mathlib.Core.Option.{Option, none, some}
 use Rattle.model.specs.Map.{Word, Register, fifo, intClr, unknown, shown, stored, valueOf, replaced}
 use Rattle.model.specs.Replies.{ReadOf, word, noValue}
-use Rattle.model.specs.declared.Place.{Place}
+use Rattle.registers.specs.declared.places.Place.{Place}
 use Rattle.model.specs.declared.Words.{Words}
 use Rattle.registers.specs.Places.{registerAt}
 

@@ -1,10 +1,30 @@
 // The offset becomes a register's place first; the decisions are over places. Carried over from inkemu's uart.rs and
 // changed: its match over offsets.
-use model::Place;
 ghost use mathlib.Core.Path.{_≡_};
 ghost use Rattle.model.specs.Map.{registerOf, isFifo};
 ghost use Rattle.model.specs.Registers.{looks as Registers·looks};
 ghost use Rattle.registers.specs.Places.{registerAt};
+
+// A register's place, in the order of set-up; Unknown for an offset that the register map lacks.
+pub enum Place {
+    Fifo,
+    IntRaw,
+    IntSt,
+    IntEna,
+    IntClr,
+    Clkdiv,
+    Status,
+    FsmStatus,
+    Conf0,
+    Conf1,
+    ClkConf,
+    IdleConf,
+    Rs485Conf,
+    AtCmdChar,
+    MemConf,
+    MemRxStatus,
+    Unknown,
+}
 
 // The places in the order of set-up.
 const PLACES: [Place; 16] = [

@@ -1,6 +1,6 @@
 // Storage: nine words, bit for bit, over the places. A place that it does not hold is neither read nor written.
 // Carried over from inkemu's periph/mod.rs and changed: the words stand in a struct and an offset is a place already.
-use model::Place;
+use crate::places::Place;
 use model::Read;
 use model::Words;
 ghost use mathlib.Core.Path.{_≡_};

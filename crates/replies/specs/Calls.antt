@@ -10,14 +10,16 @@ use Rattle.model.specs.State.{Uart}
 use Rattle.model.specs.Map.{Register}
 use Rattle.model.specs.Replies.{refused}
 use Rattle.model.specs.Tests.{refuseDate}
-use Rattle.model.specs.Calls.{unless, carried, outcome, lastDate, hostDate, notTaken, readPlaced, writePlaced, send, receive, wake, watch}
-use Rattle.model.specs.Calls.{powerDown, clockChange, reset, takeTx, takeWritten}
+use Rattle.model.specs.Calls.{unless, carried, outcome, lastDate, hostDate, notTaken, readPlaced, writePlaced, send, receive, machine}
+use Rattle.model.specs.Calls.{takeTx, takeWritten}
+use Rattle.model.specs.Call.{Machine}
 use Rattle.model.specs.declared.Write.{Write}
 use Rattle.model.specs.declared.Done.{Done}
 use Rattle.replies.specs.Refusals.{dates, datesOnly, sending, receiving, clocking, takingTx, takingWritten}
 
 module _ {H W : Type 0} (now : ℕ) (u : Uart H W) where
-  pub read-tests : (r : Register) → outcome (some now) (readPlaced now r u) u ≡ unless (datesOnly now (u .control .last)) refused (carried (some now) (readPlaced now r u)) u
+  pub read-tests : (r : Register) → outcome (some now) (readPlaced now r u) u
+      ≡ unless (datesOnly now (u .control .last)) refused (carried (some now) (readPlaced now r u)) u
   unfolding outcome readPlaced refuseDate datesOnly dates
   read-tests r = refl
 
@@ -26,7 +28,8 @@ module _ {H W : Type 0} (now : ℕ) (u : Uart H W) where
   unfolding outcome writePlaced refuseDate datesOnly dates
   write-tests r v = refl
 
-  pub send-tests : (b : W) → outcome (some now) (send now b u) u ≡ unless (sending now (u .control .last) (length (u .tx)) (length (u .inFlight))) Write.Refused
+  pub send-tests : (b : W) → outcome (some now) (send now b u) u
+      ≡ unless (sending now (u .control .last) (length (u .tx)) (length (u .inFlight))) Write.Refused
       (carried (some now) (send now b u)) u
   unfolding outcome send refuseDate sending dates
   send-tests b = refl
@@ -43,25 +46,29 @@ module _ {H W : Type 0} (now : ℕ) (u : Uart H W) where
   unfolding outcome receive refuseDate receiving dates
   receive-tests at bs = refl
 
-  pub wake-tests : outcome (some now) (wake now u) u ≡ unless (datesOnly now (u .control .last)) Done.Refused (carried (some now) (wake now u)) u
-  unfolding outcome wake refuseDate datesOnly dates
+  pub wake-tests : outcome (some now) (machine now Machine.wake u) u
+      ≡ unless (datesOnly now (u .control .last)) Done.Refused (carried (some now) (machine now Machine.wake u)) u
+  unfolding outcome machine refuseDate datesOnly dates
   wake-tests = refl
 
-  pub watch-tests : (b : Bool) → outcome (some now) (watch now b u) u ≡ unless (datesOnly now (u .control .last)) Done.Refused (carried (some now) (watch now b u)) u
-  unfolding outcome watch refuseDate datesOnly dates
+  pub watch-tests : (b : Bool) → outcome (some now) (machine now (Machine.watch b) u) u
+      ≡ unless (datesOnly now (u .control .last)) Done.Refused (carried (some now) (machine now (Machine.watch b) u)) u
+  unfolding outcome machine refuseDate datesOnly dates
   watch-tests b = refl
 
-  pub power-down-tests : outcome (some now) (powerDown now u) u ≡ unless (datesOnly now (u .control .last)) Done.Refused (carried (some now) (powerDown now u)) u
-  unfolding outcome powerDown refuseDate datesOnly dates
+  pub power-down-tests : outcome (some now) (machine now Machine.powerDown u) u
+      ≡ unless (datesOnly now (u .control .last)) Done.Refused (carried (some now) (machine now Machine.powerDown u)) u
+  unfolding outcome machine refuseDate datesOnly dates
   power-down-tests = refl
 
-  pub clock-tests : (period : ℕ) → outcome (some now) (clockChange now period u) u
-      ≡ unless (clocking now (u .control .last) period) Done.Refused (carried (some now) (clockChange now period u)) u
-  unfolding outcome clockChange refuseDate clocking dates
+  pub clock-tests : (period : ℕ) → outcome (some now) (machine now (Machine.clockChange period) u) u
+      ≡ unless (clocking now (u .control .last) period) Done.Refused (carried (some now) (machine now (Machine.clockChange period) u)) u
+  unfolding outcome machine refuseDate clocking dates
   clock-tests period = refl
 
-  pub reset-tests : outcome (some now) (reset now u) u ≡ unless (datesOnly now (u .control .last)) Done.Refused (carried (some now) (reset now u)) u
-  unfolding outcome reset refuseDate datesOnly dates
+  pub reset-tests : outcome (some now) (machine now Machine.reset u) u
+      ≡ unless (datesOnly now (u .control .last)) Done.Refused (carried (some now) (machine now Machine.reset u)) u
+  unfolding outcome machine refuseDate datesOnly dates
   reset-tests = refl
 
   pub take-tests : {L : Type 0} (lent : List L) → outcome (some now) (takeTx now lent u) u

@@ -3,8 +3,8 @@
 use crate::notices::Notices;
 use crate::notices::none;
 use model::Feature;
-use model::Place;
 use model::Unsupported;
+use registers::places::Place;
 ghost use mathlib.Core.Path.{_≡_};
 ghost use mathlib.Core.List.{[]};
 ghost use Prim.Native.Nat.{_<_};

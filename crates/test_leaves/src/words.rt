@@ -1,8 +1,8 @@
 // Storage, place by place: what a write stores and a read gives back.
 use crate::show;
-use model::Place;
 use model::Read;
 use model::Words;
+use registers::places::Place;
 ghost use mathlib.Core.Path.{_≡_};
 
 fn zeros() -> Words {
