@@ -17,7 +17,8 @@ use Rattle.model.specs.declared.Done.{Done}
 use Rattle.replies.specs.Refusals.{dates, datesOnly, sending, receiving, clocking, takingTx, takingWritten}
 
 module _ {H W : Type 0} (now : ℕ) (u : Uart H W) where
-  pub read-tests : (r : Register) → outcome (some now) (readPlaced now r u) u ≡ unless (datesOnly now (u .control .last)) refused (carried (some now) (readPlaced now r u)) u
+  pub read-tests : (r : Register) → outcome (some now) (readPlaced now r u) u
+      ≡ unless (datesOnly now (u .control .last)) refused (carried (some now) (readPlaced now r u)) u
   unfolding outcome readPlaced refuseDate datesOnly dates
   read-tests r = refl
 
@@ -26,7 +27,8 @@ module _ {H W : Type 0} (now : ℕ) (u : Uart H W) where
   unfolding outcome writePlaced refuseDate datesOnly dates
   write-tests r v = refl
 
-  pub send-tests : (b : W) → outcome (some now) (send now b u) u ≡ unless (sending now (u .control .last) (length (u .tx)) (length (u .inFlight))) Write.Refused
+  pub send-tests : (b : W) → outcome (some now) (send now b u) u
+      ≡ unless (sending now (u .control .last) (length (u .tx)) (length (u .inFlight))) Write.Refused
       (carried (some now) (send now b u)) u
   unfolding outcome send refuseDate sending dates
   send-tests b = refl
@@ -43,15 +45,18 @@ module _ {H W : Type 0} (now : ℕ) (u : Uart H W) where
   unfolding outcome receive refuseDate receiving dates
   receive-tests at bs = refl
 
-  pub wake-tests : outcome (some now) (wake now u) u ≡ unless (datesOnly now (u .control .last)) Done.Refused (carried (some now) (wake now u)) u
+  pub wake-tests : outcome (some now) (wake now u) u
+      ≡ unless (datesOnly now (u .control .last)) Done.Refused (carried (some now) (wake now u)) u
   unfolding outcome wake refuseDate datesOnly dates
   wake-tests = refl
 
-  pub watch-tests : (b : Bool) → outcome (some now) (watch now b u) u ≡ unless (datesOnly now (u .control .last)) Done.Refused (carried (some now) (watch now b u)) u
+  pub watch-tests : (b : Bool) → outcome (some now) (watch now b u) u
+      ≡ unless (datesOnly now (u .control .last)) Done.Refused (carried (some now) (watch now b u)) u
   unfolding outcome watch refuseDate datesOnly dates
   watch-tests b = refl
 
-  pub power-down-tests : outcome (some now) (powerDown now u) u ≡ unless (datesOnly now (u .control .last)) Done.Refused (carried (some now) (powerDown now u)) u
+  pub power-down-tests : outcome (some now) (powerDown now u) u
+      ≡ unless (datesOnly now (u .control .last)) Done.Refused (carried (some now) (powerDown now u)) u
   unfolding outcome powerDown refuseDate datesOnly dates
   power-down-tests = refl
 
@@ -60,7 +65,8 @@ module _ {H W : Type 0} (now : ℕ) (u : Uart H W) where
   unfolding outcome clockChange refuseDate clocking dates
   clock-tests period = refl
 
-  pub reset-tests : outcome (some now) (reset now u) u ≡ unless (datesOnly now (u .control .last)) Done.Refused (carried (some now) (reset now u)) u
+  pub reset-tests : outcome (some now) (reset now u) u
+      ≡ unless (datesOnly now (u .control .last)) Done.Refused (carried (some now) (reset now u)) u
   unfolding outcome reset refuseDate datesOnly dates
   reset-tests = refl
 
