@@ -64,8 +64,8 @@ took-tx lent {t} {c} {a} {n} {o} {k} {out} s e whole =
 pub tx-taken : (cycle : ℕ) (lent : List ℕ) {c₀ : Core} {a₀ : Arrays} → Ok c₀ a₀
     → {c : Core} {a : Arrays} {n o k : ℕ} {out : List ℕ} {none : Cursor} {r : TakeCore}
     → Settles (settleAt cycle (abs c₀ a₀)) c a n o → k ≡ c .tx .count → out ≡ txOf (a .tx) (c .tx) ++ drop (c .tx .count) lent
-    → none ≡ empty
-    → r ≡ takenCore (withTxOf none c) k n o → TakeWorks (datedWork cycle (takeTx cycle lent) (abs c₀ a₀)) (r .core) a (r .reply) (r .report) out
+    → none ≡ empty → r ≡ takenCore (withTxOf none c) k n o
+    → TakeWorks (datedWork cycle (takeTx cycle lent) (abs c₀ a₀)) (r .core) a (r .reply) (r .report) out
 unfolding carried takeTx
 tx-taken cycle lent {c₀} {a₀} _ {c} {a} {n} {o} {k} {out} s e whole en same =
     subst (λ (x : TakeCore). TakeWorks (datedWork cycle (takeTx cycle lent) (abs c₀ a₀)) (x .core) a (x .reply) (x .report) out)
