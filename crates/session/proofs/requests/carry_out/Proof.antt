@@ -36,7 +36,8 @@ returns-2 c =
     ∙ sym (ap (λ (n : Name). carriedOut (commandOf n (a .t3) (a .last) (a .bytes .now)) [] (some (meaning (a .session .uart))))
     (c .before .before .before .before .before .before .enum-told2 .given .1)))
     (gives (c .before .before .before .before .read .ensures) (Call.read (getD (a .t3) 0 0)
-    (c .before .before .before .before .before .low .result)) reads (step-cases _ .read _ _) (said (c .before .before .before .before .read .ensures)
+    (c .before .before .before .before .before .low .result)) reads
+    (step-cases _ .read _ _) (said (c .before .before .before .before .read .ensures)
     readText) (c .before .before .after-read .ensures))
 
 returns-3 : tie.Need-returns-3
@@ -65,7 +66,8 @@ returns-4 c =
     ∙ sym (ap (λ (n : Name). carriedOut (commandOf n (a .t3) (a .last) (a .bytes .now)) [] (some (meaning (a .session .uart))))
     (c .before .before .before .before .before .before .enum-told4 .given .1)))
     (gives (c .before .before .before .before .receive .ensures) (Call.receive (getD (a .t3) 0 0) (getD (a .t3) 1 0)
-    (c .before .before .before .before .before .front .result .now)) does (step-cases _ .receive _ _ _) (said (c .before .before .before .before .receive .ensures)
+    (c .before .before .before .before .before .front .result .now)) does
+    (step-cases _ .receive _ _ _) (said (c .before .before .before .before .receive .ensures)
     doneText) (c .before .before .after-done .ensures))
 
 returns-5 : tie.Need-returns-5
@@ -83,7 +85,8 @@ returns-6 c =
     let a = far .before .before .before .args in
     gives-as (sym (ap (λ (n : Name). carriedOut (commandOf n (a .t3) (a .last) (a .bytes .now)) [] (some (meaning (a .session .uart))))
     (c .before .before .before .before .before .enum-told6 .given .1)))
-    (gives (c .before .before .before .before .watch .ensures) (Call.watch (getD (a .t3) 0 0) (eqb (a .last) 1)) does (step-cases _ .watch _ _)
+    (gives (c .before .before .before .before .watch .ensures) (Call.watch (getD (a .t3) 0 0) (eqb (a .last) 1)) does
+    (step-cases _ .watch _ _)
     (said (c .before .before .before .before .watch .ensures) doneText) (c .before .before .after-done3 .ensures))
 
 returns-7 : tie.Need-returns-7
@@ -110,7 +113,8 @@ returns-9 c =
     let a = far .before .before .before .args in
     gives-as (sym (ap (λ (n : Name). carriedOut (commandOf n (a .t3) (a .last) (a .bytes .now)) [] (some (meaning (a .session .uart))))
     (c .before .before .before .before .before .enum-told9 .given .1)))
-    (gives (c .before .before .before .before .clock-change .ensures) (Call.clockChange (getD (a .t3) 0 0) (getD (a .t3) 1 0)) does (step-cases _ .clockChange _ _)
+    (gives (c .before .before .before .before .clock-change .ensures) (Call.clockChange (getD (a .t3) 0 0) (getD (a .t3) 1 0)) does
+    (step-cases _ .clockChange _ _)
     (said (c .before .before .before .before .clock-change .ensures) doneText) (c .before .before .after-done6 .ensures))
 
 returns-10 : tie.Need-returns-10
