@@ -8,7 +8,7 @@ use Rattle.model.specs.State
 use Rattle.model.specs.Map.{Register, registerOf, isFifo}
 use Rattle.model.specs.Registers.{Access, sendByte, writeRegister, concluded}
 use Rattle.model.specs.Calls
-use Rattle.model.specs.Calls.{Outcome, unless, afterSettling, settleAt, send, sendWork, writePlaced, writeWork, writeAt}
+use Rattle.model.specs.Calls.{Outcome, unless, afterSettling, settleAt, send, writePlaced, writeAt}
 use Rattle.model.specs.Tests.{dateEnd}
 use Rattle.model.specs.Replies.{writeNumber}
 use Rattle.model.specs.Keeps.EachCall.{write-within}
@@ -21,7 +21,7 @@ use Rattle.replies.specs.Calls.{write-tests}
 use Rattle.replies.specs.Refusals.{sending, datesOnly}
 use Rattle.device.specs.Holds.{Arrays, abs, Ok}
 use Rattle.device.specs.declared.Core.{Core}
-use Rattle.calls.specs.Answers.{Accesses, Works, Answers, carried, turned-away, in-time}
+use Rattle.calls.specs.Answers.{datedCall, Accesses, Works, Answers, carried, turned-away, in-time}
 use Rattle.access.specs.Sends.{send-checks, send-period}
 use Rattle.access.specs.Writes.{write-period}
 use Rattle.access.specs.WriteStructs.{refusedWrite}
@@ -76,32 +76,36 @@ module _ (cycle offset v : ℕ) {c : Core} {a : Arrays} (ok : Ok c a) {p : Regis
     (at : p ≡ registerOf (c .map .offsets) offset) (sends : f ≡ isFifo p)
     (low : b ≡ v % 256) where
   checks : (x : Bool)
-      → choose x (send cycle b (abs c a)) (writePlaced cycle p v (abs c a))
-      ≡ unless (testsAt x cycle (c .control .last) (c .tx .count) (c .flight .count)) Write.Refused (workAt x cycle b p v) (abs c a)
-  unfolding choose testsAt accessAt sendWork writeWork
+      → datedCall cycle (λ u. choose x (send cycle b u) (writePlaced cycle p v u)) (abs c a)
+      ≡ unless (testsAt x cycle (c .control .last) (c .tx .count) (c .flight .count)) Write.Refused (λ _. workAt x cycle b p v (abs c a))
+      (abs c a)
+  unfolding choose testsAt accessAt Calls.carried send writePlaced
   checks true = send-checks cycle b ok
   checks false = write-tests cycle (abs c a) p v
 
-  write-checks : Calls.write cycle offset v (abs c a)
-      ≡ unless (testsAt f cycle (c .control .last) (c .tx .count) (c .flight .count)) Write.Refused (workAt f cycle b p v) (abs c a)
+  write-checks : datedCall cycle (Calls.write cycle offset v) (abs c a)
+      ≡ unless (testsAt f cycle (c .control .last) (c .tx .count) (c .flight .count)) Write.Refused (λ _. workAt f cycle b p v (abs c a))
+      (abs c a)
   unfolding Calls.write writeAt
   write-checks =
-      ap (λ (q : Register). writeAt cycle q v (abs c a)) (sym at)
-      ∙ ap₂ (λ (x : Bool) (n : ℕ). choose x (send cycle n (abs c a)) (writePlaced cycle p v (abs c a))) (sym sends) (sym low) ∙ checks f
+      ap (λ (q : Register). datedCall cycle (writeAt cycle q v) (abs c a)) (sym at)
+      ∙ ap₂ (λ (x : Bool) (n : ℕ). datedCall cycle (λ u. choose x (send cycle n u) (writePlaced cycle p v u)) (abs c a)) (sym sends)
+      (sym low)
+      ∙ checks f
 
   pub write-carried : {c′ : Core} {a′ : Arrays} {reply : Write} {report : Report}
       → testsAt f cycle (c .control .last) (c .tx .count) (c .flight .count) ≡ none
       → Works (λ x. x) (workAt f cycle b p v (abs c a)) c′ a′ reply report
-      → Answers (λ x. x) writeNumber (Calls.write cycle offset v (abs c a)) c a c′ a′ reply report
+      → Answers (λ x. x) writeNumber (datedCall cycle (Calls.write cycle offset v) (abs c a)) c a c′ a′ reply report
   unfolding afterSettling concluded
   write-carried t k =
-      carried (λ x. x) writeNumber Write.Refused (workAt f cycle b p v) c a write-checks t
+      carried (λ x. x) writeNumber Write.Refused (λ _. workAt f cycle b p v (abs c a)) c a write-checks t
       (write-within cycle offset v (abs c a) (ok .within)) (access-zero cycle b p v f _) k
 
   pub write-refused : {q : Refusal} {r : WriteCore} → testsAt f cycle (c .control .last) (c .tx .count) (c .flight .count) ≡ some q
       → r ≡ refusedWrite c q
-      → Answers (λ x. x) writeNumber (Calls.write cycle offset v (abs c a)) c a (r .core) a (r .reply) (r .report)
+      → Answers (λ x. x) writeNumber (datedCall cycle (Calls.write cycle offset v) (abs c a)) c a (r .core) a (r .reply) (r .report)
   write-refused t same =
-      subst (λ (x : WriteCore). Answers (λ w. w) writeNumber (Calls.write cycle offset v (abs c a)) c a (x .core) a (x .reply)
-      (x .report)) (sym same)
-      (turned-away (λ x. x) writeNumber Write.Refused (workAt f cycle b p v) c a write-checks t ok)
+      subst (λ (x : WriteCore). Answers (λ w. w) writeNumber (datedCall cycle (Calls.write cycle offset v) (abs c a)) c a (x .core) a
+      (x .reply) (x .report)) (sym same)
+      (turned-away (λ x. x) writeNumber Write.Refused (λ _. workAt f cycle b p v (abs c a)) c a write-checks t ok)

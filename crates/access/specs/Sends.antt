@@ -2,6 +2,7 @@
 -- Assumes nothing.
 use mathlib.Core.Path.{_≡_, refl, sym, ap, ap₂, subst, _∙_}
 use mathlib.Core.Bool.{Bool, true, false}
+use mathlib.Core.Option.{Option}
 use mathlib.Core.List.{List, [], _∷_, _++_}
 use Prim.Native.Nat.{ℕ, _<_}
 use native.Mathlib.Omega.{arith}
@@ -16,7 +17,7 @@ use Rattle.model.specs.Line.{fifoBytes}
 use Rattle.model.specs.Arm.{lastGone}
 use Rattle.model.specs.Registers.{Access, sourceNotes, startsAt, goneAt, sent, dropped, sendByte}
 use Rattle.model.specs.Calls
-use Rattle.model.specs.Calls.{unless, sendWork}
+use Rattle.model.specs.Calls.{unless, carried}
 use Rattle.model.specs.Laws.Choose.{choose-true, choose-false, choose-ind}
 use Rattle.model.specs.declared.Control.{Control}
 use Rattle.model.specs.declared.Write.{Write}
@@ -31,7 +32,7 @@ use Rattle.replies.specs.Notices.{noted}
 use Rattle.replies.specs.declared.notices.Notices.{Notices}
 use Rattle.device.specs.Holds.{Arrays, sentAt, flightOf, abs, Shape, Ok}
 use Rattle.device.specs.declared.Core.{Core}
-use Rattle.calls.specs.Answers.{Accesses}
+use Rattle.calls.specs.Answers.{datedCall, Accesses}
 use Rattle.calls.specs.Queues.{withQueuesOf, flyingIn, queues-shape}
 
 -- when a byte written now has gone, from the control and those in flight
@@ -124,11 +125,13 @@ module _ (cycle b : ℕ) (c : Core) (dates bytes : List ℕ) {full : Bool} (test
 -- ---- the tests of a FIFO write, from the numbers of the queues
 
 pub send-checks : (cycle b : ℕ) {c : Core} {a : Arrays} → Ok c a
-    → Calls.send cycle b (abs c a) ≡ unless (sending cycle (c .control .last) (c .tx .count) (c .flight .count)) Write.Refused
-    (sendWork cycle b) (abs c a)
+    → datedCall cycle (Calls.send cycle b) (abs c a)
+    ≡ unless (sending cycle (c .control .last) (c .tx .count) (c .flight .count)) Write.Refused
+    (carried (Option.some cycle) (Calls.send cycle b (abs c a))) (abs c a)
 send-checks cycle b {c} {a} ok =
     send-tests cycle (abs c a) b
-    ∙ ap₂ (λ (n k : ℕ). unless (sending cycle (c .control .last) n k) Write.Refused (sendWork cycle b) (abs c a))
+    ∙ ap₂ (λ (n k : ℕ). unless (sending cycle (c .control .last) n k) Write.Refused
+    (carried (Option.some cycle) (Calls.send cycle b (abs c a))) (abs c a))
     (elems-length (slotOf (a .tx) 0) 1152 (c .tx)) (elems-length (sentAt (a .goneAt) (a .flight)) 129 (c .flight))
 
 -- ---- the period stays, so that the wake can be armed

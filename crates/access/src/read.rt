@@ -14,11 +14,11 @@ ghost use mathlib.Core.Path.{_≡_};
 ghost use Prim.Native.Nat.{_<_};
 ghost use Rattle.model.specs.Tests.{dateEnd};
 ghost use Rattle.model.specs.Replies.{asRead, readNumber};
-ghost use Rattle.model.specs.Calls.{read as Calls·read, readWork};
+ghost use Rattle.model.specs.Calls.{readPlaced, read as Calls·read};
 ghost use Rattle.registers.specs.Places.{registerAt};
 ghost use Rattle.device.specs.Holds.{abs, Ok};
 ghost use Rattle.device.specs.Wholes.{lent};
-ghost use Rattle.calls.specs.Answers.{Works, Answers};
+ghost use Rattle.calls.specs.Answers.{datedCall, datedWork, Works, Answers};
 ghost use Rattle.access.specs.Structs.{readCore, refusedRead};
 
 #[repr(C)]
@@ -66,8 +66,8 @@ fn carry_out<'a>(
 ) -> ReadCore
     requires { ⌜ Ok core (lent «gone_at» flight tx host «run_at» «run_len» rx) × (cycle < dateEnd) ⌝ }
     ensures { λ r. ⌜ Works asRead
-        (readWork cycle (registerAt place) (abs core (lent («gone_at» .entry) (flight .entry) (tx .entry) (host .entry) («run_at» .entry)
-        («run_len» .entry) (rx .entry))))
+        (datedWork cycle (readPlaced cycle (registerAt place)) (abs core (lent («gone_at» .entry) (flight .entry) (tx .entry) (host .entry)
+        («run_at» .entry) («run_len» .entry) (rx .entry))))
         (r .core)
         (lent («gone_at» .entry) (flight .entry) (tx .exit) (host .entry) («run_at» .entry) («run_len» .exit) (rx .exit))
         (r .reply) (r .report) ⌝ }
@@ -94,7 +94,7 @@ pub fn read<'a>(
     offset: u32,
 ) -> ReadCore
     requires { ⌜ Ok core (lent «gone_at» flight tx host «run_at» «run_len» rx) ⌝ }
-    ensures { λ r. ⌜ Answers asRead readNumber (Calls·read cycle offset (abs core
+    ensures { λ r. ⌜ Answers asRead readNumber (datedCall cycle (Calls·read cycle offset) (abs core
         (lent («gone_at» .entry) (flight .entry) (tx .entry) (host .entry) («run_at» .entry) («run_len» .entry) (rx .entry)))) core
         (lent («gone_at» .entry) (flight .entry) (tx .entry) (host .entry) («run_at» .entry) («run_len» .entry) (rx .entry)) (r .core)
         (lent («gone_at» .entry) (flight .entry) (tx .exit) (host .entry) («run_at» .entry) («run_len» .exit) (rx .exit))

@@ -23,7 +23,7 @@ ghost use Rattle.replies.specs.Refusals.{verdict};
 ghost use Rattle.device.specs.Holds.{abs, Ok};
 ghost use Rattle.device.specs.Arms.{Ready};
 ghost use Rattle.device.specs.Wholes.{lent};
-ghost use Rattle.calls.specs.Answers.{Works, Answers};
+ghost use Rattle.calls.specs.Answers.{datedCall, Works, Answers};
 ghost use Rattle.access.specs.WriteStructs.{writeCore, refusedWrite};
 ghost use Rattle.access.specs.ByPlace.{testsAt, workAt};
 ghost use Rattle.access.specs.Concludes.{ConcludesAny};
@@ -141,7 +141,7 @@ pub fn write<'a>(
     value: u32,
 ) -> WriteCore
     requires { ⌜ Ok core (lent «gone_at» flight tx host «run_at» «run_len» rx) ⌝ }
-    ensures { λ r. ⌜ Answers (λ x. x) writeNumber (Calls·write cycle offset value (abs core
+    ensures { λ r. ⌜ Answers (λ x. x) writeNumber (datedCall cycle (Calls·write cycle offset value) (abs core
         (lent («gone_at» .entry) (flight .entry) (tx .entry) (host .entry) («run_at» .entry) («run_len» .entry) (rx .entry)))) core
         (lent («gone_at» .entry) (flight .entry) (tx .entry) (host .entry) («run_at» .entry) («run_len» .entry) (rx .entry)) (r .core)
         (lent («gone_at» .exit) (flight .exit) (tx .exit) (host .entry) («run_at» .entry) («run_len» .exit) (rx .exit))

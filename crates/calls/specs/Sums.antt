@@ -98,6 +98,7 @@ module _ (now period : ℕ) (low : period ≤ periodLimit) {c₁ : Core} {a₁ :
   pub reclocks : {c : Core} {a : Arrays} {n₁ o₁ : ℕ} {c₂ : Core} {a₂ : Arrays} {n₂ o₂ : ℕ} {c₃ : Core} {r : DoneCore} → Ok c a
       → Settles (settleAt now (abs c a)) c₁ a₁ n₁ o₁ → Settles (settle now (abs from a₁)) c₂ a₂ n₂ o₂
       → ArmsAny c₂ (a₂ .goneAt) (a₂ .runAt) c₃
-      → r ≡ doneCore c₃ (n₁ + n₂) (o₁ + o₂) → Works (λ x. x) (datedWork now (clockChange now period) (abs c a)) (r .core) a₂ (r .reply) (r .report)
+      → r ≡ doneCore c₃ (n₁ + n₂) (o₁ + o₂)
+      → Works (λ x. x) (datedWork now (clockChange now period) (abs c a)) (r .core) a₂ (r .reply) (r .report)
   unfolding carried clockChange
   reclocks {c} {a} _ first second arms same = armed-done (twice now (abs c a) period first (second-of second)) arms same

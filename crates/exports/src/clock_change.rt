@@ -5,7 +5,7 @@ ghost use mathlib.Core.Path.{_≡_};
 ghost use Rattle.model.specs.Calls.{clockChange};
 ghost use Rattle.device.specs.Holds.{Ok};
 ghost use Rattle.device.specs.Wholes.{lent};
-ghost use Rattle.calls.specs.Answers.{DoneWith};
+ghost use Rattle.calls.specs.Answers.{datedCall, DoneWith};
 ghost use Rattle.ffi.specs.Plain.{coreOf};
 ghost use Rattle.ffi.specs.Replies.{plainDone};
 ghost use Rattle.ffi.specs.Answers.{Plainly};
@@ -25,7 +25,7 @@ pub extern "C" fn wondraxu_clock_change<'a>(
 ) -> PlainAnswer
     requires { ⌜ Ok (coreOf core) (lent «gone_at» flight tx host «run_at» «run_len» rx) ⌝ }
     ensures { λ r. ⌜ Plainly plainDone
-        (λ c c′. DoneWith (clockChange cycle period) c
+        (λ c c′. DoneWith (datedCall cycle (clockChange cycle period)) c
         (lent («gone_at» .entry) (flight .entry) (tx .entry) (host .entry) («run_at» .entry) («run_len» .entry) (rx .entry))
         c′
         (lent («gone_at» .entry) (flight .entry) (tx .exit) (host .entry) («run_at» .entry) («run_len» .exit) (rx .exit))) core r ⌝ }

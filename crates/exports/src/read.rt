@@ -6,7 +6,7 @@ ghost use Rattle.model.specs.Replies.{asRead, readNumber};
 ghost use Rattle.model.specs.Calls.{read};
 ghost use Rattle.device.specs.Holds.{abs, Ok};
 ghost use Rattle.device.specs.Wholes.{lent};
-ghost use Rattle.calls.specs.Answers.{Answers};
+ghost use Rattle.calls.specs.Answers.{datedCall, Answers};
 ghost use Rattle.ffi.specs.Plain.{coreOf};
 ghost use Rattle.ffi.specs.Replies.{plainRead};
 ghost use Rattle.ffi.specs.Answers.{Plainly};
@@ -27,7 +27,7 @@ pub extern "C" fn wondraxu_read<'a>(
     requires { ⌜ Ok (coreOf core) (lent «gone_at» flight tx host «run_at» «run_len» rx) ⌝ }
     ensures { λ r. ⌜ Plainly plainRead
         (λ c c′. Answers asRead readNumber
-        (read cycle offset (abs c (lent («gone_at» .entry) (flight .entry) (tx .entry) (host .entry) («run_at» .entry)
+        (datedCall cycle (read cycle offset) (abs c (lent («gone_at» .entry) (flight .entry) (tx .entry) (host .entry) («run_at» .entry)
         («run_len» .entry) (rx .entry)))) c
         (lent («gone_at» .entry) (flight .entry) (tx .entry) (host .entry) («run_at» .entry) («run_len» .entry) (rx .entry))
         c′

@@ -5,6 +5,7 @@ ghost use mathlib.Core.Path.{_≡_};
 ghost use Rattle.model.specs.Calls.{takeWritten};
 ghost use Rattle.device.specs.Holds.{Ok};
 ghost use Rattle.device.specs.Wholes.{lent};
+ghost use Rattle.calls.specs.Answers.{undatedCall};
 ghost use Rattle.host.specs.Takes.{TakesWith};
 ghost use Rattle.ffi.specs.Plain.{coreOf};
 ghost use Rattle.ffi.specs.Replies.{plainTaken};
@@ -24,7 +25,7 @@ pub extern "C" fn wondraxu_take_written<'a>(
 ) -> PlainAnswer
     requires { ⌜ Ok (coreOf core) (lent «gone_at» flight tx host «run_at» «run_len» rx) ⌝ }
     ensures { λ r. ⌜ Plainly plainTaken
-        (λ c c′ reply report. TakesWith (takeWritten (now (out .entry))) c
+        (λ c c′ reply report. TakesWith (undatedCall (takeWritten (now (out .entry)))) c
         (lent («gone_at» .entry) (flight .entry) (tx .entry) (host .entry) («run_at» .entry) («run_len» .entry) (rx .entry))
         c′
         (lent («gone_at» .entry) (flight .entry) (tx .entry) (host .entry) («run_at» .entry) («run_len» .entry) (rx .entry))

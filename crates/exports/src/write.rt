@@ -6,7 +6,7 @@ ghost use Rattle.model.specs.Replies.{writeNumber};
 ghost use Rattle.model.specs.Calls.{write};
 ghost use Rattle.device.specs.Holds.{abs, Ok};
 ghost use Rattle.device.specs.Wholes.{lent};
-ghost use Rattle.calls.specs.Answers.{Answers};
+ghost use Rattle.calls.specs.Answers.{datedCall, Answers};
 ghost use Rattle.ffi.specs.Plain.{coreOf};
 ghost use Rattle.ffi.specs.Replies.{plainWrite};
 ghost use Rattle.ffi.specs.Answers.{Plainly};
@@ -28,8 +28,8 @@ pub extern "C" fn wondraxu_write<'a>(
     requires { ⌜ Ok (coreOf core) (lent «gone_at» flight tx host «run_at» «run_len» rx) ⌝ }
     ensures { λ r. ⌜ Plainly plainWrite
         (λ c c′. Answers (λ x. x) writeNumber
-        (write cycle offset value (abs c (lent («gone_at» .entry) (flight .entry) (tx .entry) (host .entry) («run_at» .entry)
-        («run_len» .entry) (rx .entry)))) c
+        (datedCall cycle (write cycle offset value) (abs c (lent («gone_at» .entry) (flight .entry) (tx .entry) (host .entry)
+        («run_at» .entry) («run_len» .entry) (rx .entry)))) c
         (lent («gone_at» .entry) (flight .entry) (tx .entry) (host .entry) («run_at» .entry) («run_len» .entry) (rx .entry))
         c′
         (lent («gone_at» .exit) (flight .exit) (tx .exit) (host .entry) («run_at» .entry) («run_len» .exit) (rx .exit))) core r ⌝ }

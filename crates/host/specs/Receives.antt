@@ -3,7 +3,7 @@ use mathlib.Core.Path.{_≡_, refl, sym, ap, subst, _∙_}
 use mathlib.Core.Bool.{false}
 use mathlib.Core.List.{List, [], _∷_, _++_}
 use mathlib.Core.Logic.{⊎-elim}
-use mathlib.Core.Option.{Option, none}
+use mathlib.Core.Option.{Option, none, some}
 use Prim.Native.Nat.{ℕ, _+_, _-_, _≤_, _<_}
 use native.Mathlib.Omega.{arith}
 use borrow.Author.Tests.{ltb-false}
@@ -11,7 +11,7 @@ use lib.ListN.{length, take, getD}
 use Rattle.model.specs.State.{Run}
 use Rattle.model.specs.Settle
 use Rattle.model.specs.Calls
-use Rattle.model.specs.Calls.{unless, dated, settleAt, quiet, lastDate, hostDate, handOver, receiveWork}
+use Rattle.model.specs.Calls.{unless, dated, settleAt, carried, quiet, lastDate, hostDate, handOver}
 use Rattle.model.specs.Tests.{dateEnd, hostFull, runsFull}
 use Rattle.model.specs.Keeps.Dated.{not-refused}
 use Rattle.model.specs.Limits.{sum, runCounts}
@@ -27,7 +27,7 @@ use Rattle.queue.specs.Laws.{elems-length, elems-last}
 use Rattle.device.specs.Holds.{Arrays, runIn, runsOf, abs, Ok}
 use Rattle.device.specs.Settles.{Settles}
 use Rattle.device.specs.declared.Core.{Core}
-use Rattle.calls.specs.Answers.{Works, after, in-time, doneCore}
+use Rattle.calls.specs.Answers.{datedCall, datedWork, Works, after, in-time, doneCore}
 use Rattle.calls.specs.declared.answers.DoneCore.{DoneCore}
 use Rattle.device.specs.Joins.{RoomFor, last-some}
 use Rattle.host.specs.Hands.{waitingArrays, Takes, HandsAny}
@@ -59,7 +59,6 @@ module _ (cycle date k : ℕ) (c : Core) (a : Arrays) {c₁ : Core} {a₁ : Arra
     (room : Room c a date k)
     (some-byte : 1 ≤ k) where
   keeps : Kept (dated cycle (abs c a)) (abs c₁ a₁)
-  unfolding settleAt
   keeps =
       subst (Kept (dated cycle (abs c a))) (sym (s .gives .state))
       (settle-keeps cycle (dated cycle (abs c a)))
@@ -117,12 +116,13 @@ pub received : (cycle at : ℕ) (bs : List ℕ) {c : Core} {a : Arrays} → Ok c
     → {c₁ : Core} {a₁ : Arrays} {n o d : ℕ} {c₂ : Core} {hosts′ dates′ counts′ : List ℕ} {r : DoneCore}
     → Settles (settleAt cycle (abs c a)) c₁ a₁ n o → d ≡ hostDate cycle at
     → HandsAny d bs c₁ (a₁ .goneAt) (a₁ .host) (a₁ .runAt) (a₁ .runLen) c₂ hosts′ dates′ counts′ → r ≡ doneCore c₂ n o
-    → Works (λ x. x) (receiveWork cycle at bs (abs c a)) (r .core) (waitingArrays a₁ hosts′ dates′ counts′) (r .reply) (r .report)
-unfolding receiveWork quiet
+    → Works (λ x. x) (datedWork cycle (Calls.receive cycle at bs) (abs c a)) (r .core) (waitingArrays a₁ hosts′ dates′ counts′) (r .reply)
+    (r .report)
+unfolding carried Calls.receive quiet
 received cycle at bs {c} {a} _ {c₁} {a₁} {c₂ = c₂} {hosts′} {dates′} {counts′} s e hands same =
     let k = hands a₁ refl refl refl refl (s .ok .shape) in
-    subst (λ (x : DoneCore). Works (λ w. w) (receiveWork cycle at bs (abs c a)) (x .core) (waitingArrays a₁ hosts′ dates′ counts′)
-    (x .reply) (x .report)) (sym same)
+    subst (λ (x : DoneCore). Works (λ w. w) (datedWork cycle (Calls.receive cycle at bs) (abs c a)) (x .core)
+    (waitingArrays a₁ hosts′ dates′ counts′) (x .reply) (x .report)) (sym same)
     (after (λ x. x) s _
     (record { shape = k .shape; replies = refl; notes = refl; state = k .same ∙ ap (λ (x : ℕ). handOver x bs (abs c₁ a₁)) e }))
 
@@ -143,10 +143,12 @@ module _ (cycle at : ℕ) (bs : List ℕ) {c : Core} {a : Arrays} (ok : Ok c a) 
   checked =
       receiving cycle (c .control .last) (record { bytes = c .host .count; runs = c .runs .count; «last_date» = last }) (length bs) date
 
-  pub receive-checks : Calls.receive cycle at bs (abs c a) ≡ unless checked Done.Refused (receiveWork cycle at bs) (abs c a)
+  pub receive-checks : datedCall cycle (Calls.receive cycle at bs) (abs c a)
+      ≡ unless checked Done.Refused (carried (some cycle) (Calls.receive cycle at bs (abs c a))) (abs c a)
   receive-checks =
       receive-tests cycle (abs c a) at bs
-      ∙ ap (λ (t : Option Refusal). unless t Done.Refused (receiveWork cycle at bs) (abs c a)) (sym (tested cycle at bs c a el ed))
+      ∙ ap (λ (t : Option Refusal). unless t Done.Refused (carried (some cycle) (Calls.receive cycle at bs (abs c a))) (abs c a))
+      (sym (tested cycle at bs c a el ed))
 
   pub left-room : checked ≡ none → Ok c a × (cycle < dateEnd) × Room c a (hostDate cycle at) (length bs)
   unfolding receiving

@@ -7,7 +7,7 @@ use Rattle.model.specs.State
 use Rattle.model.specs.State.{withTx}
 use Rattle.model.specs.Settle
 use Rattle.model.specs.Replies.{contents, takenNumber}
-use Rattle.model.specs.Calls.{afterSettling, settleAt, quiet, filled, takeTxWork}
+use Rattle.model.specs.Calls.{afterSettling, settleAt, carried, quiet, filled, takeTx}
 use Rattle.model.specs.declared.Taken.{Taken}
 use Rattle.replies.specs.Notices.{noted}
 use Rattle.queue.specs.Cursors.{slotOf, empty}
@@ -16,7 +16,7 @@ use Rattle.queue.specs.declared.Cursor.{Cursor}
 use Rattle.device.specs.Holds.{Arrays, txOf, abs, Ok}
 use Rattle.device.specs.Settles.{Settles}
 use Rattle.device.specs.declared.Core.{Core}
-use Rattle.calls.specs.Answers.{Works, reportOf, after}
+use Rattle.calls.specs.Answers.{datedWork, Works, reportOf, after}
 use Rattle.host.specs.Takes.{TakeWorks, takeNumber, takenCore, emptied-shape}
 use Rattle.host.specs.declared.answers.TakeCore.{TakeCore}
 
@@ -64,14 +64,14 @@ took-tx lent {t} {c} {a} {n} {o} {k} {out} s e whole =
 pub tx-taken : (cycle : ℕ) (lent : List ℕ) {c₀ : Core} {a₀ : Arrays} → Ok c₀ a₀
     → {c : Core} {a : Arrays} {n o k : ℕ} {out : List ℕ} {none : Cursor} {r : TakeCore}
     → Settles (settleAt cycle (abs c₀ a₀)) c a n o → k ≡ c .tx .count → out ≡ txOf (a .tx) (c .tx) ++ drop (c .tx .count) lent
-    → none ≡ empty
-    → r ≡ takenCore (withTxOf none c) k n o → TakeWorks (takeTxWork cycle lent (abs c₀ a₀)) (r .core) a (r .reply) (r .report) out
-unfolding takeTxWork
+    → none ≡ empty → r ≡ takenCore (withTxOf none c) k n o
+    → TakeWorks (datedWork cycle (takeTx cycle lent) (abs c₀ a₀)) (r .core) a (r .reply) (r .report) out
+unfolding carried takeTx
 tx-taken cycle lent {c₀} {a₀} _ {c} {a} {n} {o} {k} {out} s e whole en same =
-    subst (λ (x : TakeCore). TakeWorks (takeTxWork cycle lent (abs c₀ a₀)) (x .core) a (x .reply) (x .report) out)
+    subst (λ (x : TakeCore). TakeWorks (datedWork cycle (takeTx cycle lent) (abs c₀ a₀)) (x .core) a (x .reply) (x .report) out)
     (sym (same ∙ ap (λ (v : Cursor). takenCore (withTxOf v c) k n o) en)) (took-tx lent s e whole)
 
 -- the number of a take that is carried out is 0
-pub take-tx-zero : (cycle : ℕ) (lent : List ℕ) (u : State.Uart ℕ ℕ) → takeNumber (takeTxWork cycle lent u .reply) ≡ 0
-unfolding takeTxWork afterSettling quiet filled takenNumber
+pub take-tx-zero : (cycle : ℕ) (lent : List ℕ) (u : State.Uart ℕ ℕ) → takeNumber (datedWork cycle (takeTx cycle lent) u .reply) ≡ 0
+unfolding carried takeTx afterSettling quiet filled takenNumber
 take-tx-zero cycle lent u = refl

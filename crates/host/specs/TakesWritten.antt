@@ -1,5 +1,6 @@
 -- take_written's work: the bytes that left and those in flight handed out, without settling. Assumes nothing.
 use mathlib.Core.Path.{_≡_, refl, sym, ap, _∙_}
+use mathlib.Core.Option.{none}
 use mathlib.Core.List.{List, _++_, map, append-assoc}
 use Prim.Native.Nat.{ℕ, _+_, _≤_}
 use native.Mathlib.Omega.{arith}
@@ -7,7 +8,7 @@ use lib.ListN.{length, drop, length-append}
 use Rattle.model.specs.State.{Sent}
 use Rattle.model.specs.Replies.{noReport, contents}
 use Rattle.model.specs.Tests.{sentLimit}
-use Rattle.model.specs.Calls.{undated, filled, written, takeWrittenWork}
+use Rattle.model.specs.Calls.{undated, carried, quiet, filled, written, takeWritten}
 use Rattle.model.specs.declared.Taken.{Taken}
 use Rattle.queue.specs.Cursors.{slotOf, elems, empty}
 use Rattle.queue.specs.Laws.{elems-length, map-elems, empty-held, empty-elems}
@@ -47,8 +48,8 @@ emptiedAll c = record {
 
 -- all that was written, handed out without settling
 pub took-written : (lent : List ℕ) (c : Core) (a : Arrays) {k : ℕ} {out : List ℕ} → Shape c a → Filled c (a .flight) (a .tx) lent k out
-    → TakeWorks (takeWrittenWork lent (abs c a)) (emptiedAll c) a (Taken.Bytes k) noReport out
-unfolding takeWrittenWork undated filled written contents
+    → TakeWorks (carried none (takeWritten lent (abs c a)) (abs c a)) (emptiedAll c) a (Taken.Bytes k) noReport out
+unfolding carried takeWritten undated quiet filled written contents
 took-written lent c a {k} {out} s f =
     let bytes : map (λ (x : Sent ℕ). x .byte) (abs c a .inFlight) ≡ elems (slotOf (a .flight) 0) 129 (c .flight) =
     map-elems (λ (x : Sent ℕ). x .byte) (sentAt (a .goneAt) (a .flight)) 129 (c .flight) in

@@ -9,10 +9,10 @@ ghost use mathlib.Core.Path.{_≡_};
 ghost use Prim.Native.Nat.{_<_};
 ghost use lib.ListN.{length};
 ghost use Rattle.model.specs.Tests.{dateEnd};
-ghost use Rattle.model.specs.Calls.{receive as Calls·receive, receiveWork, hostDate};
+ghost use Rattle.model.specs.Calls.{receive as Calls·receive, hostDate};
 ghost use Rattle.device.specs.Holds.{abs, Ok};
 ghost use Rattle.device.specs.Wholes.{lent};
-ghost use Rattle.calls.specs.Answers.{Works, DoneWith};
+ghost use Rattle.calls.specs.Answers.{datedCall, datedWork, Works, DoneWith};
 ghost use Rattle.host.specs.Hands.{Takes, HandsAny};
 ghost use Rattle.host.specs.Receives.{Room};
 
@@ -67,8 +67,8 @@ fn carry_out<'a, 'b>(
         × (cycle < dateEnd) × Room core (lent «gone_at» flight tx host «run_at» «run_len» rx) (hostDate cycle at)
         (length (now bytes)) ⌝ }
     ensures { λ r. ⌜ Works (λ x. x)
-        (receiveWork cycle at (now (bytes .entry)) (abs core (lent («gone_at» .entry) (flight .entry) (tx .entry) (host .entry)
-        («run_at» .entry) («run_len» .entry) (rx .entry))))
+        (datedWork cycle (Calls·receive cycle at (now (bytes .entry))) (abs core (lent («gone_at» .entry) (flight .entry) (tx .entry)
+        (host .entry) («run_at» .entry) («run_len» .entry) (rx .entry))))
         (r .core)
         (lent («gone_at» .entry) (flight .entry) (tx .exit) (host .exit) («run_at» .exit) («run_len» .exit) (rx .exit))
         (r .reply) (r .report) ⌝ }
@@ -100,7 +100,7 @@ pub fn receive<'a, 'b>(
     bytes: &'b [u8],
 ) -> DoneCore
     requires { ⌜ Ok core (lent «gone_at» flight tx host «run_at» «run_len» rx) ⌝ }
-    ensures { λ r. ⌜ DoneWith (Calls·receive cycle at (now (bytes .entry))) core
+    ensures { λ r. ⌜ DoneWith (datedCall cycle (Calls·receive cycle at (now (bytes .entry)))) core
         (lent («gone_at» .entry) (flight .entry) (tx .entry) (host .entry) («run_at» .entry) («run_len» .entry) (rx .entry)) (r .core)
         (lent («gone_at» .entry) (flight .entry) (tx .exit) (host .exit) («run_at» .exit) («run_len» .exit) (rx .exit))
         (r .reply) (r .report) ⌝ }

@@ -9,9 +9,10 @@ ghost use mathlib.Core.Path.{_≡_};
 ghost use Prim.Native.Nat.{_<_, _≤_};
 ghost use lib.ListN.{length};
 ghost use Rattle.model.specs.Tests.{dateEnd, sentLimit};
-ghost use Rattle.model.specs.Calls.{takeTx, takeTxWork};
+ghost use Rattle.model.specs.Calls.{takeTx};
 ghost use Rattle.device.specs.Holds.{abs, Ok};
 ghost use Rattle.device.specs.Wholes.{lent};
+ghost use Rattle.calls.specs.Answers.{datedCall, datedWork};
 ghost use Rattle.host.specs.Takes.{TakeWorks, TakesWith};
 
 fn carry_out<'a, 'b>(
@@ -29,7 +30,7 @@ fn carry_out<'a, 'b>(
     requires { ⌜ Ok core (lent «gone_at» flight tx host «run_at» «run_len» rx)
         × (cycle < dateEnd) × (sentLimit ≤ length (now out)) ⌝ }
     ensures { λ r. ⌜ TakeWorks
-        (takeTxWork cycle (now (out .entry)) (abs core (lent («gone_at» .entry) (flight .entry) (tx .entry) (host .entry)
+        (datedWork cycle (takeTx cycle (now (out .entry))) (abs core (lent («gone_at» .entry) (flight .entry) (tx .entry) (host .entry)
         («run_at» .entry) («run_len» .entry) (rx .entry))))
         (r .core)
         (lent («gone_at» .entry) (flight .entry) (tx .exit) (host .entry) («run_at» .entry) («run_len» .exit) (rx .exit))
@@ -55,7 +56,7 @@ pub fn take_tx<'a, 'b>(
     out: &'b mut [u8],
 ) -> TakeCore
     requires { ⌜ Ok core (lent «gone_at» flight tx host «run_at» «run_len» rx) ⌝ }
-    ensures { λ r. ⌜ TakesWith (takeTx cycle (now (out .entry))) core
+    ensures { λ r. ⌜ TakesWith (datedCall cycle (takeTx cycle (now (out .entry)))) core
         (lent («gone_at» .entry) (flight .entry) (tx .entry) (host .entry) («run_at» .entry) («run_len» .entry) (rx .entry)) (r .core)
         (lent («gone_at» .entry) (flight .entry) (tx .exit) (host .entry) («run_at» .entry) («run_len» .exit) (rx .exit))
         (r .reply) (r .report) (now (out .exit)) ⌝ }

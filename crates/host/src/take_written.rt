@@ -12,6 +12,7 @@ ghost use Rattle.model.specs.Calls.{takeWritten};
 ghost use Rattle.queue.specs.Cursors.{Held};
 ghost use Rattle.device.specs.Holds.{Ok};
 ghost use Rattle.device.specs.Wholes.{lent};
+ghost use Rattle.calls.specs.Answers.{undatedCall};
 ghost use Rattle.host.specs.Takes.{TakesWith};
 ghost use Rattle.host.specs.TakesWritten.{Filled};
 
@@ -38,7 +39,7 @@ pub fn take_written<'a>(
     out: &'a mut [u8],
 ) -> TakeCore
     requires { ⌜ Ok core (lent «gone_at» flight tx host «run_at» «run_len» rx) ⌝ }
-    ensures { λ r. ⌜ TakesWith (takeWritten (now (out .entry))) core
+    ensures { λ r. ⌜ TakesWith (undatedCall (takeWritten (now (out .entry)))) core
         (lent («gone_at» .entry) (flight .entry) (tx .entry) (host .entry) («run_at» .entry) («run_len» .entry) (rx .entry)) (r .core)
         (lent («gone_at» .entry) (flight .entry) (tx .entry) (host .entry) («run_at» .entry) («run_len» .entry) (rx .entry))
         (r .reply) (r .report) (now (out .exit)) ⌝ }

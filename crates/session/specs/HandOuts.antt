@@ -15,11 +15,12 @@ use Rattle.text.specs.Ascii.{ascii}
 use Rattle.text.specs.Same.{sameBytes, same-refl}
 use Rattle.model.specs.State.{Uart}
 use Rattle.model.specs.Replies.{Take, contents}
-use Rattle.model.specs.Calls.{Outcome, refusing, unless, afterSettling, undated, quiet, filled, notTaken, takeTx, takeTxWork, takeWritten}
-use Rattle.model.specs.Calls.{takeWrittenWork}
+use Rattle.model.specs.Calls.{Outcome, refusing, unless, afterSettling, undated, carried, outcome, quiet, filled, notTaken, takeTx}
+use Rattle.model.specs.Calls.{takeWritten}
 use Rattle.model.specs.declared.Refusal.{Refusal}
 use Rattle.model.specs.declared.Report.{Report}
 use Rattle.model.specs.declared.Taken.{Taken}
+use Rattle.calls.specs.Answers.{datedCall, undatedCall}
 use Rattle.answers.specs.Reports.{reportText}
 use Rattle.answers.specs.Replies.{refusalText, handOutText}
 use Rattle.session.specs.Requests.{markAt, marksFrom, handedText}
@@ -117,13 +118,13 @@ unfolding unless refusing
 unless-handed lent none work u h = h
 unless-handed lent (some q) work u h = kept q
 
-tx-handed : (now : ℕ) (lent : List ℕ) (u : Uart ℕ ℕ) → Handed lent (takeTx now lent u .reply)
-unfolding takeTx takeTxWork afterSettling quiet
-tx-handed now lent u = unless-handed lent _ (takeTxWork now lent) u (gave _)
+tx-handed : (now : ℕ) (lent : List ℕ) (u : Uart ℕ ℕ) → Handed lent (datedCall now (takeTx now lent) u .reply)
+unfolding outcome carried takeTx afterSettling quiet
+tx-handed now lent u = unless-handed lent _ _ u (gave _)
 
-written-handed : (lent : List ℕ) (u : Uart ℕ ℕ) → Handed lent (takeWritten lent u .reply)
-unfolding takeWritten takeWrittenWork undated
-written-handed lent u = unless-handed lent _ (takeWrittenWork lent) u (gave _)
+written-handed : (lent : List ℕ) (u : Uart ℕ ℕ) → Handed lent (undatedCall (takeWritten lent) u .reply)
+unfolding outcome carried takeWritten undated quiet
+written-handed lent u = unless-handed lent _ _ u (gave _)
 
 -- the bytes stand at the front, and what is after them was not changed
 handed-line : (end : List ℕ) (n : ℕ) (t : Take ℕ ℕ) → Handed (marksFrom 0 n) t
@@ -149,13 +150,13 @@ handed-line end n t (kept q) = refl
 
 module _ (n : ℕ) (u : Uart ℕ ℕ) (end : List ℕ) where
   pub tx-line : (now : ℕ) (lent : List ℕ) → lent ≡ marksFrom 0 n
-      → lineOf end (contents (takeTx now lent u .reply)) (takeTx now lent u .reply .taken)
-      ≡ handedText end (takeTx now lent u .reply .front) (takeTx now lent u .reply .taken)
+      → let reply : Take ℕ ℕ = datedCall now (takeTx now lent) u .reply in
+      lineOf end (contents reply) (reply .taken) ≡ handedText end (reply .front) (reply .taken)
   tx-line now lent e =
-      handed-line end n _ (subst (λ (l : List ℕ). Handed l (takeTx now lent u .reply)) e (tx-handed now lent u))
+      handed-line end n _ (subst (λ (l : List ℕ). Handed l (datedCall now (takeTx now lent) u .reply)) e (tx-handed now lent u))
 
   pub written-line : (lent : List ℕ) → lent ≡ marksFrom 0 n
-      → lineOf end (contents (takeWritten lent u .reply)) (takeWritten lent u .reply .taken)
-      ≡ handedText end (takeWritten lent u .reply .front) (takeWritten lent u .reply .taken)
+      → let reply : Take ℕ ℕ = undatedCall (takeWritten lent) u .reply in
+      lineOf end (contents reply) (reply .taken) ≡ handedText end (reply .front) (reply .taken)
   written-line lent e =
-      handed-line end n _ (subst (λ (l : List ℕ). Handed l (takeWritten lent u .reply)) e (written-handed lent u))
+      handed-line end n _ (subst (λ (l : List ℕ). Handed l (undatedCall (takeWritten lent) u .reply)) e (written-handed lent u))

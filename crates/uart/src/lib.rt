@@ -23,6 +23,7 @@ ghost use Rattle.model.specs.Calls.{read as Calls·read, write as Calls·write,
 ghost use Rattle.model.specs.Calls.{watch as Calls·watch, receive as Calls·receive, clockChange, powerDown};
 ghost use Rattle.model.specs.Calls.{takeTx, takeWritten, hasLeft, hostPending};
 ghost use Rattle.device.specs.Settles.{Settles};
+ghost use Rattle.calls.specs.Answers.{datedCall, undatedCall};
 ghost use Rattle.calls.specs.Undated.{leftReply, pendingReply};
 ghost use Rattle.uart.specs.Whole.{arraysOf, meaning, Good, Answered, Took, SetsUp, afterDone, afterTake};
 
@@ -147,7 +148,7 @@ impl Uart {
     // The value at an offset.
     pub fn read(mut self, cycle: u64, offset: u32) -> AfterRead
         requires { ⌜ Good self ⌝ }
-        ensures { λ r. ⌜ Answered asRead readNumber (Calls·read cycle offset) self (r .uart) (r .reply) (r .report) ⌝ }
+        ensures { λ r. ⌜ Answered asRead readNumber (datedCall cycle (Calls·read cycle offset)) self (r .uart) (r .reply) (r .report) ⌝ }
     {
         let mut tx = self.tx;
         let mut run_len = self.run_len;
@@ -181,7 +182,8 @@ impl Uart {
     // A write at an offset.
     pub fn write(mut self, cycle: u64, offset: u32, value: u32) -> AfterWrite
         requires { ⌜ Good self ⌝ }
-        ensures { λ r. ⌜ Answered (λ x. x) writeNumber (Calls·write cycle offset value) self (r .uart) (r .reply) (r .report) ⌝ }
+        ensures { λ r. ⌜ Answered (λ x. x) writeNumber (datedCall cycle (Calls·write cycle offset value)) self (r .uart) (r .reply)
+            (r .report) ⌝ }
     {
         let mut gone_at = self.gone_at;
         let mut flight = self.flight;
@@ -250,7 +252,7 @@ impl Uart {
     // The armed cycle has come.
     pub fn wake(mut self, cycle: u64) -> AfterDone
         requires { ⌜ Good self ⌝ }
-        ensures { λ r. ⌜ Answered (λ x. x) doneNumber (Calls·wake cycle) self (r .uart) (r .reply) (r .report) ⌝ }
+        ensures { λ r. ⌜ Answered (λ x. x) doneNumber (datedCall cycle (Calls·wake cycle)) self (r .uart) (r .reply) (r .report) ⌝ }
     {
         let mut tx = self.tx;
         let mut run_len = self.run_len;
@@ -275,7 +277,7 @@ impl Uart {
     // A reset of the UART.
     pub fn reset(mut self, cycle: u64) -> AfterDone
         requires { ⌜ Good self ⌝ }
-        ensures { λ r. ⌜ Answered (λ x. x) doneNumber (Calls·reset cycle) self (r .uart) (r .reply) (r .report) ⌝ }
+        ensures { λ r. ⌜ Answered (λ x. x) doneNumber (datedCall cycle (Calls·reset cycle)) self (r .uart) (r .reply) (r .report) ⌝ }
     {
         let mut tx = self.tx;
         let mut run_len = self.run_len;
@@ -300,7 +302,7 @@ impl Uart {
     // Another period of the APB clock, in cycles.
     pub fn clock_change(mut self, cycle: u64, period: u64) -> AfterDone
         requires { ⌜ Good self ⌝ }
-        ensures { λ r. ⌜ Answered (λ x. x) doneNumber (clockChange cycle period) self (r .uart) (r .reply) (r .report) ⌝ }
+        ensures { λ r. ⌜ Answered (λ x. x) doneNumber (datedCall cycle (clockChange cycle period)) self (r .uart) (r .reply) (r .report) ⌝ }
     {
         let mut tx = self.tx;
         let mut run_len = self.run_len;
@@ -326,8 +328,8 @@ impl Uart {
     // The host hands over bytes that may start at a cycle.
     pub fn receive(mut self, cycle: u64, at: u64, bytes: &[u8]) -> AfterDone
         requires { ⌜ Good self ⌝ }
-        ensures { λ r. ⌜ Answered (λ x. x) doneNumber (Calls·receive cycle at (now (bytes .entry))) self (r .uart) (r .reply)
-            (r .report) ⌝ }
+        ensures { λ r. ⌜ Answered (λ x. x) doneNumber (datedCall cycle (Calls·receive cycle at (now (bytes .entry)))) self (r .uart)
+            (r .reply) (r .report) ⌝ }
     {
         let mut tx = self.tx;
         let mut host = self.host;
@@ -358,7 +360,8 @@ impl Uart {
     // The bytes that have left, to the front of a lent buffer.
     pub fn take_tx(mut self, cycle: u64, out: &mut [u8]) -> AfterTake
         requires { ⌜ Good self ⌝ }
-        ensures { λ r. ⌜ Took (takeTx cycle (now (out .entry))) self (r .uart) (r .reply) (r .report) (now (out .exit)) ⌝ }
+        ensures { λ r. ⌜ Took (datedCall cycle (takeTx cycle (now (out .entry)))) self (r .uart) (r .reply) (r .report)
+            (now (out .exit)) ⌝ }
     {
         let mut tx = self.tx;
         let mut run_len = self.run_len;
@@ -384,7 +387,7 @@ impl Uart {
     // Whether the first departure asks for a wake.
     pub fn watch(mut self, cycle: u64, on: bool) -> AfterDone
         requires { ⌜ Good self ⌝ }
-        ensures { λ r. ⌜ Answered (λ x. x) doneNumber (Calls·watch cycle on) self (r .uart) (r .reply) (r .report) ⌝ }
+        ensures { λ r. ⌜ Answered (λ x. x) doneNumber (datedCall cycle (Calls·watch cycle on)) self (r .uart) (r .reply) (r .report) ⌝ }
     {
         let done = watch::watch(
             self.core,
@@ -404,7 +407,7 @@ impl Uart {
     // Nothing moves after this cycle until a reset.
     pub fn power_down(mut self, cycle: u64) -> AfterDone
         requires { ⌜ Good self ⌝ }
-        ensures { λ r. ⌜ Answered (λ x. x) doneNumber (powerDown cycle) self (r .uart) (r .reply) (r .report) ⌝ }
+        ensures { λ r. ⌜ Answered (λ x. x) doneNumber (datedCall cycle (powerDown cycle)) self (r .uart) (r .reply) (r .report) ⌝ }
     {
         let done = power_down::power_down(
             self.core,
@@ -423,7 +426,7 @@ impl Uart {
     // All that was written, to the front of a lent buffer.
     pub fn take_written(mut self, out: &mut [u8]) -> AfterTake
         requires { ⌜ Good self ⌝ }
-        ensures { λ r. ⌜ Took (takeWritten (now (out .entry))) self (r .uart) (r .reply) (r .report) (now (out .exit)) ⌝ }
+        ensures { λ r. ⌜ Took (undatedCall (takeWritten (now (out .entry)))) self (r .uart) (r .reply) (r .report) (now (out .exit)) ⌝ }
     {
         let written = host::take_written::take_written(
             self.core,
@@ -442,7 +445,7 @@ impl Uart {
     // Whether a byte has left that no call has taken.
     pub fn has_left(self) -> HasLeft
         requires { ⌜ Good self ⌝ }
-        ensures { λ r. ⌜ r ≡ leftReply (hasLeft (meaning self) .reply) ⌝ }
+        ensures { λ r. ⌜ r ≡ leftReply (undatedCall hasLeft (meaning self) .reply) ⌝ }
     {
         calls::queries::has_left(self.core)
     }
@@ -450,7 +453,7 @@ impl Uart {
     // The host bytes that have not landed.
     pub fn host_pending(self) -> HostPending
         requires { ⌜ Good self ⌝ }
-        ensures { λ r. ⌜ r ≡ pendingReply (hostPending (meaning self) .reply) ⌝ }
+        ensures { λ r. ⌜ r ≡ pendingReply (undatedCall hostPending (meaning self) .reply) ⌝ }
     {
         calls::queries::host_pending(self.core)
     }

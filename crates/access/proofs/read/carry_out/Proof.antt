@@ -2,7 +2,7 @@
 use mathlib.Core.Path.{refl}
 use Rattle.model.specs.Replies.{asRead}
 use Rattle.model.specs.Registers.{readAt}
-use Rattle.model.specs.Calls.{readWork}
+use Rattle.model.specs.Calls.{carried, readPlaced}
 use Rattle.registers.specs.Places.{registerAt}
 use Rattle.calls.specs.Answers.{after}
 use borrow.Author.Needs.{needs}
@@ -13,7 +13,7 @@ answer-requires : tie.Need-answer-requires
 answer-requires c κs = tt
 
 returns : tie.Need-returns
-unfolding readWork
+unfolding carried readPlaced
 returns c =
     let s = c .before .before .before .before .before .before .settle-at .ensures in
     rw (c .answer .ensures) (after asRead s (readAt

@@ -2,7 +2,7 @@
 use mathlib.Core.Option.{none}
 use Rattle.model.specs.Map.{registerOf}
 use Rattle.model.specs.Registers.{readAt}
-use Rattle.model.specs.Calls.{afterSettling, readWork}
+use Rattle.model.specs.Calls.{afterSettling, readPlaced}
 use Rattle.model.specs.Calls
 use Rattle.model.specs.Replies.{refused, asRead, readNumber}
 use Rattle.model.specs.Keeps.EachCall.{read-within}
@@ -43,11 +43,11 @@ returns c =
     let o = start .args in
     let register = registerOf (o .core .map .offsets) (o .offset) in
     rw (c .refuse .ensures)
-    (turned-away asRead readNumber refused (readWork (o .cycle) register) _ _ (read-tests (o .cycle) _ register)
+    (turned-away asRead readNumber refused _ _ _ (read-tests (o .cycle) _ register)
     (refuses (c .before .before .before .before .date-refusal .ensures) (c .before .before .tests .given .1)) (start .pre))
 
 returns-2 : tie.Need-returns-2
-unfolding Calls.read readWork afterSettling readAt
+unfolding Calls.read Calls.carried readPlaced afterSettling readAt
 returns-2 c =
     let start = c .before .before .before .before .before .before .before .before .before .before .before in
     let o = start .args in
@@ -55,7 +55,7 @@ returns-2 c =
     let tests =
     passes (c .before .before .before .before .before .before .date-refusal .ensures)
     (c .before .before .before .before .enum-told .given .1) in
-    carried asRead readNumber refused (readWork (o .cycle) register) _ _ (read-tests (o .cycle) _ register) tests
+    carried asRead readNumber refused _ _ _ (read-tests (o .cycle) _ register) tests
     (read-within (o .cycle) (o .offset) _ (start .pre .within)) (looking-proper _ _ _ .zero)
     (rw (c .before .before .before .before .before .before .before .before .place-of .ensures) at (c .carry-out .ensures))
 

@@ -17,11 +17,17 @@ returns-2 c = (rw (le-ltb _ 32 (c .before .if1 .left), eq-eqb _ 32 (c .if2 .take
 
 returns-3 : tie.Need-returns-3
 unfolding offsetAt choose
-returns-3 c = (rw (le-ltb _ 32 (c .before .before .if1 .left), ne-eqb _ 32 (c .before .if2 .left), lt-ltb _ 133 (c .if3 .taken)), omega arith)
+returns-3 c = (
+  rw (le-ltb _ 32 (c .before .before .if1 .left), ne-eqb _ 32 (c .before .if2 .left), lt-ltb _ 133 (c .if3 .taken)),
+  omega arith,
+)
 
 returns-4 : tie.Need-returns-4
 unfolding offsetAt choose
-returns-4 c = (rw (le-ltb _ 32 (c .before .before .if1 .left), ne-eqb _ 32 (c .before .if2 .left), le-ltb _ 133 (c .if3 .left)), omega arith)
+returns-4 c = (
+  rw (le-ltb _ 32 (c .before .before .if1 .left), ne-eqb _ 32 (c .before .if2 .left), le-ltb _ 133 (c .if3 .left)),
+  omega arith,
+)
 
 pub offset-at-spec : {M : Type 1} → statement M
 offset-at-spec =

@@ -1,16 +1,11 @@
 -- `power_down::power_down` meets its contract: refused as the tests say, or its date is set. Assumes nothing.
 use mathlib.Core.Path.{refl}
-use Rattle.dates.specs.Dates.{subcycles}
-use Rattle.model.specs.State.{withPoweredDownAt, withControl}
-use Rattle.model.specs.declared.Date.{Date}
-use Rattle.model.specs.Replies.{doneNumber}
-use Rattle.model.specs.Calls.{dated, afterSettling, carried, quiet, powerDown}
+use Rattle.model.specs.Calls.{dated, powerDown}
 use Rattle.model.specs.Keeps.EachCall.{powerDown-within}
 use Rattle.replies.specs.Calls.{power-down-tests}
-use Rattle.device.specs.Holds.{abs}
-use Rattle.calls.specs.Answers.{passes, refuses, unsettled-works}
+use Rattle.calls.specs.Answers.{passes, refuses}
 use Rattle.calls.specs.Changes.{shape-of}
-use Rattle.calls.specs.Done.{done-carried, done-refused}
+use Rattle.calls.specs.Done.{done-refused, done-unsettled}
 use Rattle.calls.proofs.power_down.power_down.Statement.{statement}
 use Rattle.calls.proofs.power_down.power_down.Tie as tie
 
@@ -46,21 +41,20 @@ returns c =
     (refuses (c .before .before .before .before .date-refusal .ensures) (c .before .before .tests .given .1)) (c .refuse .ensures)
 
 returns-2 : tie.Need-returns-2
-unfolding carried powerDown dated afterSettling quiet doneNumber
+unfolding powerDown dated
 returns-2 c =
     let start = c .before .before .before .before .before .before .before .before in
     let o = start .args in
+    let down =
     rw (
-      c .done .ensures,
       c .before .with-powered-down-at .ensures,
       c .before .before .before .with-last .ensures,
       c .before .before .subcycles .ensures,
-    )
-    (done-carried (o .cycle) (powerDown (o .cycle)) (start .pre) (power-down-tests (o .cycle) _)
+    ) at (c .done .ensures) in
+    done-unsettled (o .cycle) (powerDown (o .cycle)) (start .pre) (power-down-tests (o .cycle) _) _ refl
     (passes (c .before .before .before .before .before .before .date-refusal .ensures)
-    (c .before .before .before .before .enum-told .given .1)) (powerDown-within (o .cycle) _ (start .pre .within)) refl
-    (unsettled-works (λ x. x) {u = dated (o .cycle) (abs (o .core) _)} (λ s. withControl (withPoweredDownAt (Date.At (subcycles (o .cycle))) (s .control)) s)
-    (shape-of _ _ _ (start .pre .shape)) refl))
+    (c .before .before .before .before .enum-told .given .1)) (powerDown-within (o .cycle) _ (start .pre .within))
+    (shape-of _ _ _ (start .pre .shape)) refl down
 
 pub power-down-spec : {M : Type 1} → statement M
 power-down-spec =

@@ -1,15 +1,11 @@
 -- `watch::watch` meets its contract: refused as the tests say, or armed. Assumes nothing.
 use mathlib.Core.Path.{refl}
-use Rattle.model.specs.State.{withWatched, withControl}
-use Rattle.model.specs.Arm.{arm}
-use Rattle.model.specs.Replies.{doneNumber}
-use Rattle.model.specs.Calls.{dated, afterSettling, carried, quiet, watch}
+use Rattle.model.specs.Calls.{dated, watch}
 use Rattle.model.specs.Keeps.EachCall.{watch-within}
 use Rattle.replies.specs.Calls.{watch-tests}
-use Rattle.device.specs.Holds.{abs}
-use Rattle.calls.specs.Answers.{passes, refuses, unsettled-works}
+use Rattle.calls.specs.Answers.{passes, refuses}
 use Rattle.calls.specs.Changes.{ready, shape-of}
-use Rattle.calls.specs.Done.{done-carried, done-refused}
+use Rattle.calls.specs.Done.{done-refused, done-unsettled}
 use Rattle.calls.proofs.watch.watch.Statement.{statement}
 use Rattle.calls.proofs.watch.watch.Tie as tie
 
@@ -44,17 +40,15 @@ returns c =
     (refuses (c .before .before .before .before .date-refusal .ensures) (c .before .before .tests .given .1)) (c .refuse .ensures)
 
 returns-2 : tie.Need-returns-2
-unfolding carried watch dated afterSettling quiet doneNumber
+unfolding watch dated
 returns-2 c =
     let start = c .before .before .before .before .before .before .before in
     let o = start .args in
     let armed = rw (c .before .before .with-watched .ensures) at (c .before .arm .ensures) in
     let works = armed _ refl refl (shape-of _ _ _ (start .pre .shape)) in
-    rw (c .done .ensures)
-    (done-carried (o .cycle) (watch (o .cycle) (o .on)) (start .pre) (watch-tests (o .cycle) _ (o .on))
+    done-unsettled (o .cycle) (watch (o .cycle) (o .on)) (start .pre) (watch-tests (o .cycle) _ (o .on)) _ refl
     (passes (c .before .before .before .before .before .date-refusal .ensures) (c .before .before .before .enum-told .given .1))
-    (watch-within (o .cycle) (o .on) _ (start .pre .within)) refl
-    (unsettled-works (λ x. x) {u = dated (o .cycle) (abs (o .core) _)} (λ s. arm (withControl (withWatched (o .on) (s .control)) s)) (works .shape) (works .same)))
+    (watch-within (o .cycle) (o .on) _ (start .pre .within)) (works .shape) (works .same) (c .done .ensures)
 
 pub watch-spec : {M : Type 1} → statement M
 watch-spec =

@@ -14,7 +14,8 @@ pending-reply-requires : tie.Need-pending-reply-requires
 pending-reply-requires c κs = tt
 
 returns : tie.Need-returns
-returns c = λ a. c .pending-reply .ensures ∙ ap plainPending (rw (c .before .before .core-of .ensures) at (c .before .host-pending .ensures a))
+returns c = λ a.
+    c .pending-reply .ensures ∙ ap plainPending (rw (c .before .before .core-of .ensures) at (c .before .host-pending .ensures a))
 
 pub wondraxu-host-pending-spec : {M : Type 1} → statement M
 wondraxu-host-pending-spec = tie.close (tie.spec core-of-requires host-pending-requires pending-reply-requires returns)

@@ -1,5 +1,5 @@
 -- `receive::receive` meets its contract: refused as the tests say, or carried out. Assumes nothing.
-use Rattle.model.specs.Calls.{receive, receiveWork}
+use Rattle.model.specs.Calls.{receive}
 use Rattle.model.specs.Keeps.EachCall.{receive-within}
 use Rattle.calls.specs.Answers.{passes, refuses}
 use Rattle.calls.specs.Done.{done-carried, done-refused, receive-zero}
@@ -39,7 +39,7 @@ returns : tie.Need-returns
 returns c =
     let start = c .before .before .before .before .before .before .before .before .before .before in
     let o = start .args in
-    done-refused (receive (o .cycle) (o .at) (o .bytes .now)) (receiveWork (o .cycle) (o .at) (o .bytes .now)) (start .pre)
+    done-refused (o .cycle) (receive (o .cycle) (o .at) (o .bytes .now)) (start .pre)
     (receive-checks (o .cycle) (o .at) (o .bytes .now) (start .pre)
     (c .before .before .before .before .before .before .last-date .ensures (o .run-len .now))
     (c .before .before .before .before .before .host-date .ensures))
@@ -49,7 +49,7 @@ returns-2 : tie.Need-returns-2
 returns-2 c =
     let start = c .before .before .before .before .before .before .before .before .before .before .before .before .before .before in
     let o = start .args in
-    done-carried (receive (o .cycle) (o .at) (o .bytes .now)) (receiveWork (o .cycle) (o .at) (o .bytes .now)) (start .pre)
+    done-carried (o .cycle) (receive (o .cycle) (o .at) (o .bytes .now)) (start .pre)
     (receive-checks (o .cycle) (o .at) (o .bytes .now) (start .pre)
     (c .before .before .before .before .before .before .before .before .before .before .last-date .ensures (o .run-len .now))
     (c .before .before .before .before .before .before .before .before .before .host-date .ensures))

@@ -2,7 +2,6 @@
 use mathlib.Core.Option.{none}
 use borrow.Author.Tests.{ltb-false}
 use Rattle.model.specs.Keeps.Dated.{not-refused}
-use Rattle.model.specs.Calls.{takeTxWork}
 use Rattle.model.specs.Keeps.EachCall.{takeTx-within}
 use Rattle.replies.specs.Refusals.{takingTx, takingWritten}
 use Rattle.replies.specs.Calls.{take-tests}
@@ -39,14 +38,14 @@ carry-out-requires c κs =
 returns : tie.Need-returns
 returns c =
     let o = c .before .before .before .before .before .before .before .args in
-    take-refused (o .out .now) (takeTxWork (o .cycle) (o .out .now)) _ _ (take-tests (o .cycle) _ (o .out .now))
+    take-refused (o .out .now) _ _ _ (take-tests (o .cycle) _ (o .out .now))
     (refuses (c .before .before .before .before .take-refusal .ensures) (c .before .before .tests .given .1))
     (c .before .before .before .before .before .before .before .pre) (c .refuse .ensures)
 
 returns-2 : tie.Need-returns-2
 returns-2 c =
     let o = c .before .before .before .before .before .before .before .before .before .before .before .before .args in
-    take-carried (o .out .now) (takeTxWork (o .cycle) (o .out .now)) _ _ (take-tests (o .cycle) _ (o .out .now))
+    take-carried (o .out .now) _ _ _ (take-tests (o .cycle) _ (o .out .now))
     (passes (c .before .before .before .before .before .before .before .before .before .take-refusal .ensures)
     (c .before .before .before .before .before .before .before .enum-told .given .1))
     (takeTx-within (o .cycle) (o .out .now) _ (c .before .before .before .before .before .before .before .before .before .before .before

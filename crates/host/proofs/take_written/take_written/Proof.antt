@@ -4,7 +4,7 @@ use mathlib.Core.Option.{none}
 use borrow.Author.Tests.{ltb-false}
 use Rattle.model.specs.Keeps.Dated.{not-refused}
 use Rattle.model.specs.Replies.{takenNumber}
-use Rattle.model.specs.Calls.{takeWrittenWork, undated, filled}
+use Rattle.model.specs.Calls.{undated, carried, quiet, filled, takeWritten}
 use Rattle.model.specs.Keeps.EachCall.{takeWritten-within}
 use Rattle.replies.specs.Refusals.{takingWritten}
 use Rattle.replies.specs.Calls.{written-tests}
@@ -53,17 +53,17 @@ returns : tie.Need-returns
 returns c =
     let start = c .before .before .before .before .before .before in
     let o = start .args in
-    take-refused (o .out .now) (takeWrittenWork (o .out .now)) _ _ (written-tests (o .out .now) _)
+    take-refused (o .out .now) _ _ _ (written-tests (o .out .now) _)
     (refuses (c .before .before .before .before .written-refusal .ensures) (c .before .before .tests .given .1)) (start .pre)
     (c .refuse .ensures)
 
 returns-2 : tie.Need-returns-2
-unfolding takeWrittenWork undated filled takenNumber
+unfolding carried takeWritten undated quiet filled takenNumber
 returns-2 c =
     let start = c .before .before .before .before .before .before .before .before .before .before .before in
     let o = start .args in
     rw (c .undated .ensures, c .before .before .new .ensures, c .before .new2 .ensures)
-    (take-carried (o .out .now) (takeWrittenWork (o .out .now)) _ _ (written-tests (o .out .now) _)
+    (take-carried (o .out .now) _ _ _ (written-tests (o .out .now) _)
     (passes (c .before .before .before .before .before .before .before .before .before .written-refusal .ensures)
     (c .before .before .before .before .before .before .before .enum-told .given .1))
     (takeWritten-within (o .out .now) _ (start .pre .within)) refl

@@ -9,7 +9,7 @@ use borrow.Author.Needs.{needs}
 use Rattle.trace.specs.Low.{lowOf}
 use Rattle.trace.specs.declared.names.Name.{Name}
 use Rattle.model.specs.Call.{Call, reads, writes, does}
-use Rattle.model.specs.Run.{stepBy, step, writing}
+use Rattle.model.specs.TwoRuns.StepCases.{step-cases}
 use Rattle.uart.specs.Whole.{meaning}
 use Rattle.answers.specs.Replies.{readText, writeText, doneText}
 use Rattle.session.specs.Requests.{commandOf, setsUp, calls, carriedOut}
@@ -28,7 +28,6 @@ returns c =
     (c .before .before .set-up .ensures)
 
 returns-2 : tie.Need-returns-2
-unfolding step stepBy writing
 returns-2 c =
     let far = c .before .before .before .before .before .before .before .before in
     let a = far .before .before .before .args in
@@ -37,11 +36,11 @@ returns-2 c =
     ∙ sym (ap (λ (n : Name). carriedOut (commandOf n (a .t3) (a .last) (a .bytes .now)) [] (some (meaning (a .session .uart))))
     (c .before .before .before .before .before .before .enum-told2 .given .1)))
     (gives (c .before .before .before .before .read .ensures) (Call.read (getD (a .t3) 0 0)
-    (c .before .before .before .before .before .low .result)) reads refl (said (c .before .before .before .before .read .ensures)
+    (c .before .before .before .before .before .low .result)) reads
+    (step-cases _ .read _ _) (said (c .before .before .before .before .read .ensures)
     readText) (c .before .before .after-read .ensures))
 
 returns-3 : tie.Need-returns-3
-unfolding step stepBy writing
 returns-3 c =
     let far = c .before .before .before .before .before .before .before .before .before in
     let a = far .before .before .before .args in
@@ -55,11 +54,10 @@ returns-3 c =
       offset = c .before .before .before .before .before .before .low2 .result;
       value =
           c .before .before .before .before .before .low3 .result;
-    })) writes refl
+    })) writes (step-cases _ .write _ _ _)
     (said (c .before .before .before .before .write .ensures) writeText) (c .before .before .after-write .ensures))
 
 returns-4 : tie.Need-returns-4
-unfolding step stepBy writing
 returns-4 c =
     let far = c .before .before .before .before .before .before .before .before in
     let a = far .before .before .before .args in
@@ -68,57 +66,55 @@ returns-4 c =
     ∙ sym (ap (λ (n : Name). carriedOut (commandOf n (a .t3) (a .last) (a .bytes .now)) [] (some (meaning (a .session .uart))))
     (c .before .before .before .before .before .before .enum-told4 .given .1)))
     (gives (c .before .before .before .before .receive .ensures) (Call.receive (getD (a .t3) 0 0) (getD (a .t3) 1 0)
-    (c .before .before .before .before .before .front .result .now)) does refl (said (c .before .before .before .before .receive .ensures)
+    (c .before .before .before .before .before .front .result .now)) does
+    (step-cases _ .receive _ _ _) (said (c .before .before .before .before .receive .ensures)
     doneText) (c .before .before .after-done .ensures))
 
 returns-5 : tie.Need-returns-5
-unfolding step stepBy writing
 returns-5 c =
     let far = c .before .before .before .before .before .before .before in
     let a = far .before .before .before .args in
     gives-as (sym (ap (λ (n : Name). carriedOut (commandOf n (a .t3) (a .last) (a .bytes .now)) [] (some (meaning (a .session .uart))))
     (c .before .before .before .before .before .enum-told5 .given .1)))
-    (gives (c .before .before .before .before .wake .ensures) (Call.wake (getD (a .t3) 0 0)) does refl
+    (gives (c .before .before .before .before .wake .ensures) (Call.wake (getD (a .t3) 0 0)) does (step-cases _ .wake _)
     (said (c .before .before .before .before .wake .ensures) doneText) (c .before .before .after-done2 .ensures))
 
 returns-6 : tie.Need-returns-6
-unfolding step stepBy writing
 returns-6 c =
     let far = c .before .before .before .before .before .before .before in
     let a = far .before .before .before .args in
     gives-as (sym (ap (λ (n : Name). carriedOut (commandOf n (a .t3) (a .last) (a .bytes .now)) [] (some (meaning (a .session .uart))))
     (c .before .before .before .before .before .enum-told6 .given .1)))
-    (gives (c .before .before .before .before .watch .ensures) (Call.watch (getD (a .t3) 0 0) (eqb (a .last) 1)) does refl
+    (gives (c .before .before .before .before .watch .ensures) (Call.watch (getD (a .t3) 0 0) (eqb (a .last) 1)) does
+    (step-cases _ .watch _ _)
     (said (c .before .before .before .before .watch .ensures) doneText) (c .before .before .after-done3 .ensures))
 
 returns-7 : tie.Need-returns-7
-unfolding step stepBy writing
 returns-7 c =
     let far = c .before .before .before .before .before .before .before in
     let a = far .before .before .before .args in
     gives-as (sym (ap (λ (n : Name). carriedOut (commandOf n (a .t3) (a .last) (a .bytes .now)) [] (some (meaning (a .session .uart))))
     (c .before .before .before .before .before .enum-told7 .given .1)))
-    (gives (c .before .before .before .before .reset .ensures) (Call.reset (getD (a .t3) 0 0)) does refl
+    (gives (c .before .before .before .before .reset .ensures) (Call.reset (getD (a .t3) 0 0)) does (step-cases _ .reset _)
     (said (c .before .before .before .before .reset .ensures) doneText) (c .before .before .after-done4 .ensures))
 
 returns-8 : tie.Need-returns-8
-unfolding step stepBy writing
 returns-8 c =
     let far = c .before .before .before .before .before .before .before in
     let a = far .before .before .before .args in
     gives-as (sym (ap (λ (n : Name). carriedOut (commandOf n (a .t3) (a .last) (a .bytes .now)) [] (some (meaning (a .session .uart))))
     (c .before .before .before .before .before .enum-told8 .given .1)))
-    (gives (c .before .before .before .before .power-down .ensures) (Call.powerDown (getD (a .t3) 0 0)) does refl
+    (gives (c .before .before .before .before .power-down .ensures) (Call.powerDown (getD (a .t3) 0 0)) does (step-cases _ .powerDown _)
     (said (c .before .before .before .before .power-down .ensures) doneText) (c .before .before .after-done5 .ensures))
 
 returns-9 : tie.Need-returns-9
-unfolding step stepBy writing
 returns-9 c =
     let far = c .before .before .before .before .before .before .before in
     let a = far .before .before .before .args in
     gives-as (sym (ap (λ (n : Name). carriedOut (commandOf n (a .t3) (a .last) (a .bytes .now)) [] (some (meaning (a .session .uart))))
     (c .before .before .before .before .before .enum-told9 .given .1)))
-    (gives (c .before .before .before .before .clock-change .ensures) (Call.clockChange (getD (a .t3) 0 0) (getD (a .t3) 1 0)) does refl
+    (gives (c .before .before .before .before .clock-change .ensures) (Call.clockChange (getD (a .t3) 0 0) (getD (a .t3) 1 0)) does
+    (step-cases _ .clockChange _ _)
     (said (c .before .before .before .before .clock-change .ensures) doneText) (c .before .before .after-done6 .ensures))
 
 returns-10 : tie.Need-returns-10
