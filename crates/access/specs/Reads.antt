@@ -8,7 +8,7 @@ use lib.Dec.{ltb}
 use lib.ListN.{length, getD}
 use borrow.Author.Tests.{ltb-true, ltb-false, lt-ltb, le-ltb}
 use Rattle.model.specs.Numbers.{choose}
-use Rattle.model.specs.State.{withMistimed, withLine}
+use Rattle.model.specs.Setters.{withMistimed, withLine}
 use Rattle.model.specs.Settle.{intStatus}
 use Rattle.model.specs.Replies.{ReadOf, word, noValue, asRead}
 use Rattle.model.specs.Map.{Shown, Register, fifo, intClr, unknown, shown, stored, isFifo, valueOf}

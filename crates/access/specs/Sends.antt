@@ -11,7 +11,8 @@ use lib.ListN.{length, set, length-set}
 use borrow.Author.Tests.{ltb-false}
 use Rattle.dates.specs.Dates.{after, subcycles}
 use Rattle.model.specs.State
-use Rattle.model.specs.State.{Sent, withInFlight}
+use Rattle.model.specs.State.{Sent}
+use Rattle.model.specs.Setters.{withInFlight}
 use Rattle.model.specs.Timing.{byteTime, unmodelledSource}
 use Rattle.model.specs.Line.{fifoBytes}
 use Rattle.model.specs.Arm.{lastGone}

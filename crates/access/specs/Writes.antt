@@ -8,7 +8,8 @@ use native.Mathlib.Omega.{arith}
 use lib.ListN.{take}
 use Rattle.model.specs.Numbers.{choose, bit, without}
 use Rattle.model.specs.State
-use Rattle.model.specs.State.{Sent, withIntRaw, withWords, withLine, withInFlight, withRx}
+use Rattle.model.specs.State.{Sent}
+use Rattle.model.specs.Setters.{withIntRaw, withWords, withLine, withInFlight, withRx}
 use Rattle.model.specs.Map.{Word, Register, fifo, intClr, unknown, shown, stored, sameWord}
 use Rattle.model.specs.Registers.{Access, gives, resetFifos, storing, clearing, writeRegister}
 use Rattle.model.specs.Ends.Passes.{apart}

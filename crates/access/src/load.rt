@@ -11,7 +11,7 @@ use replies::notices::Notices;
 ghost use mathlib.Core.Path.{_≡_};
 ghost use Prim.Native.Nat.{_≤_};
 ghost use lib.ListN.{length};
-ghost use Rattle.model.specs.State.{withMistimed};
+ghost use Rattle.model.specs.Setters.{withMistimed};
 ghost use Rattle.model.specs.Numbers.{choose};
 ghost use Rattle.model.specs.Replies.{asRead};
 ghost use Rattle.model.specs.Registers.{readAt};

@@ -5,7 +5,7 @@ use Prim.Native.Nat.{ℕ, _<_, _≤_}
 use native.Mathlib.Omega.{arith}
 use lib.ListN.{length}
 use Rattle.model.specs.State
-use Rattle.model.specs.State.{withWords, withLine, withPeriod, withLast, withWake, withWatched, withPoweredDownAt, withLevel, withControl}
+use Rattle.model.specs.Setters.{withWords, withLine, withPeriod, withLast, withWake, withWatched, withPoweredDownAt, withLevel, withControl}
 use Rattle.model.specs.Settle
 use Rattle.model.specs.Arm
 use Rattle.model.specs.Calls.{periodOf, clearedLine, dated, clocked, cleared}

@@ -9,7 +9,8 @@ use Rattle.model.specs.Arm.{arm}
 use Rattle.model.specs.Replies.{doneNumber}
 use Rattle.model.specs.Limits.{Within}
 use Rattle.model.specs.Calls
-use Rattle.model.specs.Calls.{Plan, unless, afterSettling, dated, quiet, doing, wake, reset, clockChange, receive}
+use Rattle.model.specs.Calls.{Plan, unless, afterSettling, dated, quiet, doing, receive, machine}
+use Rattle.model.specs.Call.{Machine}
 use Rattle.model.specs.declared.Refusal.{Refusal}
 use Rattle.model.specs.declared.Report.{Report}
 use Rattle.model.specs.declared.Done.{Done}
@@ -60,16 +61,16 @@ armed-done {t} {a₁ = a₁} s arms same =
 -- ---- the number of a call that is carried out is 0
 
 module _ (cycle : ℕ) (u : State.Uart ℕ ℕ) where
-  pub wake-zero : doneNumber (datedWork cycle (wake cycle) u .reply) ≡ 0
-  unfolding Calls.carried wake afterSettling quiet doneNumber
+  pub wake-zero : doneNumber (datedWork cycle (machine cycle Machine.wake) u .reply) ≡ 0
+  unfolding Calls.carried machine afterSettling quiet doneNumber
   wake-zero = refl
 
-  pub reset-zero : doneNumber (datedWork cycle (reset cycle) u .reply) ≡ 0
-  unfolding Calls.carried reset afterSettling quiet doneNumber
+  pub reset-zero : doneNumber (datedWork cycle (machine cycle Machine.reset) u .reply) ≡ 0
+  unfolding Calls.carried machine afterSettling quiet doneNumber
   reset-zero = refl
 
-  pub clock-zero : (period : ℕ) → doneNumber (datedWork cycle (clockChange cycle period) u .reply) ≡ 0
-  unfolding Calls.carried clockChange afterSettling quiet doneNumber
+  pub clock-zero : (period : ℕ) → doneNumber (datedWork cycle (machine cycle (Machine.clockChange period)) u .reply) ≡ 0
+  unfolding Calls.carried machine afterSettling quiet doneNumber
   clock-zero period = refl
 
   pub receive-zero : (at : ℕ) (bs : List ℕ) → doneNumber (datedWork cycle (receive cycle at bs) u .reply) ≡ 0

@@ -2,10 +2,11 @@
 use mathlib.Core.Path.{_≡_, refl, sym, ap, subst, _∙_}
 use Prim.Native.Nat.{ℕ}
 use lib.ListN.{length}
-use Rattle.model.specs.State.{withPoweredDownAt}
+use Rattle.model.specs.Setters.{withPoweredDownAt}
 use Rattle.model.specs.Settle
 use Rattle.model.specs.Arm.{arm}
-use Rattle.model.specs.Calls.{carried, settleAt, quiet, cleared, reset}
+use Rattle.model.specs.Calls.{dated, carried, settleAt, quiet, cleared, machine}
+use Rattle.model.specs.Call.{Machine}
 use Rattle.model.specs.declared.Date.{Date}
 use Rattle.queue.specs.Cursors.{Held}
 use Rattle.device.specs.Holds.{Arrays, abs, Ok}
@@ -32,13 +33,13 @@ module _ (cycle : ℕ) {c : Core} {a : Arrays} (ok : Ok c a) {from : Core}
   pub restarted : {c₁ : Core} {a₁ : Arrays} {n o : ℕ} {c₂ c₃ : Core} {r : DoneCore} → Settles (settleAt cycle (abs from a)) c₁ a₁ n o
       → c₂ ≡ clearedCore c₁
       → ConcludesAny c₂ (a₁ .goneAt) (a₁ .runAt) c₃ → r ≡ doneCore c₃ n o
-      → Works (λ x. x) (datedWork cycle (reset cycle) (abs c a)) (r .core) a₁ (r .reply) (r .report)
-  unfolding carried reset quiet
+      → Works (λ x. x) (datedWork cycle (machine cycle Machine.reset) (abs c a)) (r .core) a₁ (r .reply) (r .report)
+  unfolding carried machine quiet dated
   restarted {c₁} {a₁} {n} {o} {c₃ = c₃} s ec concludes same =
       let settled = subst (λ (x : Core). Settles (settleAt cycle (abs x a)) c₁ a₁ n o) up s in
       let k =
       subst (λ (x : Core). ConcludesAny x (a₁ .goneAt) (a₁ .runAt) c₃) ec concludes a₁ refl refl (cleared-shape c₁ a₁ (s .ok .shape)) in
-      subst (λ (x : DoneCore). Works (λ w. w) (datedWork cycle (reset cycle) (abs c a)) (x .core) a₁ (x .reply) (x .report)) (sym same)
+      subst (λ (x : DoneCore). Works (λ w. w) (datedWork cycle (machine cycle Machine.reset) (abs c a)) (x .core) a₁ (x .reply) (x .report)) (sym same)
       (after (λ x. x) settled _
       (record {
         shape = k .shape;

@@ -10,7 +10,8 @@ use Rattle.model.specs.State.{OnTheLine, Uart}
 use Rattle.model.specs.Settle.{Settled, found, settle, pending, onTheLine}
 use Rattle.model.specs.Limits.{Within}
 use Rattle.model.specs.Tests.{dateEnd, periodLimit}
-use Rattle.model.specs.Calls.{dated, settleAt, clocked, carried, clockChange}
+use Rattle.model.specs.Calls.{dated, settleAt, clocked, carried, machine}
+use Rattle.model.specs.Call.{Machine}
 use Rattle.model.specs.Keeps.Parts.{through}
 use Rattle.model.specs.Keeps.Dated.{moved-parts}
 use Rattle.calls.specs.Answers.{datedWork, Works, doneCore}
@@ -99,6 +100,6 @@ module _ (now period : ℕ) (low : period ≤ periodLimit) {c₁ : Core} {a₁ :
       → Settles (settleAt now (abs c a)) c₁ a₁ n₁ o₁ → Settles (settle now (abs from a₁)) c₂ a₂ n₂ o₂
       → ArmsAny c₂ (a₂ .goneAt) (a₂ .runAt) c₃
       → r ≡ doneCore c₃ (n₁ + n₂) (o₁ + o₂)
-      → Works (λ x. x) (datedWork now (clockChange now period) (abs c a)) (r .core) a₂ (r .reply) (r .report)
-  unfolding carried clockChange
+      → Works (λ x. x) (datedWork now (machine now (Machine.clockChange period)) (abs c a)) (r .core) a₂ (r .reply) (r .report)
+  unfolding carried machine
   reclocks {c} {a} _ first second arms same = armed-done (twice now (abs c a) period first (second-of second)) arms same

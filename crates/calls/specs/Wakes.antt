@@ -1,7 +1,8 @@
 -- A wake's work: settled from the cleared Deadline, and armed. Assumes nothing.
 use mathlib.Core.Path.{_≡_, sym, subst}
 use Prim.Native.Nat.{ℕ}
-use Rattle.model.specs.Calls.{carried, settleAt, wake}
+use Rattle.model.specs.Calls.{dated, carried, settleAt, machine}
+use Rattle.model.specs.Call.{Machine}
 use Rattle.device.specs.Holds.{Arrays, abs, Ok}
 use Rattle.device.specs.Settles.{Settles}
 use Rattle.device.specs.Arms.{ArmsAny}
@@ -17,6 +18,6 @@ module _ (cycle : ℕ) {c : Core} {a : Arrays} (ok : Ok c a) {from : Core} (call
 
   pub woken : {c₁ : Core} {a₁ : Arrays} {n o : ℕ} {c₂ : Core} {r : DoneCore} → Settles (settleAt cycle (abs from a)) c₁ a₁ n o
       → ArmsAny c₁ (a₁ .goneAt) (a₁ .runAt) c₂ → r ≡ doneCore c₂ n o
-      → Works (λ x. x) (datedWork cycle (wake cycle) (abs c a)) (r .core) a₁ (r .reply) (r .report)
-  unfolding carried wake
+      → Works (λ x. x) (datedWork cycle (machine cycle Machine.wake) (abs c a)) (r .core) a₁ (r .reply) (r .report)
+  unfolding carried machine dated
   woken {c₁} {a₁} {n} {o} s arms same = armed-done (subst (λ (x : Core). Settles (settleAt cycle (abs x a)) c₁ a₁ n o) called s) arms same

@@ -9,7 +9,8 @@ use timing::clock::Clock;
 ghost use mathlib.Core.Path.{_≡_};
 ghost use Prim.Native.Nat.{_<_, _≤_};
 ghost use Rattle.model.specs.Tests.{dateEnd, periodLimit};
-ghost use Rattle.model.specs.Calls.{clockChange};
+ghost use Rattle.model.specs.Calls.{machine};
+ghost use Rattle.model.specs.Call.{Machine};
 ghost use Rattle.device.specs.Holds.{abs, Ok};
 ghost use Rattle.device.specs.Wholes.{lent};
 ghost use Rattle.calls.specs.Changes.{clockedCore};
@@ -41,7 +42,7 @@ fn carry_out<'a>(
 ) -> DoneCore
     requires { ⌜ Ok core (lent «gone_at» flight tx host «run_at» «run_len» rx) × (cycle < dateEnd) × (period ≤ periodLimit) ⌝ }
     ensures { λ r. ⌜ Works (λ x. x)
-        (datedWork cycle (clockChange cycle period) (abs core (lent («gone_at» .entry) (flight .entry) (tx .entry) (host .entry)
+        (datedWork cycle (machine cycle (Machine.clockChange period)) (abs core (lent («gone_at» .entry) (flight .entry) (tx .entry) (host .entry)
         («run_at» .entry) («run_len» .entry) (rx .entry))))
         (r .core)
         (lent («gone_at» .entry) (flight .entry) (tx .exit) (host .entry) («run_at» .entry) («run_len» .exit) (rx .exit))
@@ -72,7 +73,7 @@ pub fn clock_change<'a>(
     period: u64,
 ) -> DoneCore
     requires { ⌜ Ok core (lent «gone_at» flight tx host «run_at» «run_len» rx) ⌝ }
-    ensures { λ r. ⌜ DoneWith (datedCall cycle (clockChange cycle period)) core
+    ensures { λ r. ⌜ DoneWith (datedCall cycle (machine cycle (Machine.clockChange period))) core
         (lent («gone_at» .entry) (flight .entry) (tx .entry) (host .entry) («run_at» .entry) («run_len» .entry) (rx .entry)) (r .core)
         (lent («gone_at» .entry) (flight .entry) (tx .exit) (host .entry) («run_at» .entry) («run_len» .exit) (rx .exit))
         (r .reply) (r .report) ⌝ }

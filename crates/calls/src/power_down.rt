@@ -7,8 +7,9 @@ use model::Control;
 use model::Date;
 use replies::refusals::Verdict;
 ghost use mathlib.Core.Path.{_≡_};
-ghost use Rattle.model.specs.State.{withPoweredDownAt};
-ghost use Rattle.model.specs.Calls.{powerDown};
+ghost use Rattle.model.specs.Setters.{withPoweredDownAt};
+ghost use Rattle.model.specs.Calls.{machine};
+ghost use Rattle.model.specs.Call.{Machine};
 ghost use Rattle.device.specs.Holds.{Ok};
 ghost use Rattle.device.specs.Wholes.{lent};
 ghost use Rattle.calls.specs.Changes.{withControlOf};
@@ -53,7 +54,7 @@ pub fn power_down<'a>(
     cycle: u64,
 ) -> DoneCore
     requires { ⌜ Ok core (lent «gone_at» flight tx host «run_at» «run_len» rx) ⌝ }
-    ensures { λ r. ⌜ DoneWith (datedCall cycle (powerDown cycle)) core
+    ensures { λ r. ⌜ DoneWith (datedCall cycle (machine cycle Machine.powerDown)) core
         (lent («gone_at» .entry) (flight .entry) (tx .entry) (host .entry) («run_at» .entry) («run_len» .entry) (rx .entry)) (r .core)
         (lent («gone_at» .entry) (flight .entry) (tx .entry) (host .entry) («run_at» .entry) («run_len» .entry) (rx .entry))
         (r .reply) (r .report) ⌝ }

@@ -7,7 +7,8 @@ use replies::refusals::Verdict;
 ghost use mathlib.Core.Path.{_≡_};
 ghost use Prim.Native.Nat.{_<_};
 ghost use Rattle.model.specs.Tests.{dateEnd};
-ghost use Rattle.model.specs.Calls.{wake as Calls·wake};
+ghost use Rattle.model.specs.Calls.{machine};
+ghost use Rattle.model.specs.Call.{Machine};
 ghost use Rattle.device.specs.Holds.{abs, Ok};
 ghost use Rattle.device.specs.Wholes.{lent};
 ghost use Rattle.calls.specs.Changes.{calledCore};
@@ -36,7 +37,7 @@ fn carry_out<'a>(
 ) -> DoneCore
     requires { ⌜ Ok core (lent «gone_at» flight tx host «run_at» «run_len» rx) × (cycle < dateEnd) ⌝ }
     ensures { λ r. ⌜ Works (λ x. x)
-        (datedWork cycle (Calls·wake cycle) (abs core (lent («gone_at» .entry) (flight .entry) (tx .entry) (host .entry) («run_at» .entry)
+        (datedWork cycle (machine cycle Machine.wake) (abs core (lent («gone_at» .entry) (flight .entry) (tx .entry) (host .entry) («run_at» .entry)
         («run_len» .entry) (rx .entry))))
         (r .core)
         (lent («gone_at» .entry) (flight .entry) (tx .exit) (host .entry) («run_at» .entry) («run_len» .exit) (rx .exit))
@@ -61,7 +62,7 @@ pub fn wake<'a>(
     cycle: u64,
 ) -> DoneCore
     requires { ⌜ Ok core (lent «gone_at» flight tx host «run_at» «run_len» rx) ⌝ }
-    ensures { λ r. ⌜ DoneWith (datedCall cycle (Calls·wake cycle)) core
+    ensures { λ r. ⌜ DoneWith (datedCall cycle (machine cycle Machine.wake)) core
         (lent («gone_at» .entry) (flight .entry) (tx .entry) (host .entry) («run_at» .entry) («run_len» .entry) (rx .entry)) (r .core)
         (lent («gone_at» .entry) (flight .entry) (tx .exit) (host .entry) («run_at» .entry) («run_len» .exit) (rx .exit))
         (r .reply) (r .report) ⌝ }

@@ -4,7 +4,8 @@ use crate::answers::DoneCore;
 use device::Core;
 use replies::refusals::Verdict;
 ghost use mathlib.Core.Path.{_≡_};
-ghost use Rattle.model.specs.Calls.{watch as Calls·watch};
+ghost use Rattle.model.specs.Calls.{machine};
+ghost use Rattle.model.specs.Call.{Machine};
 ghost use Rattle.device.specs.Holds.{Ok};
 ghost use Rattle.device.specs.Wholes.{lent};
 ghost use Rattle.calls.specs.Changes.{watchedCore};
@@ -33,7 +34,7 @@ pub fn watch<'a>(
     on: bool,
 ) -> DoneCore
     requires { ⌜ Ok core (lent «gone_at» flight tx host «run_at» «run_len» rx) ⌝ }
-    ensures { λ r. ⌜ DoneWith (datedCall cycle (Calls·watch cycle on)) core
+    ensures { λ r. ⌜ DoneWith (datedCall cycle (machine cycle (Machine.watch on))) core
         (lent («gone_at» .entry) (flight .entry) (tx .entry) (host .entry) («run_at» .entry) («run_len» .entry) (rx .entry)) (r .core)
         (lent («gone_at» .entry) (flight .entry) (tx .entry) (host .entry) («run_at» .entry) («run_len» .entry) (rx .entry))
         (r .reply) (r .report) ⌝ }

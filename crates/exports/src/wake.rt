@@ -2,7 +2,8 @@
 use ffi::PlainCore;
 use ffi::answers::PlainAnswer;
 ghost use mathlib.Core.Path.{_≡_};
-ghost use Rattle.model.specs.Calls.{wake};
+ghost use Rattle.model.specs.Calls.{machine};
+ghost use Rattle.model.specs.Call.{Machine};
 ghost use Rattle.device.specs.Holds.{Ok};
 ghost use Rattle.device.specs.Wholes.{lent};
 ghost use Rattle.calls.specs.Answers.{datedCall, DoneWith};
@@ -24,7 +25,7 @@ pub extern "C" fn wondraxu_wake<'a>(
 ) -> PlainAnswer
     requires { ⌜ Ok (coreOf core) (lent «gone_at» flight tx host «run_at» «run_len» rx) ⌝ }
     ensures { λ r. ⌜ Plainly plainDone
-        (λ c c′. DoneWith (datedCall cycle (wake cycle)) c
+        (λ c c′. DoneWith (datedCall cycle (machine cycle Machine.wake)) c
         (lent («gone_at» .entry) (flight .entry) (tx .entry) (host .entry) («run_at» .entry) («run_len» .entry) (rx .entry))
         c′
         (lent («gone_at» .entry) (flight .entry) (tx .exit) (host .entry) («run_at» .entry) («run_len» .exit) (rx .exit))) core r ⌝ }

@@ -5,7 +5,7 @@ use Prim.Native.Nat.{ℕ, _+_, _≤_}
 use native.Mathlib.Omega.{arith}
 use lib.ListN.{length}
 use Rattle.model.specs.State
-use Rattle.model.specs.State.{withHost}
+use Rattle.model.specs.Setters.{withHost}
 use Rattle.model.specs.Arm.{arm}
 use Rattle.model.specs.Calls.{joined, handOver}
 use Rattle.queue.specs.Cursors.{Held, pushedBy}

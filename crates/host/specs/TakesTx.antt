@@ -4,7 +4,7 @@ use mathlib.Core.List.{List, [], _++_}
 use Prim.Native.Nat.{ℕ}
 use lib.ListN.{length, drop}
 use Rattle.model.specs.State
-use Rattle.model.specs.State.{withTx}
+use Rattle.model.specs.Setters.{withTx}
 use Rattle.model.specs.Settle
 use Rattle.model.specs.Replies.{contents, takenNumber}
 use Rattle.model.specs.Calls.{afterSettling, settleAt, carried, quiet, filled, takeTx}

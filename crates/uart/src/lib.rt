@@ -19,9 +19,9 @@ use model::Write;
 ghost use mathlib.Core.Path.{_≡_};
 ghost use Rattle.model.specs.Settle.{settle};
 ghost use Rattle.model.specs.Replies.{asRead, readNumber, writeNumber, doneNumber};
-ghost use Rattle.model.specs.Calls.{read as Calls·read, write as Calls·write, wake as Calls·wake, reset as Calls·reset};
-ghost use Rattle.model.specs.Calls.{watch as Calls·watch, receive as Calls·receive, clockChange, powerDown};
-ghost use Rattle.model.specs.Calls.{takeTx, takeWritten, hasLeft, hostPending};
+ghost use Rattle.model.specs.Call.{Machine};
+ghost use Rattle.model.specs.Calls.{read as Calls·read, write as Calls·write, receive as Calls·receive, machine, takeTx, takeWritten};
+ghost use Rattle.model.specs.Calls.{hasLeft, hostPending};
 ghost use Rattle.device.specs.Settles.{Settles};
 ghost use Rattle.calls.specs.Answers.{datedCall, undatedCall};
 ghost use Rattle.calls.specs.Undated.{leftReply, pendingReply};
@@ -252,7 +252,7 @@ impl Uart {
     // The armed cycle has come.
     pub fn wake(mut self, cycle: u64) -> AfterDone
         requires { ⌜ Good self ⌝ }
-        ensures { λ r. ⌜ Answered (λ x. x) doneNumber (datedCall cycle (Calls·wake cycle)) self (r .uart) (r .reply) (r .report) ⌝ }
+        ensures { λ r. ⌜ Answered (λ x. x) doneNumber (datedCall cycle (machine cycle Machine.wake)) self (r .uart) (r .reply) (r .report) ⌝ }
     {
         let mut tx = self.tx;
         let mut run_len = self.run_len;
@@ -277,7 +277,7 @@ impl Uart {
     // A reset of the UART.
     pub fn reset(mut self, cycle: u64) -> AfterDone
         requires { ⌜ Good self ⌝ }
-        ensures { λ r. ⌜ Answered (λ x. x) doneNumber (datedCall cycle (Calls·reset cycle)) self (r .uart) (r .reply) (r .report) ⌝ }
+        ensures { λ r. ⌜ Answered (λ x. x) doneNumber (datedCall cycle (machine cycle Machine.reset)) self (r .uart) (r .reply) (r .report) ⌝ }
     {
         let mut tx = self.tx;
         let mut run_len = self.run_len;
@@ -302,7 +302,7 @@ impl Uart {
     // Another period of the APB clock, in cycles.
     pub fn clock_change(mut self, cycle: u64, period: u64) -> AfterDone
         requires { ⌜ Good self ⌝ }
-        ensures { λ r. ⌜ Answered (λ x. x) doneNumber (datedCall cycle (clockChange cycle period)) self (r .uart) (r .reply) (r .report) ⌝ }
+        ensures { λ r. ⌜ Answered (λ x. x) doneNumber (datedCall cycle (machine cycle (Machine.clockChange period))) self (r .uart) (r .reply) (r .report) ⌝ }
     {
         let mut tx = self.tx;
         let mut run_len = self.run_len;
@@ -387,7 +387,7 @@ impl Uart {
     // Whether the first departure asks for a wake.
     pub fn watch(mut self, cycle: u64, on: bool) -> AfterDone
         requires { ⌜ Good self ⌝ }
-        ensures { λ r. ⌜ Answered (λ x. x) doneNumber (datedCall cycle (Calls·watch cycle on)) self (r .uart) (r .reply) (r .report) ⌝ }
+        ensures { λ r. ⌜ Answered (λ x. x) doneNumber (datedCall cycle (machine cycle (Machine.watch on))) self (r .uart) (r .reply) (r .report) ⌝ }
     {
         let done = watch::watch(
             self.core,
@@ -407,7 +407,7 @@ impl Uart {
     // Nothing moves after this cycle until a reset.
     pub fn power_down(mut self, cycle: u64) -> AfterDone
         requires { ⌜ Good self ⌝ }
-        ensures { λ r. ⌜ Answered (λ x. x) doneNumber (datedCall cycle (powerDown cycle)) self (r .uart) (r .reply) (r .report) ⌝ }
+        ensures { λ r. ⌜ Answered (λ x. x) doneNumber (datedCall cycle (machine cycle Machine.powerDown)) self (r .uart) (r .reply) (r .report) ⌝ }
     {
         let done = power_down::power_down(
             self.core,

@@ -1,6 +1,7 @@
 -- `clock_change::clock_change` meets its contract: refused as the tests say, or carried out. Assumes nothing.
 use mathlib.Core.Option.{none}
-use Rattle.model.specs.Calls.{clockChange}
+use Rattle.model.specs.Calls.{machine}
+use Rattle.model.specs.Call.{Machine}
 use Rattle.model.specs.Keeps.EachCall.{clockChange-within}
 use Rattle.replies.specs.Calls.{clock-tests}
 use Rattle.replies.specs.Refusals.{clocking}
@@ -35,14 +36,14 @@ returns : tie.Need-returns
 returns c =
     let start = c .before .before .before .before .before .before in
     let o = start .args in
-    done-refused (o .cycle) (clockChange (o .cycle) (o .period)) (start .pre) (clock-tests (o .cycle) _ (o .period))
+    done-refused (o .cycle) (machine (o .cycle) (Machine.clockChange (o .period))) (start .pre) (clock-tests (o .cycle) _ (o .period))
     (refuses (c .before .before .before .before .clock-refusal .ensures) (c .before .before .tests .given .1)) (c .refuse .ensures)
 
 returns-2 : tie.Need-returns-2
 returns-2 c =
     let start = c .before .before .before .before .before .before .before .before in
     let o = start .args in
-    done-carried (o .cycle) (clockChange (o .cycle) (o .period)) (start .pre) (clock-tests (o .cycle) _ (o .period))
+    done-carried (o .cycle) (machine (o .cycle) (Machine.clockChange (o .period))) (start .pre) (clock-tests (o .cycle) _ (o .period))
     (passes (c .before .before .before .before .before .before .clock-refusal .ensures)
     (c .before .before .before .before .enum-told .given .1))
     (clockChange-within (o .cycle) (o .period) _ (start .pre .within)) (clock-zero (o .cycle) _ (o .period)) (c .carry-out .ensures)

@@ -1,6 +1,7 @@
 -- `power_down::power_down` meets its contract: refused as the tests say, or its date is set. Assumes nothing.
 use mathlib.Core.Path.{refl}
-use Rattle.model.specs.Calls.{dated, powerDown}
+use Rattle.model.specs.Calls.{dated, machine}
+use Rattle.model.specs.Call.{Machine}
 use Rattle.model.specs.Keeps.EachCall.{powerDown-within}
 use Rattle.replies.specs.Calls.{power-down-tests}
 use Rattle.calls.specs.Answers.{passes, refuses}
@@ -37,11 +38,11 @@ returns : tie.Need-returns
 returns c =
     let start = c .before .before .before .before .before .before in
     let o = start .args in
-    done-refused (o .cycle) (powerDown (o .cycle)) (start .pre) (power-down-tests (o .cycle) _)
+    done-refused (o .cycle) (machine (o .cycle) Machine.powerDown) (start .pre) (power-down-tests (o .cycle) _)
     (refuses (c .before .before .before .before .date-refusal .ensures) (c .before .before .tests .given .1)) (c .refuse .ensures)
 
 returns-2 : tie.Need-returns-2
-unfolding powerDown dated
+unfolding machine dated
 returns-2 c =
     let start = c .before .before .before .before .before .before .before .before in
     let o = start .args in
@@ -51,7 +52,7 @@ returns-2 c =
       c .before .before .before .with-last .ensures,
       c .before .before .subcycles .ensures,
     ) at (c .done .ensures) in
-    done-unsettled (o .cycle) (powerDown (o .cycle)) (start .pre) (power-down-tests (o .cycle) _) _ refl
+    done-unsettled (o .cycle) (machine (o .cycle) Machine.powerDown) (start .pre) (power-down-tests (o .cycle) _) _ refl
     (passes (c .before .before .before .before .before .before .date-refusal .ensures)
     (c .before .before .before .before .enum-told .given .1)) (powerDown-within (o .cycle) _ (start .pre .within))
     (shape-of _ _ _ (start .pre .shape)) refl down

@@ -1,6 +1,7 @@
 -- `wake::wake` meets its contract: refused as the tests say, or carried out. Assumes nothing.
 use mathlib.Core.Option.{none}
-use Rattle.model.specs.Calls.{wake}
+use Rattle.model.specs.Calls.{machine}
+use Rattle.model.specs.Call.{Machine}
 use Rattle.model.specs.Keeps.EachCall.{wake-within}
 use Rattle.replies.specs.Calls.{wake-tests}
 use Rattle.replies.specs.Refusals.{datesOnly}
@@ -33,14 +34,14 @@ returns : tie.Need-returns
 returns c =
     let start = c .before .before .before .before .before .before in
     let o = start .args in
-    done-refused (o .cycle) (wake (o .cycle)) (start .pre) (wake-tests (o .cycle) _)
+    done-refused (o .cycle) (machine (o .cycle) Machine.wake) (start .pre) (wake-tests (o .cycle) _)
     (refuses (c .before .before .before .before .date-refusal .ensures) (c .before .before .tests .given .1)) (c .refuse .ensures)
 
 returns-2 : tie.Need-returns-2
 returns-2 c =
     let start = c .before .before .before .before .before .before .before .before in
     let o = start .args in
-    done-carried (o .cycle) (wake (o .cycle)) (start .pre) (wake-tests (o .cycle) _)
+    done-carried (o .cycle) (machine (o .cycle) Machine.wake) (start .pre) (wake-tests (o .cycle) _)
     (passes (c .before .before .before .before .before .before .date-refusal .ensures)
     (c .before .before .before .before .enum-told .given .1))
     (wake-within (o .cycle) _ (start .pre .within)) (wake-zero (o .cycle) _) (c .carry-out .ensures)

@@ -1,6 +1,7 @@
 -- `watch::watch` meets its contract: refused as the tests say, or armed. Assumes nothing.
 use mathlib.Core.Path.{refl}
-use Rattle.model.specs.Calls.{dated, watch}
+use Rattle.model.specs.Calls.{dated, machine}
+use Rattle.model.specs.Call.{Machine}
 use Rattle.model.specs.Keeps.EachCall.{watch-within}
 use Rattle.replies.specs.Calls.{watch-tests}
 use Rattle.calls.specs.Answers.{passes, refuses}
@@ -36,17 +37,17 @@ returns : tie.Need-returns
 returns c =
     let start = c .before .before .before .before .before .before in
     let o = start .args in
-    done-refused (o .cycle) (watch (o .cycle) (o .on)) (start .pre) (watch-tests (o .cycle) _ (o .on))
+    done-refused (o .cycle) (machine (o .cycle) (Machine.watch (o .on))) (start .pre) (watch-tests (o .cycle) _ (o .on))
     (refuses (c .before .before .before .before .date-refusal .ensures) (c .before .before .tests .given .1)) (c .refuse .ensures)
 
 returns-2 : tie.Need-returns-2
-unfolding watch dated
+unfolding machine dated
 returns-2 c =
     let start = c .before .before .before .before .before .before .before in
     let o = start .args in
     let armed = rw (c .before .before .with-watched .ensures) at (c .before .arm .ensures) in
     let works = armed _ refl refl (shape-of _ _ _ (start .pre .shape)) in
-    done-unsettled (o .cycle) (watch (o .cycle) (o .on)) (start .pre) (watch-tests (o .cycle) _ (o .on)) _ refl
+    done-unsettled (o .cycle) (machine (o .cycle) (Machine.watch (o .on))) (start .pre) (watch-tests (o .cycle) _ (o .on)) _ refl
     (passes (c .before .before .before .before .before .date-refusal .ensures) (c .before .before .before .enum-told .given .1))
     (watch-within (o .cycle) (o .on) _ (start .pre .within)) (works .shape) (works .same) (c .done .ensures)
 
