@@ -77,14 +77,14 @@ module _ (cycle offset v : ℕ) {c : Core} {a : Arrays} (ok : Ok c a) {p : Regis
     (low : b ≡ v % 256) where
   checks : (x : Bool)
       → datedCall cycle (λ u. choose x (send cycle b u) (writePlaced cycle p v u)) (abs c a)
-      ≡ unless (testsAt x cycle (c .control .last) (c .tx .count) (c .flight .count)) Write.Refused (λ _. workAt x cycle b p v (abs c a))
+      ≡ unless (testsAt x cycle (c .control .last) (c .tx .count) (c .flight .count)) Write.Refused (workAt x cycle b p v)
       (abs c a)
   unfolding choose testsAt accessAt Calls.carried send writePlaced
   checks true = send-checks cycle b ok
   checks false = write-tests cycle (abs c a) p v
 
   write-checks : datedCall cycle (Calls.write cycle offset v) (abs c a)
-      ≡ unless (testsAt f cycle (c .control .last) (c .tx .count) (c .flight .count)) Write.Refused (λ _. workAt f cycle b p v (abs c a))
+      ≡ unless (testsAt f cycle (c .control .last) (c .tx .count) (c .flight .count)) Write.Refused (workAt f cycle b p v)
       (abs c a)
   unfolding Calls.write writeAt
   write-checks =
@@ -99,7 +99,7 @@ module _ (cycle offset v : ℕ) {c : Core} {a : Arrays} (ok : Ok c a) {p : Regis
       → Answers (λ x. x) writeNumber (datedCall cycle (Calls.write cycle offset v) (abs c a)) c a c′ a′ reply report
   unfolding afterSettling concluded
   write-carried t k =
-      carried (λ x. x) writeNumber Write.Refused (λ _. workAt f cycle b p v (abs c a)) c a write-checks t
+      carried (λ x. x) writeNumber Write.Refused (workAt f cycle b p v) c a write-checks t
       (write-within cycle offset v (abs c a) (ok .within)) (access-zero cycle b p v f _) k
 
   pub write-refused : {q : Refusal} {r : WriteCore} → testsAt f cycle (c .control .last) (c .tx .count) (c .flight .count) ≡ some q
@@ -108,4 +108,4 @@ module _ (cycle offset v : ℕ) {c : Core} {a : Arrays} (ok : Ok c a) {p : Regis
   write-refused t same =
       subst (λ (x : WriteCore). Answers (λ w. w) writeNumber (datedCall cycle (Calls.write cycle offset v) (abs c a)) c a (x .core) a
       (x .reply) (x .report)) (sym same)
-      (turned-away (λ x. x) writeNumber Write.Refused (λ _. workAt f cycle b p v (abs c a)) c a write-checks t ok)
+      (turned-away (λ x. x) writeNumber Write.Refused (workAt f cycle b p v) c a write-checks t ok)

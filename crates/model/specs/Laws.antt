@@ -6,3 +6,4 @@ pub mod Cases
 pub mod Events
 pub mod AccessCases
 pub mod Plans
+pub mod StepCases

@@ -13,7 +13,7 @@ use Rattle.trace.specs.declared.names.Name.the-variants.{Setup, Read, Write, Re
 use Rattle.trace.specs.declared.names.Name.the-variants.{TakeWritten, HasLeft, HostPending}
 use Rattle.model.specs.State.{Uart}
 use Rattle.model.specs.SetUp.{new, setUpReply}
-use Rattle.model.specs.Call.{Call, Written, Request, Reply, reads, writes, does, takes, left, pends, Answer}
+use Rattle.model.specs.Call.{Machine, Dated, Undated, Call, Written, Request, Reply, reads, writes, does, takes, left, pends, Answer}
 use Rattle.model.specs.Replies.{asRead, Take}
 use Rattle.model.specs.Run.{step}
 use Rattle.model.specs.declared.Report.{Report}
@@ -47,18 +47,18 @@ pub data Command : Type 0 where
 -- the numbers of the line, its last word where that is a number, and its bytes
 abbrev pub commandOf : Name → List ℕ → ℕ → List ℕ → Command
 commandOf Setup ns last bytes = setUp (take 16 (map lowOf (drop 0 ns))) (take 16 (map lowOf (drop 16 ns)))
-commandOf Read ns last bytes = call (Call.read (getD ns 0 0) (lowOf (getD ns 1 0)))
-commandOf Write ns last bytes = call (Call.write (getD ns 0 0) (record { offset = lowOf (getD ns 1 0); value = lowOf (getD ns 2 0) }))
-commandOf Receive ns last bytes = call (Call.receive (getD ns 0 0) (getD ns 1 0) (take last bytes))
-commandOf Wake ns last bytes = call (Call.wake (getD ns 0 0))
-commandOf Watch ns last bytes = call (Call.watch (getD ns 0 0) (eqb last 1))
-commandOf Reset ns last bytes = call (Call.reset (getD ns 0 0))
-commandOf PowerDown ns last bytes = call (Call.powerDown (getD ns 0 0))
-commandOf Clock ns last bytes = call (Call.clockChange (getD ns 0 0) (getD ns 1 0))
-commandOf TakeTx ns last bytes = call (Call.takeTx (getD ns 0 0) (lentOf last))
-commandOf TakeWritten ns last bytes = call (Call.takeWritten (lentOf last))
-commandOf HasLeft ns last bytes = call Call.hasLeft
-commandOf HostPending ns last bytes = call Call.hostPending
+commandOf Read ns last bytes = call (Call.at (getD ns 0 0) (Dated.read (lowOf (getD ns 1 0))))
+commandOf Write ns last bytes = call (Call.at (getD ns 0 0) (Dated.write (record { offset = lowOf (getD ns 1 0); value = lowOf (getD ns 2 0) })))
+commandOf Receive ns last bytes = call (Call.at (getD ns 0 0) (Dated.receive (getD ns 1 0) (take last bytes)))
+commandOf Wake ns last bytes = call (Call.at (getD ns 0 0) (Dated.machine Machine.wake))
+commandOf Watch ns last bytes = call (Call.at (getD ns 0 0) (Dated.machine (Machine.watch (eqb last 1))))
+commandOf Reset ns last bytes = call (Call.at (getD ns 0 0) (Dated.machine Machine.reset))
+commandOf PowerDown ns last bytes = call (Call.at (getD ns 0 0) (Dated.machine Machine.powerDown))
+commandOf Clock ns last bytes = call (Call.at (getD ns 0 0) (Dated.machine (Machine.clockChange (getD ns 1 0))))
+commandOf TakeTx ns last bytes = call (Call.at (getD ns 0 0) (Dated.takeTx (lentOf last)))
+commandOf TakeWritten ns last bytes = call (Call.undated (Undated.takeWritten (lentOf last)))
+commandOf HasLeft ns last bytes = call (Call.undated Undated.hasLeft)
+commandOf HostPending ns last bytes = call (Call.undated Undated.hostPending)
 
 -- ---- the text of an answer
 
@@ -69,18 +69,8 @@ handedText end bytes (Taken.Refused q) = refusalText q
 
 -- what ends the line of a hand-out: the report of take_tx; take_written is not dated
 abbrev pub endText : Request → Report → List ℕ
-endText (Call.takeWritten l) report = ascii "\n"
-endText (Call.read n r) report = reportText report
-endText (Call.write n w) report = reportText report
-endText (Call.receive n m bs) report = reportText report
-endText (Call.wake n) report = reportText report
-endText (Call.reset n) report = reportText report
-endText (Call.powerDown n) report = reportText report
-endText (Call.watch n b) report = reportText report
-endText (Call.clockChange n p) report = reportText report
-endText (Call.takeTx n l) report = reportText report
-endText Call.hasLeft report = ascii "\n"
-endText Call.hostPending report = ascii "\n"
+endText (Call.at now c) report = reportText report
+endText (Call.undated c) report = ascii "\n"
 
 abbrev pub replyText : List ℕ → Report → Reply ℕ ℕ ℕ → List ℕ
 replyText end report (reads r) = readText report (asRead r)

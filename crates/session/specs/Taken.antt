@@ -7,9 +7,9 @@ use native.Mathlib.Nat.{le-of-suc-le-suc}
 use native.Mathlib.Omega.{arith}
 use lib.ListN.{length, take}
 use Rattle.text.specs.Ascii.{ascii}
-use Rattle.model.specs.Call.{Call, takes}
+use Rattle.model.specs.Call.{Dated, Undated, Call, takes}
 use Rattle.model.specs.Calls.{takeTx, takeWritten}
-use Rattle.model.specs.TwoRuns.StepCases.{step-cases}
+use Rattle.model.specs.Laws.StepCases.{step-cases}
 use Rattle.model.specs.declared.Report.{Report}
 use Rattle.model.specs.declared.Taken.{Taken}
 use Rattle.calls.specs.Answers.{datedCall, undatedCall}
@@ -26,19 +26,19 @@ module _ {u u′ : Uart} {lent out : List ℕ} {reply : Taken} {report : Report}
     {before : List ℕ} {at : ℕ} {after : List ℕ} {r : Session} where
   pub tx-gives : (cycle : ℕ) → Took (datedCall cycle (takeTx cycle lent)) u u′ reply report out
       → InUse (takenLine report out reply) u′ before at after r
-      → Gives (calls (Call.takeTx cycle lent) [] (some (meaning u))) before at after r
+      → Gives (calls (Call.at cycle (Dated.takeTx lent)) [] (some (meaning u))) before at after r
   tx-gives cycle t i =
       let o = datedCall cycle (takeTx cycle lent) (meaning u) in
-      gives (t .0) (Call.takeTx cycle lent) takes (step-cases (meaning u) .takeTx cycle lent)
+      gives (t .0) (Call.at cycle (Dated.takeTx lent)) takes (step-cases (meaning u) .takeTx cycle lent)
       (ap (λ (x : Report). takenLine x out reply) (t .0 .reports)
       ∙ ap₂ (takenLine (o .report)) (t .1) (t .0 .replies)
       ∙ tx-line (length lent) (meaning u) (reportText (o .report)) cycle lent marks)
       i
 
   pub written-gives : Took (undatedCall (takeWritten lent)) u u′ reply report out
-      → InUse (writtenLine out reply) u′ before at after r → Gives (calls (Call.takeWritten lent) [] (some (meaning u))) before at after r
+      → InUse (writtenLine out reply) u′ before at after r → Gives (calls (Call.undated (Undated.takeWritten lent)) [] (some (meaning u))) before at after r
   written-gives t i =
-      gives (t .0) (Call.takeWritten lent) takes (step-cases (meaning u) .takeWritten lent)
+      gives (t .0) (Call.undated (Undated.takeWritten lent)) takes (step-cases (meaning u) .takeWritten lent)
       (ap₂ writtenLine (t .1) (t .0 .replies) ∙ written-line (length lent) (meaning u) (ascii "\n") lent marks)
       i
 

@@ -21,7 +21,7 @@ ghost use mathlib.Core.Bool.{true};
 ghost use mathlib.Core.Option.{some};
 ghost use mathlib.Core.List.{[]};
 ghost use lib.ListN.{take};
-ghost use Rattle.model.specs.Call.{Call};
+ghost use Rattle.model.specs.Call.{Undated, Call};
 ghost use Rattle.uart.specs.Whole.{Good, meaning};
 ghost use Rattle.answers.specs.Replies.{readText, writeText, doneText};
 ghost use Rattle.session.specs.Requests.{commandOf, calls, carriedOut};
@@ -70,7 +70,7 @@ fn after_done(after: AfterDone, at: usize, out: &mut [u8]) -> Session
 
 fn has_left(uart: Uart, at: usize, out: &mut [u8]) -> Session
     requires { ⌜ Good uart ⌝ }
-    ensures { λ r. ⌜ Gives (calls Call.hasLeft [] (some (meaning uart))) (now (out .entry)) at (now (out .exit)) r ⌝ }
+    ensures { λ r. ⌜ Gives (calls (Call.undated Undated.hasLeft) [] (some (meaning uart))) (now (out .entry)) at (now (out .exit)) r ⌝ }
 {
     let answer = uart.has_left();
     let next = put_has_left(out, at, answer.has_left);
@@ -80,7 +80,7 @@ fn has_left(uart: Uart, at: usize, out: &mut [u8]) -> Session
 fn host_pending(uart: Uart, at: usize, out: &mut [u8]) -> Session
     requires { ⌜ Good uart ⌝ }
     requires { ⌜ Wide (now out) at ⌝ }
-    ensures { λ r. ⌜ Gives (calls Call.hostPending [] (some (meaning uart))) (now (out .entry)) at (now (out .exit)) r ⌝ }
+    ensures { λ r. ⌜ Gives (calls (Call.undated Undated.hostPending) [] (some (meaning uart))) (now (out .entry)) at (now (out .exit)) r ⌝ }
 {
     let answer = uart.host_pending();
     let next = put_host_pending(out, at, answer.count);

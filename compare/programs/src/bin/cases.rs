@@ -48,20 +48,20 @@ fn list<T: ToString>(items: impl Iterator<Item = T>) -> String {
 fn request(call: &Call) -> Option<String> {
     Some(match call {
         Call::Setup(_) => return None,
-        Call::Read { now, offset } => format!("Call.read {now} {offset}"),
+        Call::Read { now, offset } => format!("Call.at {now} (Dated.read {offset})"),
         Call::Write { now, offset, value } => {
-            format!("Call.write {now} (record {{ offset = {offset}; value = {value} }})")
+            format!("Call.at {now} (Dated.write (record {{ offset = {offset}; value = {value} }}))")
         }
-        Call::Receive { now, at, bytes } => format!("Call.receive {now} {at} {}", list(bytes.iter())),
-        Call::Wake { now } => format!("Call.wake {now}"),
-        Call::Watch { now, watched } => format!("Call.watch {now} {watched}"),
-        Call::Reset { now } => format!("Call.reset {now}"),
-        Call::PowerDown { now } => format!("Call.powerDown {now}"),
-        Call::Clock { now, period } => format!("Call.clockChange {now} {period}"),
-        Call::TakeTx { now, length } => format!("Call.takeTx {now} (replicate {length} 165)"),
-        Call::TakeWritten { length } => format!("Call.takeWritten (replicate {length} 165)"),
-        Call::HasLeft => "Call.hasLeft".to_owned(),
-        Call::HostPending => "Call.hostPending".to_owned(),
+        Call::Receive { now, at, bytes } => format!("Call.at {now} (Dated.receive {at} {})", list(bytes.iter())),
+        Call::Wake { now } => format!("Call.at {now} (Dated.machine Machine.wake)"),
+        Call::Watch { now, watched } => format!("Call.at {now} (Dated.machine (Machine.watch {watched}))"),
+        Call::Reset { now } => format!("Call.at {now} (Dated.machine Machine.reset)"),
+        Call::PowerDown { now } => format!("Call.at {now} (Dated.machine Machine.powerDown)"),
+        Call::Clock { now, period } => format!("Call.at {now} (Dated.machine (Machine.clockChange {period}))"),
+        Call::TakeTx { now, length } => format!("Call.at {now} (Dated.takeTx (replicate {length} 165))"),
+        Call::TakeWritten { length } => format!("Call.undated (Undated.takeWritten (replicate {length} 165))"),
+        Call::HasLeft => "Call.undated Undated.hasLeft".to_owned(),
+        Call::HostPending => "Call.undated Undated.hostPending".to_owned(),
     })
 }
 

@@ -8,8 +8,8 @@ use lib.ListN.{take, drop, getD}
 use borrow.Author.Needs.{needs}
 use Rattle.trace.specs.Low.{lowOf}
 use Rattle.trace.specs.declared.names.Name.{Name}
-use Rattle.model.specs.Call.{Call, reads, writes, does}
-use Rattle.model.specs.TwoRuns.StepCases.{step-cases}
+use Rattle.model.specs.Call.{Machine, Dated, Call, reads, writes, does}
+use Rattle.model.specs.Laws.StepCases.{step-cases}
 use Rattle.uart.specs.Whole.{meaning}
 use Rattle.answers.specs.Replies.{readText, writeText, doneText}
 use Rattle.session.specs.Requests.{commandOf, setsUp, calls, carriedOut}
@@ -31,12 +31,12 @@ returns-2 : tie.Need-returns-2
 returns-2 c =
     let far = c .before .before .before .before .before .before .before .before in
     let a = far .before .before .before .args in
-    gives-as (ap (λ (k : ℕ). calls (Call.read (getD (a .t3) 0 0) k) [] (some (meaning (a .session .uart))))
+    gives-as (ap (λ (k : ℕ). calls (Call.at (getD (a .t3) 0 0) (Dated.read k)) [] (some (meaning (a .session .uart))))
     (c .before .before .before .before .before .low .ensures)
     ∙ sym (ap (λ (n : Name). carriedOut (commandOf n (a .t3) (a .last) (a .bytes .now)) [] (some (meaning (a .session .uart))))
     (c .before .before .before .before .before .before .enum-told2 .given .1)))
-    (gives (c .before .before .before .before .read .ensures) (Call.read (getD (a .t3) 0 0)
-    (c .before .before .before .before .before .low .result)) reads
+    (gives (c .before .before .before .before .read .ensures) (Call.at (getD (a .t3) 0 0)
+    (Dated.read (c .before .before .before .before .before .low .result))) reads
     (step-cases _ .read _ _) (said (c .before .before .before .before .read .ensures)
     readText) (c .before .before .after-read .ensures))
 
@@ -44,29 +44,29 @@ returns-3 : tie.Need-returns-3
 returns-3 c =
     let far = c .before .before .before .before .before .before .before .before .before in
     let a = far .before .before .before .args in
-    gives-as (ap₂ (λ (o : ℕ) (v : ℕ). calls (Call.write (getD (a .t3) 0 0) (record { offset = o; value = v })) []
+    gives-as (ap₂ (λ (o : ℕ) (v : ℕ). calls (Call.at (getD (a .t3) 0 0) (Dated.write (record { offset = o; value = v }))) []
     (some (meaning (a .session .uart)))) (c .before .before .before .before .before .before .low2 .ensures)
     (c .before .before .before .before .before .low3 .ensures)
     ∙ sym (ap (λ (n : Name). carriedOut (commandOf n (a .t3) (a .last) (a .bytes .now)) [] (some (meaning (a .session .uart))))
     (c .before .before .before .before .before .before .before .enum-told3 .given .1)))
-    (gives (c .before .before .before .before .write .ensures) (Call.write (getD (a .t3) 0 0)
-    (record {
+    (gives (c .before .before .before .before .write .ensures) (Call.at (getD (a .t3) 0 0)
+    (Dated.write (record {
       offset = c .before .before .before .before .before .before .low2 .result;
       value =
           c .before .before .before .before .before .low3 .result;
-    })) writes (step-cases _ .write _ _ _)
+    }))) writes (step-cases _ .write _ _)
     (said (c .before .before .before .before .write .ensures) writeText) (c .before .before .after-write .ensures))
 
 returns-4 : tie.Need-returns-4
 returns-4 c =
     let far = c .before .before .before .before .before .before .before .before in
     let a = far .before .before .before .args in
-    gives-as (ap (λ (l : List ℕ). calls (Call.receive (getD (a .t3) 0 0) (getD (a .t3) 1 0) l) [] (some (meaning (a .session .uart))))
+    gives-as (ap (λ (l : List ℕ). calls (Call.at (getD (a .t3) 0 0) (Dated.receive (getD (a .t3) 1 0) l)) [] (some (meaning (a .session .uart))))
     (c .before .before .before .before .before .front .ensures)
     ∙ sym (ap (λ (n : Name). carriedOut (commandOf n (a .t3) (a .last) (a .bytes .now)) [] (some (meaning (a .session .uart))))
     (c .before .before .before .before .before .before .enum-told4 .given .1)))
-    (gives (c .before .before .before .before .receive .ensures) (Call.receive (getD (a .t3) 0 0) (getD (a .t3) 1 0)
-    (c .before .before .before .before .before .front .result .now)) does
+    (gives (c .before .before .before .before .receive .ensures) (Call.at (getD (a .t3) 0 0)
+    (Dated.receive (getD (a .t3) 1 0) (c .before .before .before .before .before .front .result .now))) does
     (step-cases _ .receive _ _ _) (said (c .before .before .before .before .receive .ensures)
     doneText) (c .before .before .after-done .ensures))
 
@@ -76,7 +76,7 @@ returns-5 c =
     let a = far .before .before .before .args in
     gives-as (sym (ap (λ (n : Name). carriedOut (commandOf n (a .t3) (a .last) (a .bytes .now)) [] (some (meaning (a .session .uart))))
     (c .before .before .before .before .before .enum-told5 .given .1)))
-    (gives (c .before .before .before .before .wake .ensures) (Call.wake (getD (a .t3) 0 0)) does (step-cases _ .wake _)
+    (gives (c .before .before .before .before .wake .ensures) (Call.at (getD (a .t3) 0 0) (Dated.machine Machine.wake)) does (step-cases _ .machine _ _)
     (said (c .before .before .before .before .wake .ensures) doneText) (c .before .before .after-done2 .ensures))
 
 returns-6 : tie.Need-returns-6
@@ -85,8 +85,8 @@ returns-6 c =
     let a = far .before .before .before .args in
     gives-as (sym (ap (λ (n : Name). carriedOut (commandOf n (a .t3) (a .last) (a .bytes .now)) [] (some (meaning (a .session .uart))))
     (c .before .before .before .before .before .enum-told6 .given .1)))
-    (gives (c .before .before .before .before .watch .ensures) (Call.watch (getD (a .t3) 0 0) (eqb (a .last) 1)) does
-    (step-cases _ .watch _ _)
+    (gives (c .before .before .before .before .watch .ensures) (Call.at (getD (a .t3) 0 0) (Dated.machine (Machine.watch (eqb (a .last) 1)))) does
+    (step-cases _ .machine _ _)
     (said (c .before .before .before .before .watch .ensures) doneText) (c .before .before .after-done3 .ensures))
 
 returns-7 : tie.Need-returns-7
@@ -95,7 +95,7 @@ returns-7 c =
     let a = far .before .before .before .args in
     gives-as (sym (ap (λ (n : Name). carriedOut (commandOf n (a .t3) (a .last) (a .bytes .now)) [] (some (meaning (a .session .uart))))
     (c .before .before .before .before .before .enum-told7 .given .1)))
-    (gives (c .before .before .before .before .reset .ensures) (Call.reset (getD (a .t3) 0 0)) does (step-cases _ .reset _)
+    (gives (c .before .before .before .before .reset .ensures) (Call.at (getD (a .t3) 0 0) (Dated.machine Machine.reset)) does (step-cases _ .machine _ _)
     (said (c .before .before .before .before .reset .ensures) doneText) (c .before .before .after-done4 .ensures))
 
 returns-8 : tie.Need-returns-8
@@ -104,7 +104,7 @@ returns-8 c =
     let a = far .before .before .before .args in
     gives-as (sym (ap (λ (n : Name). carriedOut (commandOf n (a .t3) (a .last) (a .bytes .now)) [] (some (meaning (a .session .uart))))
     (c .before .before .before .before .before .enum-told8 .given .1)))
-    (gives (c .before .before .before .before .power-down .ensures) (Call.powerDown (getD (a .t3) 0 0)) does (step-cases _ .powerDown _)
+    (gives (c .before .before .before .before .power-down .ensures) (Call.at (getD (a .t3) 0 0) (Dated.machine Machine.powerDown)) does (step-cases _ .machine _ _)
     (said (c .before .before .before .before .power-down .ensures) doneText) (c .before .before .after-done5 .ensures))
 
 returns-9 : tie.Need-returns-9
@@ -113,8 +113,8 @@ returns-9 c =
     let a = far .before .before .before .args in
     gives-as (sym (ap (λ (n : Name). carriedOut (commandOf n (a .t3) (a .last) (a .bytes .now)) [] (some (meaning (a .session .uart))))
     (c .before .before .before .before .before .enum-told9 .given .1)))
-    (gives (c .before .before .before .before .clock-change .ensures) (Call.clockChange (getD (a .t3) 0 0) (getD (a .t3) 1 0)) does
-    (step-cases _ .clockChange _ _)
+    (gives (c .before .before .before .before .clock-change .ensures) (Call.at (getD (a .t3) 0 0) (Dated.machine (Machine.clockChange (getD (a .t3) 1 0)))) does
+    (step-cases _ .machine _ _)
     (said (c .before .before .before .before .clock-change .ensures) doneText) (c .before .before .after-done6 .ensures))
 
 returns-10 : tie.Need-returns-10
