@@ -5,7 +5,8 @@ use Prim.Native.Nat.{ℕ, _+_}
 use native.Mathlib.Omega.{arith}
 use lib.Dec.{ltb}
 use Rattle.model.specs.Settle.{pending, onTheLine}
-use Rattle.model.specs.Replies.{leftNumber, pendingNumber}
+use Rattle.model.specs.Call.{left, pends}
+use Rattle.model.specs.Run.{numberOf}
 use Rattle.model.specs.Calls.{unless, undated, carried, outcome, quiet, hasLeft, hostPending}
 use Rattle.model.specs.declared.Frame.{Frame}
 use Rattle.queue.specs.Cursors.{slotOf}
@@ -20,10 +21,10 @@ use Rattle.calls.specs.declared.queries.HostPending.{HostPending}
 
 -- the number of a reply, and the reply
 abbrev pub leftReply : Bool → HasLeft
-leftReply b = record { number = leftNumber b; «has_left» = b }
+leftReply b = record { number = numberOf {H = ℕ} {W = ℕ} {L = ℕ} (left b); «has_left» = b }
 
 abbrev pub pendingReply : ℕ → HostPending
-pendingReply n = record { number = pendingNumber n; count = n }
+pendingReply n = record { number = numberOf {H = ℕ} {W = ℕ} {L = ℕ} (pends n); count = n }
 
 pub has-left-of : (c : Core) (a : Arrays) → ltb 0 (c .tx .count) ≡ undatedCall hasLeft (abs c a) .reply
 unfolding outcome unless carried hasLeft undated quiet

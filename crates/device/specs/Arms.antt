@@ -13,7 +13,7 @@ use Rattle.model.specs.Setters.{withWake}
 use Rattle.model.specs.Timing
 use Rattle.model.specs.Line.{timeoutAt}
 use Rattle.model.specs.Settle.{emptyThreshold, settingsOf}
-use Rattle.model.specs.Arm.{nthGone, firstGone, lastGone, instants, armAll}
+use Rattle.model.specs.Arm.{nthGone, lastGone, instants, armAll}
 use Rattle.model.specs.Arm
 use Rattle.model.specs.Tests.{periodLimit}
 use Rattle.model.specs.declared.Date.{Date}
@@ -111,7 +111,7 @@ pub armed-by : (c : Core) (a : Arrays) (goneAt : List ℕ) (runDate : ℕ) → a
     → below ≡ goneBelow which (flightOf goneAt (a .flight) (c .flight))
     → gone ≡ nthGone 0 (flightOf goneAt (a .flight) (c .flight)) → first ≡ onlyIf (c .control .watched) gone
     → w ≡ armAll (last ∷ landing ∷ timeout ∷ below ∷ first ∷ []) (c .control .wake) → w ≡ armAll (instants (abs c a)) (c .control .wake)
-unfolding settingsOf firstGone
+unfolding settingsOf
 armed-by c a goneAt runDate ea er hh rh {s} {last} {waits} {landing} {comes} {timeout} {below} {gone} {first} {w} {which} es el ew eg ec et
     ek eb en ef e =
     let u : State.Uart ℕ ℕ = abs c a in

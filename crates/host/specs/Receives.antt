@@ -14,7 +14,8 @@ use Rattle.model.specs.Calls
 use Rattle.model.specs.Calls.{unless, dated, settleAt, carried, quiet, lastDate, hostDate, handOver}
 use Rattle.model.specs.Tests.{dateEnd, hostFull, runsFull}
 use Rattle.model.specs.Keeps.Dated.{not-refused}
-use Rattle.model.specs.Limits.{sum, runCounts}
+use Rattle.model.specs.Events.{total}
+use Rattle.model.specs.Limits.{runCounts}
 use Rattle.model.specs.Keeps.Kept.{Kept, settle-keeps, fewer-waiting, fewer-runs, last-run}
 use Rattle.model.specs.Keeps.EachCall.{room-before}
 use Rattle.model.specs.declared.Done.{Done}
@@ -39,8 +40,8 @@ pub record Room (c : Core) (a : Arrays) (date n : ℕ) : Type 0 where
 
 -- ---- there is room after the settling, which takes only from the front
 
-last-count : (front : List Run) (r : Run) → r .count ≤ sum (runCounts (front ++ (r ∷ [])))
-unfolding sum
+last-count : (front : List Run) (r : Run) → r .count ≤ total (λ r. r .count) (front ++ (r ∷ []))
+unfolding total
 last-count [] r = omega arith
 last-count (s ∷ front) r = omega (arith, last-count front r)
 
@@ -49,8 +50,8 @@ count-low : (c : Core) (a : Arrays) → Ok c a → 0 < c .runs .count → getD (
 count-low c a ok pos =
     let rs : List Run = runsOf (a .runAt) (a .runLen) (c .runs) in
     let last : Run = runIn (a .runAt) (a .runLen) (lastOf 64 (c .runs)) in
-    let low : last .count ≤ sum (runCounts rs) =
-    subst (λ (l : List Run). last .count ≤ sum (runCounts l)) (sym (elems-last (runIn (a .runAt) (a .runLen)) 64 (c .runs) pos))
+    let low : last .count ≤ total (λ r. r .count) rs =
+    subst (λ (l : List Run). last .count ≤ total (λ r. r .count) l) (sym (elems-last (runIn (a .runAt) (a .runLen)) 64 (c .runs) pos))
     (last-count (take (c .runs .count - 1) rs) last)
     in
     omega (arith, low, ok .within .runSum, ok .within .host)

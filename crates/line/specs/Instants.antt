@@ -15,7 +15,7 @@ use Rattle.model.specs.State.{Sent, Run, OnTheLine, Uart, lineOf}
 use Rattle.model.specs.Line.{afterDate, timeoutAt}
 use Rattle.model.specs.Settle.{emptyThreshold, settingsOf}
 use Rattle.model.specs.Arm
-use Rattle.model.specs.Arm.{nthGone, firstGone, lastGone, belowThresholdAt, landingOf, instants}
+use Rattle.model.specs.Arm.{nthGone, lastGone, belowThresholdAt, landingOf, instants}
 use Rattle.model.specs.declared.Date.{Date}
 use Rattle.model.specs.declared.Line.{Line}
 use Rattle.line.specs.declared.Receiving.{Receiving}
@@ -97,7 +97,7 @@ module _ {H W : Type 0} where
       ∷ nextLanding (settingsOf u .«byte_time») (mark (u .receiving)) (waiting (u .hostRuns) (u .host)) (lineOf u)
       ∷ onlyIf (settingsOf u .«rx_tout_en») (timeoutAt (settingsOf u) (lineOf u))
       ∷ goneBelow (belowThreshold (emptyThreshold (u .control .words .conf1)) (length (u .inFlight))) (u .inFlight)
-      ∷ onlyIf (u .control .watched) (firstGone (u .inFlight))
+      ∷ onlyIf (u .control .watched) (nthGone 0 (u .inFlight))
       ∷ []
   unfolding instants
   instants-are u = rw (landing-at u, below-at (emptyThreshold (u .control .words .conf1)) (u .inFlight))

@@ -29,9 +29,6 @@ nthGone n [] = None
 nthGone zero (s ∷ ss) = At (s .goneAt)
 nthGone (suc n) (s ∷ ss) = nthGone n ss
 
-unfoldable pub firstGone : {W : Type 0} → List (Sent W) → Date
-firstGone ss = nthGone 0 ss
-
 unfoldable pub lastGone : {W : Type 0} → List (Sent W) → Date
 lastGone ss = nthGone (length ss - 1) ss
 
@@ -62,7 +59,7 @@ module _ {H W : Type 0} where
       ∷ nextLanding u
       ∷ onlyIf (settingsOf u .«rx_tout_en») (timeoutAt (settingsOf u) (lineOf u))
       ∷ belowThresholdAt (emptyThreshold (u .control .words .conf1)) (u .inFlight)
-      ∷ onlyIf (u .control .watched) (firstGone (u .inFlight))
+      ∷ onlyIf (u .control .watched) (nthGone 0 (u .inFlight))
       ∷ []
 
 -- each instant in turn, as the cycle at which it has come

@@ -2,7 +2,7 @@
 use Prim.Native.Nat.{ℕ}
 use mathlib.Core.Bool.{Bool}
 use mathlib.Core.Option.{Option, none, some}
-use mathlib.Core.List.{List}
+use mathlib.Core.List.{List, [], _∷_}
 use Rattle.model.specs.Replies.{ReadOf, Take}
 use Rattle.model.specs.declared.Write.{Write}
 use Rattle.model.specs.declared.Done.{Done}
@@ -34,6 +34,18 @@ pub data Call (R X H L : Type 0) : Type 0 where
 unfoldable pub dateOf : {R X H L : Type 0} → Call R X H L → Option ℕ
 dateOf (Call.at now c) = some now
 dateOf (Call.undated c) = none
+
+-- what a call gives: the host bytes that it hands over, and what it writes
+unfoldable pub given : {R X H L : Type 0} → Call R X H L → List H × List X
+given (Call.at now (Dated.read r)) = ([], [])
+given (Call.at now (Dated.write x)) = ([], x ∷ [])
+given (Call.at now (Dated.receive date bs)) = (bs, [])
+given (Call.at now (Dated.takeTx lent)) = ([], [])
+given (Call.at now (Dated.machine m)) = ([], [])
+given (Call.undated c) = ([], [])
+
+abbrev pub hostOf : {R X H L : Type 0} → Call R X H L → List H
+hostOf c = given c .0
 
 -- a write names an offset and a 32-bit word
 pub record Written : Type 0 where

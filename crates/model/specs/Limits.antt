@@ -3,12 +3,13 @@
 -- type, and the byte on the line lands when the line is free by the state's form. Assumes nothing.
 use mathlib.Core.Path.{_≡_}
 use Prim.Native.Nat.{ℕ, _+_, _≤_, _<_}
-use mathlib.Core.Bool.{Bool, true, false}
-use mathlib.Core.Option.{Option, none, some}
+use mathlib.Core.Bool.{true, false}
+use mathlib.Core.Option.{some}
 use mathlib.Core.List.{List, [], _∷_, map}
 use lib.ListN.{length}
 use lib.Bits.{bitAnd}
 use Rattle.dates.specs.Dates
+use Rattle.model.specs.Events.{total}
 use Rattle.model.specs.State.{Sent, Run, OnTheLine, Uart, lineOf}
 use Rattle.model.specs.Line.{fifoBytes}
 use Rattle.model.specs.Tests.{repeated, dateEnd, sentLimit, hostLimit, runsLimit, periodLimit}
@@ -30,10 +31,6 @@ abbrev pub NoLater : ℕ → Date → Type 0
 NoLater n None = Unit {0}
 NoLater n (At d) = d ≤ n
 
-unfoldable pub sum : List ℕ → ℕ
-sum [] = 0
-sum (n ∷ ns) = n + sum ns
-
 abbrev pub flightDates : {W : Type 0} → List (Sent W) → List ℕ
 flightDates ss = map (λ s. s .goneAt) ss
 
@@ -42,10 +39,6 @@ runDates rs = map (λ r. r .date) rs
 
 abbrev pub runCounts : List Run → List ℕ
 runCounts rs = map (λ r. r .count) rs
-
-abbrev pub isHeard : {H : Type 0} → Option (OnTheLine H) → Bool
-isHeard none = false
-isHeard (some l) = l .frame .heard
 
 abbrev pub Fits : ℕ → Type 0
 Fits d = d ≤ Dates.last
@@ -64,10 +57,10 @@ pub record Within {H W : Type 0} (u : Uart H W) : Type 0 where
   pub runs : length (u .hostRuns) ≤ runsLimit
   pub runCount : All (λ n. 1 ≤ n) (runCounts (u .hostRuns))
   pub runOrder : Chain _<_ (runDates (u .hostRuns))
-  pub runSum : sum (runCounts (u .hostRuns)) ≡ length (u .host)
+  pub runSum : total (λ r. r .count) (u .hostRuns) ≡ length (u .host)
   pub host : length (u .host) ≤ hostLimit
   pub status : bitAnd (u .map .«idle_status») fifoCounts ≡ 0
-  pub idleLine : isHeard (u .receiving) ≡ true → lineOf u .«idle_since» ≡ None
+  pub idleLine : (l : OnTheLine H) → u .receiving ≡ some l → l .frame .heard ≡ true → lineOf u .«idle_since» ≡ None
   pub flyingFits : All Fits (flightDates (u .inFlight))
   pub runsFit : All Fits (runDates (u .hostRuns))
   pub lineFits : Fits (lineOf u .«line_free_at»)

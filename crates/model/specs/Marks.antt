@@ -15,7 +15,7 @@ use Rattle.model.specs.Settle.{gone, txDone, leave, depart, popRun, rece
 use Rattle.model.specs.Settle.{beforeStart, idle, lineFree, passOn, pass, onTheLine, passesFrom, pending}
 use Rattle.model.specs.Settle.{departures, passes, aboveFull, inFifo, emptyThreshold, belowEmpty, assertLevels, intStatus, drive}
 use Rattle.model.specs.Settle.{noLaterThan, settlingDate, levels, leveled, settingsOf, settleTo, settle}
-use Rattle.model.specs.Arm.{called, nthGone, firstGone, lastGone, belowThresholdAt, nextStart, landingOf, nextLanding, instants}
+use Rattle.model.specs.Arm.{called, nthGone, lastGone, belowThresholdAt, nextStart, landingOf, nextLanding, instants}
 use Rattle.model.specs.Arm.{armAll, arm}
 use Rattle.model.specs.Replies.{number, notices, noReport, report, word, byte, readNumber, writeNumber}
 use Rattle.model.specs.Replies.{doneNumber, takenNumber}
@@ -74,50 +74,47 @@ wakes cs = map (λ a. (a .reply, a .report .wake)) (run cs bench)
 
 -- ---- the rows
 
--- a row: two that are equal
-infix 70 _is_
-pub data Row : Type 1 where
-  _is_ : {A : Type 0} → A → A → Row
-
-unfoldable pub Hold : List Row → Type 0
+-- every row holds
+unfoldable pub Hold : List (Type 0) → Type 0
 Hold [] = Unit {0}
-Hold (x is y ∷ rs) = (x ≡ y) × Hold rs
+Hold (row ∷ rows) = row × Hold rows
 
 -- P7's calls: the timeout enabled, and a byte received at 100
 unfoldable pub p7 : List Request
 p7 = write 0 (stored conf1) 0x20C060 ∷ at 100 (receive 100 (0x55 ∷ [])) ∷ []
 
-unfoldable pub marks : List Row
+unfoldable pub marks : List (Type 0)
 marks =
     -- P1: half bits
-    frameHalfBits 0 is 14 ∷ frameHalfBits 0x1C is 20 ∷ frameHalfBits 0x2C is 21 ∷ frameHalfBits 0x3E is 24
+    (map frameHalfBits (0 ∷ 0x1C ∷ 0x2C ∷ 0x3E ∷ []) ≡ 14 ∷ 20 ∷ 21 ∷ 24 ∷ [])
     -- P2: a bit and a byte in subcycles
-    ∷ bitTime (wordsAmong benchWords) 8 is 1344 ∷ byteTime (wordsAmong benchWords) 8 is 13440
+    ∷ (bitTime (wordsAmong benchWords) 8 ≡ 1344) ∷ (byteTime (wordsAmong benchWords) 8 ≡ 13440)
     -- P3: one byte sent
-    ∷ replies (write 100 fifo 0x41 ∷ read 519 (shown fsmStatus) ∷ read 520 (shown fsmStatus) ∷ read 520 (shown intRaw) ∷ [])
-    is (writes Accepted ∷ value 0x10 ∷ value 0 ∷ value 0x4002 ∷ [])
+    ∷ (replies (write 100 fifo 0x41 ∷ read 519 (shown fsmStatus) ∷ read 520 (shown fsmStatus) ∷ read 520 (shown intRaw) ∷ [])
+    ≡ writes Accepted ∷ value 0x10 ∷ value 0 ∷ value 0x4002 ∷ [])
     -- P4: 129 writes, and the 130th
-    ∷ noted (replicate 129 (write 100 fifo 0x41) ++ read 100 (shown status) ∷ write 100 fifo 0x42 ∷ read 100 (shown status) ∷ [])
-    is (replicate 129 (writes Accepted, []) ++ (value 0x00800000, []) ∷ (writes Accepted, UartOverflow ∷ []) ∷ (value 0x00800000, []) ∷ [])
+    ∷ (noted (replicate 129 (write 100 fifo 0x41) ++ read 100 (shown status) ∷ write 100 fifo 0x42 ∷ read 100 (shown status) ∷ [])
+    ≡ replicate 129 (writes Accepted, []) ++ (value 0x00800000, []) ∷ (writes Accepted, UartOverflow ∷ []) ∷ (value 0x00800000, []) ∷ [])
     -- P5: the wake after P4's 130 writes
-    ∷ drop 130 (wakes (replicate 130 (write 100 fifo 0x41) ++ write 100 intClr 2 ∷ read 100 (shown intRaw) ∷ at 520 (machine wake) ∷ read 13960 (shown intRaw) ∷ []))
-    is ((writes Accepted, At 520) ∷ (value 0, At 520) ∷ (does Done, At 13960) ∷ (value 2, At 13960) ∷ [])
+    ∷ (drop 130 (wakes (replicate 130 (write 100 fifo 0x41)
+    ++ write 100 intClr 2 ∷ read 100 (shown intRaw) ∷ at 520 (machine wake) ∷ read 13960 (shown intRaw) ∷ []))
+    ≡ (writes Accepted, At 520) ∷ (value 0, At 520) ∷ (does Done, At 13960) ∷ (value 2, At 13960) ∷ [])
     -- P6: one byte received
-    ∷ noted (at 100 (receive 100 (0x55 ∷ [])) ∷ read 519 (shown status) ∷ read 520 (shown status) ∷ read 520 fifo ∷ read 520 fifo ∷ [])
-    is ((does Done, []) ∷ (value 0, []) ∷ (value 1, []) ∷ (reads (byte 0x55), []) ∷ (value 0, UartEmptyRead ∷ []) ∷ [])
+    ∷ (noted (at 100 (receive 100 (0x55 ∷ [])) ∷ read 519 (shown status) ∷ read 520 (shown status) ∷ read 520 fifo ∷ read 520 fifo ∷ [])
+    ≡ (does Done, []) ∷ (value 0, []) ∷ (value 1, []) ∷ (reads (byte 0x55), []) ∷ (value 0, UartEmptyRead ∷ []) ∷ [])
     -- P7: the receive timeout
-    ∷ replies (p7 ++ read 939 (shown intRaw) ∷ read 940 (shown intRaw) ∷ []) is (writes Accepted ∷ does Done ∷ value 2 ∷ value 0x102 ∷ [])
+    ∷ (replies (p7 ++ read 939 (shown intRaw) ∷ read 940 (shown intRaw) ∷ []) ≡ writes Accepted ∷ does Done ∷ value 2 ∷ value 0x102 ∷ [])
     -- P8: a second byte at the timeout, and one cycle before it
-    ∷ replies (p7 ++ at 100 (receive 940 (0x56 ∷ [])) ∷ read 940 (shown intRaw) ∷ []) is (writes Accepted ∷ does Done ∷ does Done ∷ value 0x102 ∷ [])
-    ∷ drop 2 (replies (p7 ++ at 100 (receive 939 (0x56 ∷ [])) ∷ read 940 (shown intRaw) ∷ read 1358 (shown status) ∷ read 1359 (shown status)
-    ∷ read 1778 (shown intRaw) ∷ read 1779 (shown intRaw) ∷ [])) is (does Done ∷ value 2 ∷ value 1 ∷ value 2 ∷ value 2 ∷ value 0x102 ∷ [])
+    ∷ (drop 2 (replies (p7 ++ at 100 (receive 940 (0x56 ∷ [])) ∷ read 940 (shown intRaw) ∷ [])) ≡ does Done ∷ value 0x102 ∷ [])
+    ∷ (drop 2 (replies (p7 ++ at 100 (receive 939 (0x56 ∷ [])) ∷ read 940 (shown intRaw) ∷ read 1358 (shown status)
+    ∷ read 1359 (shown status) ∷ read 1778 (shown intRaw) ∷ read 1779 (shown intRaw) ∷ []))
+    ≡ does Done ∷ value 2 ∷ value 1 ∷ value 2 ∷ value 2 ∷ value 0x102 ∷ [])
     -- P9: RXFIFO_FULL at its threshold of 96, and above; and each of the 97 landings is a pass
-    ∷ replies (at 0 (receive 0 (replicate 97 7)) ∷ read 40320 (shown status) ∷ read 40320 (shown intRaw) ∷ read 40740 (shown status) ∷ read 40740 (shown intRaw) ∷ [])
-    is (does Done ∷ value 96 ∷ value 2 ∷ value 97 ∷ value 3 ∷ [])
-    ∷ map (λ a. a .report .passes) (run (at 0 (receive 0 (replicate 97 7)) ∷ read 40740 (shown status) ∷ []) bench) is (1 ∷ 98 ∷ [])
+    ∷ (replies (at 0 (receive 0 (replicate 97 7)) ∷ read 40320 (shown status) ∷ read 40320 (shown intRaw) ∷ read 40740 (shown status)
+    ∷ read 40740 (shown intRaw) ∷ []) ≡ does Done ∷ value 96 ∷ value 2 ∷ value 97 ∷ value 3 ∷ [])
+    ∷ (map (λ a. a .report .passes) (run (at 0 (receive 0 (replicate 97 7)) ∷ read 40740 (shown status) ∷ []) bench) ≡ 1 ∷ 98 ∷ [])
     -- P10: the host queue's last free byte
-    ∷ map numberOf (replies (at 0 (receive 0 (replicate 1024 7)) ∷ [])) is (0 ∷ [])
-    ∷ map numberOf (replies (at 0 (receive 0 (replicate 1025 7)) ∷ [])) is (5 ∷ [])
+    ∷ (map (λ n. numberOf (step (at 0 (receive 0 (replicate n 7))) bench .answer .reply)) (1024 ∷ 1025 ∷ []) ≡ 0 ∷ 5 ∷ [])
     ∷ []
 
 pub marks-hold : Hold marks
@@ -125,7 +122,7 @@ unfolding benchWords bench Hold p7 marks choose dueBy instantOf onlyIf earliest 
     unmodelledSource halfBitTime bitTime byteTime timeoutTime settings raiseIf latest noteSource afterDate opened timeoutAt timeOut frame
     start fate land gone txDone leave depart popRun received nothingDue timedOut landed inFrame begun beforeStart idle lineFree passOn pass
     total goesOn onePass lost passesIn overflowsIn onTheLine passesFrom pending departures passes aboveFull inFifo emptyThreshold belowEmpty
-    assertLevels intStatus drive noLaterThan settlingDate levels leveled settingsOf settleTo settle called nthGone firstGone lastGone
+    assertLevels intStatus drive noLaterThan settlingDate levels leveled settingsOf settleTo settle called nthGone lastGone
     belowThresholdAt nextStart landingOf nextLanding instants armAll arm number notices noReport report readNumber writeNumber doneNumber
     takenNumber registerAmong registerOf placeAmong decide valueOf wordsBy replaced noteIf sourceNotes statusWord Registers.fsmStatus looks
     pop shownIn readRegister readLooking readAt conf0Notes storedNotes startsAt goneAt sent dropped sendByte resetFifos storing clearing
@@ -133,5 +130,4 @@ unfolding benchWords bench Hold p7 marks choose dueBy instantOf onlyIf earliest 
     refusing unless afterSettling carried outcome joined lastDate hostDate dated quiet readPlaced writePlaced send handOver Calls.receive
     Calls.machine writeAt Calls.read Calls.write wordsAmong mapOf newControl new numberOf dateOf stepped replying planBy writing plan step
     run
-marks-hold =
-    (refl, (refl, (refl, (refl, (refl, (refl, (refl, (refl, (refl, (refl, (refl, (refl, (refl, (refl, (refl, (refl, (refl, tt)))))))))))))))))
+marks-hold = (refl, (refl, (refl, (refl, (refl, (refl, (refl, (refl, (refl, (refl, (refl, (refl, (refl, tt)))))))))))))

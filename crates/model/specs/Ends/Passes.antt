@@ -10,7 +10,7 @@ use lib.ListN.{length}
 use borrow.Author.Tests.{ltb-true, ltb-false, leb-true, leb-false}
 use Rattle.dates.specs.Dates.{later, earlier}
 use Rattle.model.specs.Numbers.{dueBy, instantOf}
-use Rattle.model.specs.State.{Run, OnTheLine, Uart, lineOf}
+use Rattle.model.specs.State.{Run, OnTheLine, Uart, lineOf, lineBytes}
 use Rattle.model.specs.Setters.{withLine}
 use Rattle.model.specs.Events.{Event, departure, timeout, landing, nothing}
 use Rattle.model.specs.Line
@@ -42,10 +42,6 @@ pub record DueAt (date : ℕ) (d : Date) : Type 0 where
   pub at : ℕ
   pub is : d ≡ At at
   pub due : at ≤ date
-
-abbrev pub lineBytes : {H : Type 0} → Option (OnTheLine H) → List H
-lineBytes none = []
-lineBytes (some l) = l .byte ∷ []
 
 -- the frame of the byte on the line, or of the next to start
 abbrev pub frameOf : {H : Type 0} → Settings → Option (OnTheLine H) → Frame

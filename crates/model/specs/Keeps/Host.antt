@@ -5,10 +5,11 @@ use native.Mathlib.Omega.{arith}
 use mathlib.Core.List.{List, [], _∷_, _++_}
 use lib.ListN.{length, length-append, length-map}
 use borrow.Author.Tests.{leb-false}
+use Rattle.model.specs.Events
 use Rattle.model.specs.State.{Run}
 use Rattle.model.specs.Calls.{joined, lastDate}
 use Rattle.model.specs.Tests.{hostLimit, runsLimit}
-use Rattle.model.specs.Limits.{Chain, All, nil, cons, sum, runDates, runCounts, Fits}
+use Rattle.model.specs.Limits.{Chain, All, nil, cons, runDates, runCounts, Fits}
 use Rattle.model.specs.Laws.Lists.{chain-snoc, all-snoc}
 use Rattle.model.specs.Keeps.Kept.{lastDate-lastOf}
 use Rattle.model.specs.Laws.Choose.{choose-ind}
@@ -30,11 +31,11 @@ module _ (date n : ℕ) where
       choose-ind (λ (l : List Run). All (λ c. 1 ≤ c) (runCounts l)) _ (λ _. cons (omega arith) nil) (λ _. cons p (cons h nil))
   joined-counts (r ∷ s ∷ rs) h (cons p a) = cons p (joined-counts (s ∷ rs) h a)
 
-  joined-sum : (rs : List Run) → sum (runCounts (joined date n rs)) ≡ sum (runCounts rs) + n
-  unfolding joined sum
+  joined-sum : (rs : List Run) → Events.total (λ r. r .count) (joined date n rs) ≡ Events.total (λ r. r .count) rs + n
+  unfolding joined Events.total
   joined-sum [] = omega arith
   joined-sum (r ∷ []) =
-      choose-ind (λ (l : List Run). sum (runCounts l) ≡ sum (runCounts (r ∷ [])) + n) _ (λ _. omega arith) (λ _. omega arith)
+      choose-ind (λ (l : List Run). Events.total (λ r. r .count) l ≡ Events.total (λ r. r .count) (r ∷ []) + n) _ (λ _. omega arith) (λ _. omega arith)
   joined-sum (r ∷ s ∷ rs) = omega (arith, joined-sum (s ∷ rs))
 
 one-more : (runs : ℕ) → (1 ≤ runs → runs < runsLimit) → runs + 1 ≤ runsLimit

@@ -1,17 +1,19 @@
 -- Within the limits, part by part: each part speaks of as little of the state as it can, so that a step that leaves a part
 -- alone carries its facts over as they are. Assumes nothing.
-use mathlib.Core.Path.{_≡_}
+use mathlib.Core.Path.{_≡_, refl, ap, _∙_}
 use Prim.Native.Nat.{ℕ, _+_, _≤_, _<_}
-use mathlib.Core.Bool.{Bool, true, false}
+use mathlib.Core.Bool.{Bool, true, false, false≢true}
+use mathlib.Core.Option.{Option, none, some}
 use mathlib.Core.List.{List}
 use lib.ListN.{length}
 use lib.Bits.{bitAnd}
 use Rattle.dates.specs.Dates
-use Rattle.model.specs.State.{Sent, Run, Uart}
+use Rattle.model.specs.Events
+use Rattle.model.specs.State.{OnTheLine, Sent, Run, Uart}
 use Rattle.model.specs.Line.{fifoBytes}
 use Rattle.model.specs.Tests.{repeated, dateEnd, sentLimit, hostLimit, runsLimit, periodLimit}
 use Rattle.model.specs.SetUp.{fifoCounts}
-use Rattle.model.specs.Limits.{Chain, All, NoLater, sum, flightDates, runDates, runCounts, isHeard, Fits, Within}
+use Rattle.model.specs.Limits.{Chain, All, NoLater, flightDates, runDates, runCounts, Fits, Within}
 use Rattle.model.specs.declared.Date.{Date}
 use Rattle.model.specs.declared.Date.the-variants.{None}
 use Rattle.model.specs.declared.RegisterMap.{RegisterMap}
@@ -45,9 +47,18 @@ HostWithin rs bs = record {
   counts : All (λ n. 1 ≤ n) (runCounts rs);
   order : Chain _<_ (runDates rs);
   fit : All Fits (runDates rs);
-  total : sum (runCounts rs) ≡ length bs;
+  total : Events.total (λ r. r .count) rs ≡ length bs;
   host : length bs ≤ hostLimit;
 }
+
+abbrev pub isHeard : {H : Type 0} → Option (OnTheLine H) → Bool
+isHeard none = false
+isHeard (some l) = l .frame .heard
+
+heard-one : {H : Type 0} (o : Option (OnTheLine H)) {P : Type 0} → ((l : OnTheLine H) → o ≡ some l → l .frame .heard ≡ true → P)
+    → isHeard o ≡ true → P
+heard-one none k e = absurd (false≢true e)
+heard-one (some l) k e = k l refl e
 
 -- the line: whether a heard byte is on it, since when it is idle, and when it is free
 abbrev pub LineWithin : Bool → Line → Type 0
@@ -87,7 +98,7 @@ module _ {H W : Type 0} (u : Uart H W) where
     flight = record { flying = w .flying; order = w .flyingDates; fit = w .flyingFits; sent = w .sent };
     rx = w .received;
     host = record { runs = w .runs; counts = w .runCount; order = w .runOrder; fit = w .runsFit; total = w .runSum; host = w .host };
-    line = record { idle = w .idleLine; free = w .lineFits; since = w .idleFits };
+    line = record { idle = heard-one (u .receiving) (w .idleLine); free = w .lineFits; since = w .idleFits };
   }
 
   pub together : Parts → Within u
@@ -108,7 +119,7 @@ module _ {H W : Type 0} (u : Uart H W) where
     runSum = p .host .total;
     host = p .host .host;
     status = p .map .status;
-    idleLine = p .line .idle;
+    idleLine = λ l e h. p .line .idle (ap isHeard e ∙ h);
     flyingFits = p .flight .fit;
     runsFit = p .host .fit;
     lineFits = p .line .free;

@@ -9,6 +9,7 @@ use mathlib.Core.List.{List, [], _∷_}
 use lib.ListN.{length, getD}
 use lib.Bits.{bitAnd, and-step, and-zero-r}
 use Rattle.model.specs.Numbers.{choose, without}
+use Rattle.model.specs.Events
 use Rattle.model.specs.State.{Uart}
 use Rattle.model.specs.Map.{placeAmong}
 use Rattle.model.specs.Tests.{repeated}
@@ -17,7 +18,7 @@ use Rattle.model.specs.Calls.{Plan, outcome}
 use Rattle.model.specs.SetUp.{fifoCounts, mapOf, newControl, new}
 use Rattle.model.specs.Call.{Machine, Dated, Undated, Call, dateOf, Request, Reply}
 use Rattle.model.specs.Run.{Step, stepped, replying, planBy, writing, plan, step}
-use Rattle.model.specs.Limits.{Chain, All, sum, Within}
+use Rattle.model.specs.Limits.{Chain, All, Within}
 use Rattle.model.specs.Laws.Plans.{answering, replied}
 use Rattle.model.specs.Keeps.Parts.{together}
 use Rattle.model.specs.Keeps.EachCall.{read-within, write-within, receive-within, wake-within, reset-within, powerDown-within}
@@ -43,7 +44,7 @@ counts-cleared w = and-disjoint 32 w _ fifoCounts (omega arith) refl
 -- set-up takes sixteen offsets, all different
 pub new-within : {H W : Type 0} (offsets ws : List ℕ) → length offsets ≡ 16 → repeated offsets ≡ false
     → Within {H = H} {W = W} (new offsets ws)
-unfolding new mapOf newControl placeAmong choose decide sum
+unfolding new mapOf newControl placeAmong choose decide Events.total
 new-within offsets ws sixteen different =
     together _ (record {
       map = record { sixteen = sixteen; offsets = different; status = counts-cleared (getD ws 6 0) };

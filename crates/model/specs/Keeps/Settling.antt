@@ -10,12 +10,13 @@ use lib.ListN.{length, take, drop, length-append, length-take, length-drop, leng
 use borrow.Author.Tests.{leb-true, leb-false, ltb-true}
 use Rattle.dates.specs.Dates
 use Rattle.dates.specs.Dates.{after}
+use Rattle.model.specs.Events
 use Rattle.model.specs.State.{Sent, Run, Uart}
 use Rattle.model.specs.Setters.{withLineFreeAt}
 use Rattle.model.specs.Line.{fifoBytes, raiseIf, noteSource, opened, timeOut, frame, start, fate, land}
 use Rattle.model.specs.Settle.{gone, txDone, leave, depart, popRun, received, timedOut, landed, begun, pass, assertLevels, drive}
 use Rattle.model.specs.Settle.{levels, leveled, settingsOf, settleTo, settle}
-use Rattle.model.specs.Limits.{cons, sum, flightDates, NoLater, Fits, Within}
+use Rattle.model.specs.Limits.{cons, flightDates, NoLater, Fits, Within}
 use Rattle.model.specs.Laws.Lists.{chain-drop, all-head, all-drop, map-drop}
 use Rattle.model.specs.Laws.Choose.{choose-ind}
 use Rattle.model.specs.Laws.Cases.{KeptOnLine, pass-ind, passes-ind}
@@ -89,7 +90,7 @@ received-within {H} s how b held le =
 
 -- the first run loses a byte, and goes with its last
 popRun-within : {H : Type 0} (rs : List Run) (b : H) (bs : List H) → HostWithin rs (b ∷ bs) → HostWithin (popRun rs) bs
-unfolding popRun sum
+unfolding popRun Events.total
 popRun-within [] b bs w = absurd (omega (arith, w .total))
 popRun-within (r ∷ rs) b bs w =
     choose-ind (λ (l : List Run). HostWithin l bs) _

@@ -10,7 +10,7 @@ use Rattle.dates.specs.Laws.{cycles-bound}
 use Rattle.model.specs.Numbers.{onlyIf, earliest, inCycles}
 use Rattle.model.specs.State.{Sent, OnTheLine, Uart, lineOf}
 use Rattle.model.specs.Line.{afterDate, timeoutAt}
-use Rattle.model.specs.Arm.{called, nthGone, firstGone, lastGone, belowThresholdAt, landingOf, nextLanding, instants, armAll, arm}
+use Rattle.model.specs.Arm.{called, nthGone, lastGone, belowThresholdAt, landingOf, nextLanding, instants, armAll, arm}
 use Rattle.model.specs.Tests.{dateEnd}
 use Rattle.model.specs.Limits.{All, nil, cons, NoLater, flightDates, Fits, Within}
 use Rattle.model.specs.Laws.Choose.{choose-ind}
@@ -49,7 +49,7 @@ module _ {H W : Type 0} (u : Uart H W) where
   landingOf-fits time (some l) h = h
 
   instants-fit : All Fits (flightDates (u .inFlight)) → Fits (lineOf u .«line_free_at») → All DateFits (instants u)
-  unfolding instants nextLanding lastGone firstGone belowThresholdAt timeoutAt
+  unfolding instants nextLanding lastGone belowThresholdAt timeoutAt
   instants-fit a h =
       cons (nthGone-fits _ (u .inFlight) a)
       (cons (landingOf-fits _ (u .receiving) h)

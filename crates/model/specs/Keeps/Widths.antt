@@ -9,8 +9,9 @@ use mathlib.Core.List.{List, [], _∷_, map, map-id}
 use lib.ListN.{getD}
 use lib.Bits.{or-lt, and-le-l}
 use Rattle.dates.specs.Dates
+use Rattle.model.specs.Laws.Lists.{all-head}
 use Rattle.model.specs.Numbers.{choose}
-use Rattle.model.specs.State.{Sent, OnTheLine, Uart, lineOf}
+use Rattle.model.specs.State.{Sent, OnTheLine, Uart, lineOf, lineBytes}
 use Rattle.model.specs.TwoRuns.Renamed.{mapSent, mapReceiving, mapUart}
 use Rattle.model.specs.Line.{RXFIFO-OVF, RXFIFO-TOUT, TXFIFO-EMPTY, RXFIFO-FULL, TX-DONE, raiseIf, noteSource, opened, timeOut}
 use Rattle.model.specs.Line.{start, land}
@@ -24,11 +25,11 @@ use Rattle.model.specs.Registers.{clearing, writeRegister, concluded}
 use Rattle.model.specs.Calls
 use Rattle.model.specs.Calls.{afterSettling, undated, carried, quiet, dated, clocked, cleared, clearedLine}
 use Rattle.model.specs.Calls.{handOver, readPlaced, send, writePlaced}
-use Rattle.model.specs.Call.{Machine, Dated, Undated, Call, dateOf, Written, Request}
+use Rattle.model.specs.Call.{Machine, Dated, Undated, Call, dateOf, Written, Request, given}
 use Rattle.model.specs.Run.{Step, stepped, replying, planBy, writing, plan, step}
 use Rattle.model.specs.SetUp.{wordsAmong, fifoCounts, mapOf, newControl, new}
 use Rattle.model.specs.Limits.{All, nil, cons, NoLater}
-use Rattle.model.specs.Widths.{Word32, Words32, Bytes, ByteOn, Given, Widths}
+use Rattle.model.specs.Widths.{Word32, Words32, Bytes, Given, Widths}
 use Rattle.model.specs.Laws.Choose.{choose-ind}
 use Rattle.model.specs.Laws.Cases.{KeptOnLine, passes-ind}
 use Rattle.model.specs.Laws.AccessCases.{write-ind, readRegister-ind, writeRegister-ind}
@@ -185,13 +186,13 @@ machine-worked now (Machine.watch b) u v n = arm-numbers _ (withRaw refl refl re
 machine-worked now (Machine.clockChange period) u v n = arm-numbers v n
 
 worked-numbers : (c : Request) (u v : Uart ℕ ℕ) → Given c → Numbers v → Numbers (plan c u .work v .state)
-unfolding plan planBy replying writing quiet readAt concluded Calls.read readPlaced Calls.write send writePlaced Calls.receive Calls.takeTx
+unfolding plan planBy replying writing given quiet readAt concluded Calls.read readPlaced Calls.write send writePlaced Calls.receive Calls.takeTx
     Calls.takeWritten Calls.hasLeft Calls.hostPending
 worked-numbers (Call.at now (Dated.read offset)) u v g n = looking-numbers _ _ v n
 worked-numbers (Call.at now (Dated.write x)) u v g n =
     write-ind (λ p. Numbers (p .work v .state)) now (registerOf (u .map .offsets) (x .offset)) (x .value) u
     (λ _. arm-numbers _ (levels-numbers _ (send-numbers now _ v n)))
-    (λ _. arm-numbers _ (levels-numbers _ (write-numbers _ (x .value) v g n)))
+    (λ _. arm-numbers _ (levels-numbers _ (write-numbers _ (x .value) v (all-head (g .0)) n)))
 worked-numbers (Call.at now (Dated.receive date bs)) u v g n = hand-numbers _ bs v n
 worked-numbers (Call.at now (Dated.takeTx lent)) u v g n = withRaw refl refl refl (n .raw) n
 worked-numbers (Call.at now (Dated.machine m)) u v g n = machine-worked now m u v n
@@ -242,19 +243,19 @@ flight-same [] a = refl
 flight-same (s ∷ ss) (cons p a) =
     ap₂ (λ b r. record { goneAt = s .goneAt; byte = b } ∷ r) (let e : s .byte % 256 ≡ s .byte = omega arith in e) (flight-same ss a)
 
-line-same : (o : Option (OnTheLine ℕ)) → ByteOn o → mapReceiving low o ≡ o
+line-same : (o : Option (OnTheLine ℕ)) → Bytes (lineBytes o) → mapReceiving low o ≡ o
 unfolding mapReceiving low
 line-same none h = refl
-line-same (some l) h = ap (λ b. some (record { byte = b; frame = l .frame })) (let e : l .byte % 256 ≡ l .byte = omega arith in e)
+line-same (some l) (cons h nil) = ap (λ b. some (record { byte = b; frame = l .frame })) (let e : l .byte % 256 ≡ l .byte = omega arith in e)
 
 byteOn : Option (OnTheLine ℕ) → ℕ
 byteOn none = 0
 byteOn (some l) = l .byte
 
-same-line : (o : Option (OnTheLine ℕ)) → mapReceiving low o ≡ o → ByteOn o
+same-line : (o : Option (OnTheLine ℕ)) → mapReceiving low o ≡ o → Bytes (lineBytes o)
 unfolding mapReceiving low byteOn
-same-line none e = tt
-same-line (some l) e = let p : l .byte % 256 ≡ l .byte = ap byteOn e in omega arith
+same-line none e = nil
+same-line (some l) e = let p : l .byte % 256 ≡ l .byte = ap byteOn e in let h : l .byte < 256 = omega arith in cons h nil
 
 widths-cut : (u : Uart ℕ ℕ) → Widths u → Cut u
 widths-cut u w =
@@ -282,11 +283,11 @@ put-cut r v =
 
 -- a call whose host bytes are bytes is the same with each cut
 given-cut : (offsets : List ℕ) (c : Request) → Given c → mapPlaced low low itself (placed offsets c) ≡ placed offsets c
-unfolding mapPlaced placed changed changedDated changedUndated itself
+unfolding mapPlaced placed changed changedDated changedUndated given
 given-cut offsets (Call.at now (Dated.read offset)) g = refl
 given-cut offsets (Call.at now (Dated.write x)) g =
     ap (λ y. Call.at now (Dated.write y)) (put-cut (registerOf offsets (x .offset)) (x .value))
-given-cut offsets (Call.at now (Dated.receive date bs)) g = ap (λ l. Call.at now (Dated.receive date l)) (low-same bs g)
+given-cut offsets (Call.at now (Dated.receive date bs)) g = ap (λ l. Call.at now (Dated.receive date l)) (low-same bs (g .1))
 given-cut offsets (Call.at now (Dated.takeTx lent)) g = ap (λ l. Call.at now (Dated.takeTx l)) (map-id lent)
 given-cut offsets (Call.at now (Dated.machine m)) g = refl
 given-cut offsets (Call.undated (Undated.takeWritten lent)) g = ap (λ l. Call.undated (Undated.takeWritten l)) (map-id lent)
@@ -359,6 +360,6 @@ new-widths offsets ws o a =
       inFlight = nil;
       tx = nil;
       host = nil;
-      receiving = tt;
+      receiving = nil;
       rx = nil;
     }

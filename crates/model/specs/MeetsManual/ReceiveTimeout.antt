@@ -19,7 +19,7 @@ use Rattle.model.specs.Line.{raiseIf, noteSource, afterDate, opened, tim
 use Rattle.model.specs.Settle.{gone, txDone, leave, depart, departures, passes, assertLevels, drive, levels, leveled, settingsOf}
 use Rattle.model.specs.Settle.{settleTo, Pass, popRun, nothingDue, timedOut, landed, inFrame, begun, beforeStart, idle}
 use Rattle.model.specs.Settle.{lineFree, passOn, pass}
-use Rattle.model.specs.Limits.{All, cons, nil, runDates, runCounts, Fits, isHeard, Within}
+use Rattle.model.specs.Limits.{All, cons, nil, runDates, runCounts, Fits, Within}
 use Rattle.model.specs.Laws.Choose.{choose-ind, choose-true, choose-false}
 use Rattle.model.specs.Laws.Lists.{all-head}
 use Rattle.model.specs.Ends.Passes.{apart, After, LineQuiet, Takes, PassLaw, timeOut-closes, timeOut-free, land-free, pass-law}
@@ -27,6 +27,7 @@ use Rattle.model.specs.Ends.Through.{Through, ends, goes, through, throu
 use Rattle.model.specs.Keeps.Settling.{depart-within, pass-within}
 use Rattle.model.specs.MeetsManual.Reception.{datedBytes, first-dated, none-dated, Due, due-append}
 use Rattle.model.specs.MeetsManual.Reception.{not-yet, all-by}
+use Rattle.model.specs.Keeps.Parts.{isHeard}
 use Rattle.model.specs.declared.Date.{Date}
 use Rattle.model.specs.declared.Date.the-variants.{None, At}
 use Rattle.model.specs.declared.Line.{Line}
@@ -350,7 +351,7 @@ module _ {H W : Type 0} where
   settling-shows date u w clock heard =
       let s : Settings = settingsOf u in
       let t = passes s date (depart date u) in
-      let h : Heard (depart date u) = record { heard = heard; idle = λ l e. w .idleLine (ap isHeard e ∙ heard l e) } in
+      let h : Heard (depart date u) = record { heard = heard; idle = λ l e. w .idleLine l e (heard l e) } in
       let r = through-shows s date clock (through s date (depart date u)) h (depart-within date u w) in
       let same = none-shown (take (gone date (u .inFlight)) (u .inFlight)) (t .events) in
       record { shown = same ∙ r .shown; rest = r .rest ∙ ap (λ l. l ++ shows s (t .state)) (sym same) }

@@ -22,7 +22,8 @@ use Rattle.model.specs.Laws.Choose.{choose-ind, choose-true, choose-fals
 use Rattle.model.specs.Laws.Lists.{all-head}
 use Rattle.model.specs.Laws.Cases.{pass-cases}
 use Rattle.model.specs.Laws.Events.{departures-land}
-use Rattle.model.specs.Ends.Passes.{lineBytes, LineQuiet, Takes, PassLaw, timeOut-free, land-free, pass-law}
+use Rattle.model.specs.Ends.Passes.{LineQuiet, Takes, PassLaw, timeOut-free, land-free, pass-law}
+use Rattle.model.specs.State.{lineBytes}
 use Rattle.model.specs.Ends.Through.{Through, ends, goes, through, through-quiet}
 use Rattle.model.specs.Keeps.Settling.{depart-within, pass-within}
 use Rattle.model.specs.declared.Settings.{Settings}

@@ -9,8 +9,7 @@ use mathlib.Core.List.{List, [], _∷_}
 use lib.Dec.{lit≤}
 use lib.ListN.{length, length-append, length-map, length-replicate}
 use Rattle.model.specs.State.{Uart}
-use Rattle.model.specs.Replies.{notices, noReport, report, ReadOf, readNumber, writeNumber, doneNumber, takenNumber, leftNumber}
-use Rattle.model.specs.Replies.{pendingNumber}
+use Rattle.model.specs.Replies.{notices, noReport, report, ReadOf, readNumber, writeNumber, doneNumber, takenNumber}
 use Rattle.model.specs.Map.{Word, Register, registerOf}
 use Rattle.model.specs.Registers.{noteIf, sourceNotes, Access, pop, gives, readRegister, readLooking, readAt, conf0Notes}
 use Rattle.model.specs.Registers.{storedNotes, sent, dropped, sendByte}
@@ -117,7 +116,7 @@ machine-proper now (Machine.clockChange period) u v = record { zero = refl; few 
 
 -- what a call does besides its tests and settlings
 work-proper : (c : Request) (u v : Uart ℕ ℕ) → Proper numberOf (plan c u .work v)
-unfolding plan planBy replying writing numberOf doneNumber takenNumber leftNumber pendingNumber filled readAt quiet concluded
+unfolding plan planBy replying writing numberOf doneNumber takenNumber filled readAt quiet concluded
     Calls.read readPlaced Calls.write send writePlaced Calls.receive Calls.takeTx Calls.takeWritten Calls.hasLeft Calls.hostPending
 work-proper (Call.at now (Dated.read offset)) u v =
     let p = looking-proper _ (registerOf (u .map .offsets) offset) v in record { zero = p .zero; few = p .few }

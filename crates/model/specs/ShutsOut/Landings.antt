@@ -23,7 +23,7 @@ use Rattle.model.specs.Calls.{dated, settleAt, afterSettling, readPlaced
 use Rattle.model.specs.Call.{Dated, Call, reads}
 use Rattle.model.specs.Run.{Step, step}
 use Rattle.model.specs.Laws.Plans.{answering}
-use Rattle.model.specs.Limits.{Within, isHeard}
+use Rattle.model.specs.Limits.{Within}
 use Rattle.model.specs.Laws.Cases.{pass-cases, passes-on}
 use Rattle.model.specs.MeetsManual.Answers.{InTime, read-answer}
 use Rattle.model.specs.declared.Date.{Date}
@@ -123,7 +123,7 @@ pub byte-read : (now offset : ℕ) (u : Uart ℕ ℕ) (l : OnTheLine ℕ) → In
     → step (Call.at now (Dated.read offset)) u .answer .reply ≡ reads (byte (l .byte))
 unfolding answering carried readPlaced afterSettling readAt looks decide readLooking readRegister settleAt settle settlingDate dated
 byte-read now offset u l t limits e on heard clock rst empty come =
-    let closed : lineOf u .«idle_since» ≡ Date.None = limits .idleLine (ap isHeard on ∙ heard) in
+    let closed : lineOf u .«idle_since» ≡ Date.None = limits .idleLine l on heard in
     let stored = landing-settled (settlingDate now (u .control)) (dated now u) l closed on heard clock rst (rw empty (omega arith)) come in
     ap (λ (x : Step ℕ ℕ ℕ). x .answer .reply) (read-answer t offset Register.fifo e)
     ∙ ap reads (pop-first _ _ _ (l .byte) (stored .0) (stored .1 ∙ ap (λ (r : List ℕ). r ++ (l .byte ∷ []) ++ stored .0) empty))

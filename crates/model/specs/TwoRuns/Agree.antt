@@ -7,7 +7,8 @@ use Rattle.model.specs.Limits.{All}
 use Rattle.model.specs.Replies.{word, byte, refused, Take, notices}
 use Rattle.model.specs.Registers.{sourceNotes}
 use Rattle.model.specs.Call.{Dated, Call, Request, Reply, reads, takes, Answer}
-use Rattle.model.specs.TwoRuns.Alike.{hostOf, fifoBytesOf, hostByte, writeByte}
+use Rattle.model.specs.TwoRuns.Alike.{fifoBytesOf, hostByte, writeByte}
+use Rattle.model.specs.Call.{hostOf}
 use Rattle.model.specs.declared.Refusal.{Refusal}
 use Rattle.model.specs.declared.Report.{Report}
 use Rattle.model.specs.declared.Source.{Source}

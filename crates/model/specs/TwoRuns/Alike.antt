@@ -5,7 +5,7 @@ use mathlib.Core.List.{List, [], _∷_, flatMap}
 use lib.Dec.{eqb}
 use lib.ListN.{length, getD}
 use Rattle.model.specs.Numbers.{choose}
-use Rattle.model.specs.Call.{Dated, Undated, Call, Request}
+use Rattle.model.specs.Call.{Dated, Undated, Call, Request, given, hostOf}
 
 -- ---- alike
 
@@ -29,18 +29,6 @@ pub data Alike (fifo : ℕ) : Request → Request → Type 0 where
   lentToTakeWritten : {lent lent′ : List ℕ} → length lent ≡ length lent′ → Alike fifo (Call.undated (Undated.takeWritten lent)) (Call.undated (Undated.takeWritten lent′))
 
 -- ---- the numbering
-
--- what a call gives: the host bytes that it hands over, and what it writes
-unfoldable pub given : {R X H L : Type 0} → Call R X H L → List H × List X
-given (Call.at now (Dated.read r)) = ([], [])
-given (Call.at now (Dated.write x)) = ([], x ∷ [])
-given (Call.at now (Dated.receive date bs)) = (bs, [])
-given (Call.at now (Dated.takeTx lent)) = ([], [])
-given (Call.at now (Dated.machine m)) = ([], [])
-given (Call.undated c) = ([], [])
-
-abbrev pub hostOf : {R X H L : Type 0} → Call R X H L → List H
-hostOf c = given c .0
 
 -- the byte of a write to FIFO is its word's low 8 bits
 abbrev pub fifoBytesOf : ℕ → Request → List ℕ

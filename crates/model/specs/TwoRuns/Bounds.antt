@@ -15,7 +15,7 @@ use Rattle.model.specs.Limits.{All}
 use Rattle.model.specs.Replies.{ReadOf, word, byte, noValue, refused}
 use Rattle.model.specs.Call.{Request, Reply, reads, writes, does, takes, left, pends}
 use Rattle.model.specs.Run.{Step}
-use Rattle.model.specs.TwoRuns.Alike.{hostOf}
+use Rattle.model.specs.Call.{hostOf}
 use Rattle.model.specs.TwoRuns.Renamed.{itself, mapReadOf, mapTake, mapReply}
 use Rattle.model.specs.TwoRuns.Renamed.{mapAnswer}
 use Rattle.model.specs.TwoRuns.Placed.{Put, Placed, placed, stepPlaced, runPlaced}

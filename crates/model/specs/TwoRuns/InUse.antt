@@ -14,7 +14,8 @@ use Rattle.model.specs.SetUp.{mapOf, new}
 use Rattle.model.specs.Call.{Dated, Call, Request}
 use Rattle.model.specs.Run.{step, run}
 use Rattle.model.specs.Refuses.FifoPlace.{first-is-fifo}
-use Rattle.model.specs.TwoRuns.Alike.{Each, Alike, fifoOffset, given, hostOf, fifoBytesOf}
+use Rattle.model.specs.TwoRuns.Alike.{Each, Alike, fifoOffset, fifoBytesOf}
+use Rattle.model.specs.Call.{given, hostOf}
 use Rattle.model.specs.TwoRuns.Renamed.{itself, mapAnswer, withBytesOf}
 use Rattle.model.specs.TwoRuns.Agree.{Agreeing}
 use Rattle.model.specs.TwoRuns.Numbered.{withoutRest}

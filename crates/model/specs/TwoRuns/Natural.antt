@@ -14,7 +14,7 @@ use Rattle.model.specs.Line.{frame}
 use Rattle.model.specs.Settle.{gone, leave, depart, Pass, received, nothingDue, timedOut, landed, inFrame, begun, beforeStart, idle}
 use Rattle.model.specs.Settle.{lineFree, passOn, pass, Settled, found, onTheLine, passesFrom, pending, departures, passes}
 use Rattle.model.specs.Settle.{levels, leveled, settingsOf, settleTo, settle}
-use Rattle.model.specs.Arm.{nthGone, firstGone, lastGone, belowThresholdAt, nextStart, landingOf, nextLanding, instants, arm}
+use Rattle.model.specs.Arm.{nthGone, lastGone, belowThresholdAt, nextStart, landingOf, nextLanding, instants, arm}
 use Rattle.model.specs.declared.Fate.{Fate}
 use Rattle.model.specs.declared.Fate.the-variants.{Stored, Overflowed, Cleared, ClockOff, Unheard}
 use Rattle.model.specs.declared.Settings.{Settings}
@@ -249,7 +249,7 @@ module _ {H H′ W W′ : Type 0} (f : H → H′) (g : W → W′) where
   landingOf-nat time (some l) u = refl
 
   instants-nat : (u : Uart H W) → instants (mapUart f g u) ≡ instants u
-  unfolding instants nextLanding settingsOf belowThresholdAt firstGone
+  unfolding instants nextLanding settingsOf belowThresholdAt
   instants-nat u =
       rw (landingOf-nat (settingsOf u .«byte_time») (u .receiving) u, lastGone-nat g (u .inFlight), length-map (u .inFlight) (mapSent g))
       (rw (nthGone-nat g 0 (u .inFlight), nthGone-nat g _ (u .inFlight)))

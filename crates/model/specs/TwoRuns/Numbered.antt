@@ -8,7 +8,8 @@ use Rattle.model.specs.Limits.{All}
 use Rattle.model.specs.Replies.{ReadOf, word, byte, noValue, refused, Take}
 use Rattle.model.specs.Registers.{sourceNotes}
 use Rattle.model.specs.Call.{Dated, Call, Request, Reply, reads, writes, does, takes, left, pends, Answer}
-use Rattle.model.specs.TwoRuns.Alike.{hostOf, fifoBytesOf}
+use Rattle.model.specs.TwoRuns.Alike.{fifoBytesOf}
+use Rattle.model.specs.Call.{hostOf}
 use Rattle.model.specs.TwoRuns.Agree.{Notes}
 use Rattle.model.specs.declared.Refusal.{Refusal}
 use Rattle.model.specs.declared.Report.{Report}

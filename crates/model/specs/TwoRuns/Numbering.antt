@@ -15,7 +15,8 @@ use Rattle.model.specs.Laws.Choose.{choose-true, choose-false}
 use Rattle.model.specs.Refuses.FifoPlace.{after-first}
 use Rattle.model.specs.Call.{Dated, Undated, Call, Written, Request}
 use Rattle.model.specs.TwoRuns.Placed.{Put, Placed, changedDated, changedUndated, changed, putAt, placed}
-use Rattle.model.specs.TwoRuns.Alike.{Each, Alike, same, hostBytes, fifoWord, lentToTakeTx, lentToTakeWritten, given, hostOf}
+use Rattle.model.specs.TwoRuns.Alike.{Each, Alike, same, hostBytes, fifoWord, lentToTakeTx, lentToTakeWritten}
+use Rattle.model.specs.Call.{given, hostOf}
 use Rattle.model.specs.TwoRuns.Alike.{fifoBytesOf}
 use Rattle.model.specs.TwoRuns.Renamed.{itself, forget}
 use Rattle.model.specs.TwoRuns.NaturalCalls.{mapPut, mapPlaced}

@@ -10,7 +10,8 @@ use Rattle.model.specs.Limits.{All}
 use Rattle.model.specs.Replies.{word, byte, noValue, refused, Take}
 use Rattle.model.specs.Call.{Request, Reply, reads, writes, does, takes, left, pends, Answer}
 use Rattle.model.specs.Run.{run}
-use Rattle.model.specs.TwoRuns.Alike.{Each, Alike, fifoOffset, hostOf, fifoBytesOf, hostByte, writeByte}
+use Rattle.model.specs.TwoRuns.Alike.{Each, Alike, fifoOffset, fifoBytesOf, hostByte, writeByte}
+use Rattle.model.specs.Call.{hostOf}
 use Rattle.model.specs.TwoRuns.Renamed.{itself, forget, mapReadOf}
 use Rattle.model.specs.TwoRuns.Renamed.{mapTake, mapReply, mapAnswer, withBytesOf}
 use Rattle.model.specs.TwoRuns.Agree.{Agree, Agreeing}

@@ -8,7 +8,7 @@ use mathlib.Core.Option.{some}
 use mathlib.Core.List.{[], _∷_}
 use Rattle.model.specs.Numbers.{choose, dueBy, instantOf}
 use Rattle.model.specs.State.{Uart, lineOf}
-use Rattle.model.specs.Events.{goesOn}
+use Rattle.model.specs.Events.{total, goesOn}
 use Rattle.model.specs.Timing.{stopHalfBits, frameHalfBits, sourcePeriod, unmodelled, unmodelledSource, halfBitTime, bitTime}
 use Rattle.model.specs.Timing.{byteTime, timeoutTime, settings}
 use Rattle.model.specs.Line.{raiseIf, noteSource, afterDate, opened, timeoutAt, timeOut, frame, start, fate, land}
@@ -17,8 +17,9 @@ use Rattle.model.specs.Settle.{beforeStart, idle, lineFree, passOn, pass
 use Rattle.model.specs.Settle.{aboveFull, inFifo, emptyThreshold, belowEmpty, assertLevels, intStatus, drive, noLaterThan}
 use Rattle.model.specs.Settle.{settlingDate, levels, leveled, settingsOf, settleTo, settle}
 use Rattle.model.specs.Tests.{among, repeated}
-use Rattle.model.specs.Limits.{nil, cons, empty, single, sum, Within}
+use Rattle.model.specs.Limits.{nil, cons, empty, single, Within}
 use Rattle.model.specs.TwoSteps.Exception.{Exception}
+use Rattle.model.specs.Keeps.Parts.{isHeard}
 use Rattle.model.specs.declared.Date.the-variants.{None, At}
 use Rattle.model.specs.declared.Source.{Source}
 use Rattle.model.specs.declared.Words.{Words}
@@ -66,7 +67,7 @@ looked = record {
 }
 
 pub looked-within : Within looked
-unfolding repeated among sum
+unfolding repeated among total
 looked-within = record {
   sixteen = refl;
   offsets = refl;
@@ -84,7 +85,7 @@ looked-within = record {
   runSum = refl;
   host = omega arith;
   status = refl;
-  idleLine = λ e. absurd (false≢true e);
+  idleLine = λ l e h. absurd (false≢true (ap isHeard e ∙ h));
   flyingFits = nil;
   runsFit = cons {a = 0} (omega arith) nil;
   lineFits = omega arith;

@@ -1,12 +1,12 @@
 -- The one case in which an earlier look may tell, and that everywhere else, within the limits, the passes agree. Assumes nothing.
-use mathlib.Core.Path.{_≡_, refl, ap, _∙_}
+use mathlib.Core.Path.{_≡_, refl}
 use Prim.Native.Nat.{ℕ, _≤_}
 use mathlib.Core.Bool.{Bool, true, false}
 use mathlib.Core.Option.{some}
 use Rattle.model.specs.State.{OnTheLine, Uart, lineOf}
 use Rattle.model.specs.Settle.{txDone, leave, depart, passes, settingsOf}
 use Rattle.model.specs.Line.{raiseIf}
-use Rattle.model.specs.Limits.{isHeard, Within}
+use Rattle.model.specs.Limits.{Within}
 use Rattle.model.specs.TwoSteps.Later.{passes-later}
 use Rattle.model.specs.TwoSteps.ClockOff.{passes-off}
 use Rattle.model.specs.declared.Date.{Date}
@@ -26,7 +26,7 @@ module _ {H W : Type 0} (u : Uart H W) (w : Within u) (n : ¬ Exception u) where
     by-idle h (At t) i = absurd (n (l, e, h, t, i, on))
 
     by-heard : (t : Bool) → l .frame .heard ≡ t → lineOf u .«idle_since» ≡ None
-    by-heard true h = w .idleLine (ap isHeard e ∙ h)
+    by-heard true h = w .idleLine l e h
     by-heard false h = by-idle h (lineOf u .«idle_since») refl
 
     alone : lineOf u .«idle_since» ≡ None

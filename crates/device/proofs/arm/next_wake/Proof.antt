@@ -1,6 +1,5 @@
 -- `arm::next_wake` meets its contract: each instant is the definition's. Assumes nothing.
 use mathlib.Core.Path.{sym, subst, ap, _∙_}
-use Rattle.model.specs.Arm.{firstGone}
 use Rattle.device.specs.Arms.{armed-by}
 use native.Mathlib.Omega.{arith}
 use borrow.Author.Needs.{needs}
@@ -8,7 +7,6 @@ use Rattle.device.proofs.arm.next_wake.Statement.{statement}
 use Rattle.device.proofs.arm.next_wake.Tie as tie
 
 returns : tie.Need-returns
-unfolding firstGone
 returns c = λ a ea er hh rh.
     armed-by (c .before .before .before .before .before .before .before .before .before .before .before .before .before .before .args .core)
     a (c .before .before .before .before .before .before .before .before .before .before .before .before .before .before .args .gone-at
