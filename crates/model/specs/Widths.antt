@@ -7,23 +7,19 @@ use Rattle.model.specs.State.{Uart, lineOf, lineBytes}
 use Rattle.model.specs.Map.{Word, valueOf}
 use Rattle.model.specs.Call.{given, Request}
 use Rattle.model.specs.Limits.{All, NoLater}
-use Rattle.model.specs.declared.Words.{Words}
 
 abbrev pub Word32 : ℕ → Type 0
 Word32 n = n < 2 ^ 32
-
-abbrev pub Words32 : Words → Type 0
-Words32 w = (x : Word) → Word32 (valueOf w x)
 
 abbrev pub Bytes : List ℕ → Type 0
 Bytes bs = All (λ b. b < 256) bs
 
 pub record Widths (u : Uart ℕ ℕ) : Type 0 where
   pub offsets : All Word32 (u .map .offsets)
-  pub reset : Words32 (u .map .reset)
+  pub reset : (x : Word) → Word32 (valueOf (u .map .reset) x)
   pub idleStatus : Word32 (u .map .«idle_status»)
   pub memRxStatus : Word32 (u .map .«mem_rx_status»)
-  pub words : Words32 (u .control .words)
+  pub words : (x : Word) → Word32 (valueOf (u .control .words) x)
   pub intRaw : Word32 (lineOf u .«int_raw»)
   pub poweredDownAt : NoLater Dates.last (u .control .«powered_down_at»)
   pub inFlight : Bytes (map (λ s. s .byte) (u .inFlight))

@@ -116,22 +116,22 @@ pub record Finds {H W : Type 0} (now : ℕ) (u : Uart H W) : Type 0 where
   pub overflows : overflowsIn (settle now u .events) ≡ overflowsIn finds
 
 module _ {H W : Type 0} (now : ℕ) (u : Uart H W) where
-  abbrev date : ℕ
-  date = settlingDate now (u .control)
+  abbrev until : ℕ
+  until = settlingDate now (u .control)
 
   -- passes and overflows count what the passes found: timeouts and landings, and the bytes lost among them
   pub settle-finds : Finds now u
   unfolding settle settleTo leveled
   settle-finds =
-      let t = passes (settingsOf u) date (depart date u) in
+      let t = passes (settingsOf u) until (depart until u) in
       record {
         finds = t .events;
         last = t .state;
-        through = through (settingsOf u) date (depart date u);
+        through = through (settingsOf u) until (depart until u);
         state = refl;
         events = refl;
-        passes = departures-pass date u (t .events) ∙ through-passes (settingsOf u) date (through (settingsOf u) date (depart date u));
-        overflows = departures-lose date u (t .events);
+        passes = departures-pass until u (t .events) ∙ through-passes (settingsOf u) until (through (settingsOf u) until (depart until u));
+        overflows = departures-lose until u (t .events);
       }
 
   -- a settling ends with a pass that finds nothing due, and no other pass finds nothing
@@ -140,10 +140,10 @@ module _ {H W : Type 0} (now : ℕ) (u : Uart H W) where
   unfolding departures
   settle-last =
       let (fs, at, a, is) = through-last _ _ (settle-finds .through) in
-      let before = departures date u in (
+      let before = departures until u in (
         before ++ fs,
         at,
-        departs-first (take (gone date (u .inFlight)) (u .inFlight)) fs a,
+        departs-first (take (gone until (u .inFlight)) (u .inFlight)) fs a,
         settle-finds .events ∙ ap (λ l. before ++ l) is ∙ sym (append-assoc before fs (nothing at ∷ [])),
       )
 
@@ -153,11 +153,11 @@ module _ {H W : Type 0} (now : ℕ) (u : Uart H W) where
   settle-passes =
       omega (
         arith,
-        departures-pass date u (passes (settingsOf u) date (depart date u) .events),
-        passes-bound (settingsOf u) date (depart date u),
+        departures-pass until u (passes (settingsOf u) until (depart until u) .events),
+        passes-bound (settingsOf u) until (depart until u),
       )
 
-  kept : Kept (depart date u) (settle-finds .last)
+  kept : Kept (depart until u) (settle-finds .last)
   kept = through-kept _ _ (settle-finds .through)
 
   -- settling changes neither the stored words nor the period
@@ -178,10 +178,10 @@ module _ {H W : Type 0} (now : ℕ) (u : Uart H W) where
   pub settle-departs : Departs (settlingDate now (u .control)) u (settle now u .state)
   unfolding levels depart leave
   settle-departs = record {
-    count = gone date (u .inFlight);
+    count = gone until (u .inFlight);
     stay = ap (λ v. v .inFlight) (settle-finds .state) ∙ kept .inFlight;
     tx = ap (λ v. v .tx) (settle-finds .state) ∙ kept .tx;
-    due = leaves date (u .inFlight);
+    due = leaves until (u .inFlight);
   }
 
   -- dates in flight never fall after a settling if they did not before
@@ -192,9 +192,9 @@ module _ {H W : Type 0} (now : ℕ) (u : Uart H W) where
   pub settle-nothing-left : Chain _≤_ (flightDates (u .inFlight)) → NothingLeft (settlingDate now (u .control)) (settle now u .state)
   unfolding settle-departs levels drive assertLevels raiseIf timeoutAt
   settle-nothing-left c =
-      let q : LineQuiet (settingsOf u) date (settle-finds .last) = through-quiet _ _ (settle-finds .through) in
+      let q : LineQuiet (settingsOf u) until (settle-finds .last) = through-quiet _ _ (settle-finds .through) in
       record {
-        departures = rw (settle-departs .stay) (stay date (u .inFlight) c);
+        departures = rw (settle-departs .stay) (stay until (u .inFlight) c);
         timeout = rw (settle-settings, settle-finds .state) (q .timeout);
         landing = rw (settle-finds .state) (q .landing);
         start = rw (settle-finds .state) (q .start);

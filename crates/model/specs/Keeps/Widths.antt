@@ -29,7 +29,7 @@ use Rattle.model.specs.Call.{Machine, Dated, Undated, Call, dateOf, Writ
 use Rattle.model.specs.Run.{Step, stepped, replying, planBy, writing, plan, step}
 use Rattle.model.specs.SetUp.{wordsAmong, fifoCounts, mapOf, newControl, new}
 use Rattle.model.specs.Limits.{All, nil, cons, NoLater}
-use Rattle.model.specs.Widths.{Word32, Words32, Bytes, Given, Widths}
+use Rattle.model.specs.Widths.{Word32, Bytes, Given, Widths}
 use Rattle.model.specs.Laws.Choose.{choose-ind}
 use Rattle.model.specs.Laws.Cases.{KeptOnLine, passes-ind}
 use Rattle.model.specs.Laws.AccessCases.{write-ind, readRegister-ind, writeRegister-ind}
@@ -48,6 +48,9 @@ use Rattle.model.specs.declared.Fate.{Fate}
 use Rattle.model.specs.declared.Fate.the-variants.{Stored, Overflowed, Cleared, ClockOff, Unheard}
 use Rattle.model.specs.declared.Unsupported.{Unsupported}
 use Rattle.model.specs.declared.Words.{Words}
+
+abbrev Words32 : Words → Type 0
+Words32 w = (x : Word) → Word32 (valueOf w x)
 
 -- ---- the numbers
 

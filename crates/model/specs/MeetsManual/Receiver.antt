@@ -30,7 +30,6 @@ use Rattle.model.specs.Ends.Settlings.{Settling, settles, settlings, cal
 use Rattle.model.specs.MeetsManual.Timing.{Meant, FrameTime, TimeoutTime, byte-lasts, timeout-lasts}
 use Rattle.model.specs.MeetsManual.Reception.{comes, arrivalsIn, settling-receives}
 use Rattle.model.specs.MeetsManual.ReceiveTimeout.{showsIn, shownIn, settling-shows}
-use Rattle.model.specs.declared.Words.{Words}
 use Rattle.model.specs.declared.Refusal.the-variants.{PeriodTooLong}
 
 -- ---- the settlings of a call begin within the limits
@@ -81,12 +80,6 @@ begins-within (Call.undated c) u w done = nil
 -- ---- what the manual says of a settling
 
 module _ (s : Settling) where
-  abbrev words : Words
-  words = s .begins .control .words
-
-  abbrev period : ℕ
-  period = s .begins .control .period
-
   abbrev date : ℕ
   date = settlingDate (s .now) (s .begins .control)
 
@@ -94,7 +87,7 @@ module _ (s : Settling) where
   -- of the settling have landed, in order, and the others are still to come
   pub record Lands : Type 0 where
     pub time : ℕ
-    pub frame : (m : Meant words) → FrameTime words period m time
+    pub frame : (m : Meant (s .begins .control)) → FrameTime (s .begins .control) m time
     pub lands : arrivalsIn (settles s .events) ≡ by date (comes time (s .begins))
     pub rest : comes time (s .begins) ≡ arrivalsIn (settles s .events) ++ comes time (settles s .state)
 
@@ -104,8 +97,8 @@ module _ (s : Settling) where
   pub record Shows : Type 0 where
     pub time : ℕ
     pub span : ℕ
-    pub frame : (m : Meant words) → FrameTime words period m time
-    pub timeout : (m : Meant words) → TimeoutTime words period m span
+    pub frame : (m : Meant (s .begins .control)) → FrameTime (s .begins .control) m time
+    pub timeout : (m : Meant (s .begins .control)) → TimeoutTime (s .begins .control) m span
     pub shown : shownIn (settles s .events) ≡ by date (showsIn time span (s .begins))
     pub rest : showsIn time span (s .begins) ≡ shownIn (settles s .events) ++ showsIn time span (settles s .state)
 
@@ -113,21 +106,21 @@ module _ (s : Settling) where
   unfolding settle settingsOf settings
   settled-lands w =
       let r = settling-receives date (s .begins) w in
-      record { time = byteTime words period; frame = byte-lasts words period; lands = r .lands; rest = r .rest }
+      record { time = byteTime (s .begins .control .words) (s .begins .control .period); frame = byte-lasts (s .begins .control); lands = r .lands; rest = r .rest }
 
   abbrev pub ClockOn : Type 0
   ClockOn =
-      (bit 25 (words .«clk_conf») ≡ true) × ((l : OnTheLine ℕ) → s .begins .receiving ≡ some l → l .frame .heard ≡ true)
+      (bit 25 (s .begins .control .words .«clk_conf») ≡ true) × ((l : OnTheLine ℕ) → s .begins .receiving ≡ some l → l .frame .heard ≡ true)
 
   settled-shows : Within (s .begins) → ClockOn → Shows
   unfolding settle settingsOf settings
   settled-shows w (clock, heard) =
       let r = settling-shows date (s .begins) w clock heard in
       record {
-        time = byteTime words period;
-        span = timeoutTime words period;
-        frame = byte-lasts words period;
-        timeout = timeout-lasts words period;
+        time = byteTime (s .begins .control .words) (s .begins .control .period);
+        span = timeoutTime (s .begins .control .words) (s .begins .control .period);
+        frame = byte-lasts (s .begins .control);
+        timeout = timeout-lasts (s .begins .control);
         shown = r .shown;
         rest = r .rest;
       }

@@ -5,6 +5,7 @@ use mathlib.Core.Logic.{_↔_}
 use Prim.Native.Nat.{ℕ, zero, suc, _≤_}
 use native.Mathlib.Omega.{arith}
 use mathlib.Core.List.{[]}
+use lib.ListN.{length}
 use Rattle.model.specs.State.{Uart}
 use Rattle.model.specs.Replies.{noReport, number}
 use Rattle.model.specs.Calls.{carried}
@@ -108,8 +109,8 @@ refused-untouched c u = go (step-result c u)
 -- ---- notices
 
 -- at most 8 notices besides overflows, in 8 places, in every answer
-pub notices-few : (c : Request) (u : Uart ℕ ℕ) → Few (step c u .answer .report)
-notices-few c u = go (step-result c u)
+pub notices-few : (c : Request) (u : Uart ℕ ℕ) → (step c u .answer .report .noted ≤ 8) × (length (step c u .answer .report .notices) ≡ 8)
+notices-few c u = let few = go (step-result c u) in (few .noted, few .places)
   where
     go : {s : Step ℕ ℕ ℕ} → Result c u s → Few (s .answer .report)
     go (refusal f) = no-report-few
