@@ -8,7 +8,8 @@ use Rattle.model.specs.State
 use Rattle.model.specs.Map.{Register, registerOf, isFifo}
 use Rattle.model.specs.Registers.{Access, sendByte, writeRegister, concluded}
 use Rattle.model.specs.Calls
-use Rattle.model.specs.Calls.{Outcome, unless, afterSettling, settleAt, send, writePlaced, writeAt}
+use Rattle.model.specs.Calls.{Outcome, unless, afterSettling, send, writePlaced, writeAt}
+use Rattle.model.specs.Laws.Plans.{settleAt}
 use Rattle.model.specs.Tests.{dateEnd}
 use Rattle.model.specs.Replies.{writeNumber}
 use Rattle.model.specs.Keeps.EachCall.{write-within}

@@ -5,7 +5,8 @@ use lib.ListN.{length}
 use Rattle.model.specs.Setters.{withPoweredDownAt}
 use Rattle.model.specs.Settle
 use Rattle.model.specs.Arm.{arm}
-use Rattle.model.specs.Calls.{dated, carried, settleAt, quiet, cleared, machine}
+use Rattle.model.specs.Calls.{dated, carried, quiet, cleared, machine}
+use Rattle.model.specs.Laws.Plans.{settleAt}
 use Rattle.model.specs.Call.{Machine}
 use Rattle.model.specs.declared.Date.{Date}
 use Rattle.queue.specs.Cursors.{Held}

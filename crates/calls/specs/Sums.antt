@@ -10,7 +10,8 @@ use Rattle.model.specs.State.{OnTheLine, Uart}
 use Rattle.model.specs.Settle.{Settled, found, settle, pending, onTheLine}
 use Rattle.model.specs.Limits.{Within}
 use Rattle.model.specs.Tests.{dateEnd, periodLimit}
-use Rattle.model.specs.Calls.{dated, settleAt, clocked, carried, machine}
+use Rattle.model.specs.Calls.{dated, clocked, carried, machine}
+use Rattle.model.specs.Laws.Plans.{settleAt}
 use Rattle.model.specs.Call.{Machine}
 use Rattle.model.specs.Keeps.Parts.{through}
 use Rattle.model.specs.Keeps.Dated.{moved-parts}

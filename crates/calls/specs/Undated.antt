@@ -7,7 +7,7 @@ use lib.Dec.{ltb}
 use Rattle.model.specs.Settle.{pending, onTheLine}
 use Rattle.model.specs.Call.{left, pends}
 use Rattle.model.specs.Run.{numberOf}
-use Rattle.model.specs.Calls.{unless, undated, carried, outcome, quiet, hasLeft, hostPending}
+use Rattle.model.specs.Calls.{unless, carried, outcome, quiet, hasLeft, hostPending}
 use Rattle.model.specs.declared.Frame.{Frame}
 use Rattle.queue.specs.Cursors.{slotOf}
 use Rattle.queue.specs.Laws.{elems-length}
@@ -27,13 +27,13 @@ abbrev pub pendingReply : ℕ → HostPending
 pendingReply n = record { number = numberOf {H = ℕ} {W = ℕ} {L = ℕ} (pends n); count = n }
 
 pub has-left-of : (c : Core) (a : Arrays) → ltb 0 (c .tx .count) ≡ undatedCall hasLeft (abs c a) .reply
-unfolding outcome unless carried hasLeft undated quiet
+unfolding outcome unless carried hasLeft quiet
 has-left-of c a = ap (ltb 0) (sym (elems-length (slotOf (a .tx) 0) 1152 (c .tx)))
 
 -- the bytes that wait, and none or one on the line
 pending-of : (c : Core) (a : Arrays) (n : ℕ) → onTheLine (Holds.onTheLine (c .receiving) (c .byte)) ≡ n
     → c .host .count + n ≡ undatedCall hostPending (abs c a) .reply
-unfolding outcome unless carried hostPending undated quiet pending
+unfolding outcome unless carried hostPending quiet pending
 pending-of c a n e = omega (arith, elems-length (slotOf (a .host) 0) 1024 (c .host), e)
 
 pub pending-free : (c : Core) (a : Arrays) → c .receiving ≡ Receiving.None → c .host .count ≡ undatedCall hostPending (abs c a) .reply

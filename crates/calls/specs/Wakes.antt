@@ -1,7 +1,8 @@
 -- A wake's work: settled from the cleared Deadline, and armed. Assumes nothing.
 use mathlib.Core.Path.{_≡_, sym, subst}
 use Prim.Native.Nat.{ℕ}
-use Rattle.model.specs.Calls.{dated, carried, settleAt, machine}
+use Rattle.model.specs.Calls.{dated, carried, machine}
+use Rattle.model.specs.Laws.Plans.{settleAt}
 use Rattle.model.specs.Call.{Machine}
 use Rattle.device.specs.Holds.{Arrays, abs, Ok}
 use Rattle.device.specs.Settles.{Settles}

@@ -5,7 +5,7 @@ use device::settle::SettleCore;
 ghost use mathlib.Core.Path.{_≡_};
 ghost use Prim.Native.Nat.{_<_};
 ghost use Rattle.model.specs.Tests.{dateEnd};
-ghost use Rattle.model.specs.Calls.{settleAt};
+ghost use Rattle.model.specs.Laws.Plans.{settleAt};
 ghost use Rattle.device.specs.Holds.{abs, Ok};
 ghost use Rattle.device.specs.Wholes.{lent};
 ghost use Rattle.device.specs.Settles.{Settles};

@@ -11,7 +11,8 @@ use lib.ListN.{length, take, getD}
 use Rattle.model.specs.State.{Run}
 use Rattle.model.specs.Settle
 use Rattle.model.specs.Calls
-use Rattle.model.specs.Calls.{unless, dated, settleAt, carried, quiet, lastDate, hostDate, handOver}
+use Rattle.model.specs.Calls.{unless, dated, carried, quiet, lastDate, hostDate, handOver}
+use Rattle.model.specs.Laws.Plans.{settleAt}
 use Rattle.model.specs.Tests.{dateEnd, hostFull, runsFull}
 use Rattle.model.specs.Keeps.Dated.{not-refused}
 use Rattle.model.specs.Events.{total}

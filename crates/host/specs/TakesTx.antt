@@ -7,7 +7,8 @@ use Rattle.model.specs.State
 use Rattle.model.specs.Setters.{withTx}
 use Rattle.model.specs.Settle
 use Rattle.model.specs.Replies.{contents, takenNumber}
-use Rattle.model.specs.Calls.{afterSettling, settleAt, carried, quiet, filled, takeTx}
+use Rattle.model.specs.Calls.{afterSettling, carried, quiet, filled, takeTx}
+use Rattle.model.specs.Laws.Plans.{settleAt}
 use Rattle.model.specs.declared.Taken.{Taken}
 use Rattle.replies.specs.Notices.{noted}
 use Rattle.queue.specs.Cursors.{slotOf, empty}

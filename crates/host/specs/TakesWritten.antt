@@ -8,7 +8,7 @@ use lib.ListN.{length, drop, length-append}
 use Rattle.model.specs.State.{Sent}
 use Rattle.model.specs.Replies.{noReport, contents}
 use Rattle.model.specs.Tests.{sentLimit}
-use Rattle.model.specs.Calls.{undated, carried, quiet, filled, written, takeWritten}
+use Rattle.model.specs.Calls.{carried, quiet, filled, written, takeWritten}
 use Rattle.model.specs.declared.Taken.{Taken}
 use Rattle.queue.specs.Cursors.{slotOf, elems, empty}
 use Rattle.queue.specs.Laws.{elems-length, map-elems, empty-held, empty-elems}
@@ -49,7 +49,7 @@ emptiedAll c = record {
 -- all that was written, handed out without settling
 pub took-written : (lent : List ℕ) (c : Core) (a : Arrays) {k : ℕ} {out : List ℕ} → Shape c a → Filled c (a .flight) (a .tx) lent k out
     → TakeWorks (carried none (takeWritten lent (abs c a)) (abs c a)) (emptiedAll c) a (Taken.Bytes k) noReport out
-unfolding carried takeWritten undated quiet filled written contents
+unfolding carried takeWritten quiet filled written contents
 took-written lent c a {k} {out} s f =
     let bytes : map (λ (x : Sent ℕ). x .byte) (abs c a .inFlight) ≡ elems (slotOf (a .flight) 0) 129 (c .flight) =
     map-elems (λ (x : Sent ℕ). x .byte) (sentAt (a .goneAt) (a .flight)) 129 (c .flight) in

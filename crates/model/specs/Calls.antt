@@ -51,9 +51,6 @@ module _ {H W : Type 0} where
   unfoldable pub dated : ℕ → Uart H W → Uart H W
   dated now u = withControl (withLast now (u .control)) u
 
-  abbrev pub settleAt : ℕ → Uart H W → Settled H W
-  settleAt now u = settle now (dated now u)
-
   -- one settling after the other, each of the state that the one before left, changed: what they find, and what the last one leaves
   abbrev pub settledBy : ℕ → List (Uart H W → Uart H W) → Settled H W → Settled H W
   settledBy now [] t = t
@@ -83,13 +80,9 @@ module _ {R H W : Type 0} where
     events = t .events;
   }
 
-  -- an undated call answers its own result alone
-  unfoldable pub undated : Access R H W → Outcome R H W
-  undated a = record { reply = a .reply; report = noReport; state = a .state; events = [] }
-
-  -- where no test refuses it
+  -- where no test refuses it; an undated call answers its own result alone
   unfoldable pub carried : Option ℕ → Plan R H W → Uart H W → Outcome R H W
-  carried none p u = undated (p .work u)
+  carried none p u = record { reply = p .work u .reply; report = noReport; state = p .work u .state; events = [] }
   carried (some now) p u = afterSettling (settledBy now (p .changes) (ended (dated now u))) (p .work)
 
   -- a call with its date, if it is dated
@@ -211,13 +204,8 @@ module _ {H W : Type 0} where
 
   module _ {L : Type 0} where
     abbrev pub taking : List L → List (Uart H W → Uart H W) → (Uart H W → Access (Take W L) H W) → Plan (Take W L) H W
-    taking lent changes work =
-        record {
-          test = refuseIf (bufferTooShort (length lent)) BufferTooShort none;
-          refuses = notTaken lent;
-          changes = changes;
-          work = work;
-        }
+    taking lent fs work =
+        record { test = refuseIf (bufferTooShort (length lent)) BufferTooShort none; refuses = notTaken lent; changes = fs; work = work }
 
     unfoldable pub takeTx : ℕ → List L → Uart H W → Plan (Take W L) H W
     takeTx now lent u = taking lent once (λ s. quiet (filled (s .tx) lent) (withTx [] s))

@@ -10,7 +10,7 @@ use Rattle.model.specs.State.{Uart}
 use Rattle.model.specs.Events.{total, goesOn, onePass, lost, passesIn, overflowsIn}
 use Rattle.model.specs.Timing.{stopHalfBits, frameHalfBits, sourcePeriod, unmodelled, unmodelledSource, halfBitTime, bitTime}
 use Rattle.model.specs.Timing.{byteTime, timeoutTime, settings}
-use Rattle.model.specs.Line.{raiseIf, latest, noteSource, afterDate, opened, timeoutAt, timeOut, frame, start, fate, land}
+use Rattle.model.specs.Line.{raiseIf, noteSource, afterDate, opened, timeoutAt, timeOut, frame, start, fate, land}
 use Rattle.model.specs.Settle.{gone, txDone, leave, depart, popRun, received, nothingDue, timedOut, landed, inFrame, begun}
 use Rattle.model.specs.Settle.{beforeStart, idle, lineFree, passOn, pass, onTheLine, passesFrom, pending}
 use Rattle.model.specs.Settle.{departures, passes, aboveFull, inFifo, emptyThreshold, belowEmpty, assertLevels, intStatus, drive}
@@ -25,7 +25,7 @@ use Rattle.model.specs.Registers.{noteIf, sourceNotes, statusWord, looks
 use Rattle.model.specs.Registers.{conf0Notes, storedNotes, startsAt, goneAt, sent, dropped, sendByte, resetFifos, storing, clearing}
 use Rattle.model.specs.Registers.{writeRegister, concluded}
 use Rattle.model.specs.Registers
-use Rattle.model.specs.Tests.{among, repeated, pastEnd, wentBack, transmitFull, hostFull, runsFull, periodTooLong, bufferTooShort}
+use Rattle.model.specs.Tests.{among, repeated, transmitFull, hostFull, runsFull}
 use Rattle.model.specs.Tests.{refuseIf, refuseDate}
 use Rattle.model.specs.Calls.{dated, refusing, unless, afterSettling, carried, outcome, joined, lastDate, hostDate, quiet, readPlaced}
 use Rattle.model.specs.Calls.{writePlaced, send, handOver, writeAt}
@@ -119,14 +119,14 @@ marks =
 
 pub marks-hold : Hold marks
 unfolding benchWords bench Hold p7 marks choose dueBy instantOf onlyIf earliest inCycles stopHalfBits frameHalfBits sourcePeriod unmodelled
-    unmodelledSource halfBitTime bitTime byteTime timeoutTime settings raiseIf latest noteSource afterDate opened timeoutAt timeOut frame
+    unmodelledSource halfBitTime bitTime byteTime timeoutTime settings raiseIf noteSource afterDate opened timeoutAt timeOut frame
     start fate land gone txDone leave depart popRun received nothingDue timedOut landed inFrame begun beforeStart idle lineFree passOn pass
     total goesOn onePass lost passesIn overflowsIn onTheLine passesFrom pending departures passes aboveFull inFifo emptyThreshold belowEmpty
     assertLevels intStatus drive noLaterThan settlingDate levels leveled settingsOf settleTo settle called nthGone lastGone
     belowThresholdAt nextStart landingOf nextLanding instants armAll arm number notices noReport report readNumber writeNumber doneNumber
     takenNumber registerAmong registerOf placeAmong decide valueOf wordsBy replaced noteIf sourceNotes statusWord Registers.fsmStatus looks
     pop shownIn readRegister readLooking readAt conf0Notes storedNotes startsAt goneAt sent dropped sendByte resetFifos storing clearing
-    writeRegister concluded among repeated pastEnd wentBack transmitFull hostFull runsFull periodTooLong bufferTooShort refuseIf refuseDate
+    writeRegister concluded among repeated transmitFull hostFull runsFull refuseIf refuseDate
     refusing unless afterSettling carried outcome joined lastDate hostDate dated quiet readPlaced writePlaced send handOver Calls.receive
     Calls.machine writeAt Calls.read Calls.write wordsAmong mapOf newControl new numberOf dateOf stepped replying planBy writing plan step
     run

@@ -11,7 +11,7 @@ use Rattle.trace.specs.declared.names.Name.{Name}
 use Rattle.model.specs.State
 use Rattle.model.specs.SetUp.{new}
 use Rattle.model.specs.Call.{Undated, Call, Request, Reply}
-use Rattle.model.specs.Calls.{Outcome, unless, undated, carried, outcome, quiet, hasLeft, hostPending}
+use Rattle.model.specs.Calls.{Outcome, unless, carried, outcome, quiet, hasLeft, hostPending}
 use Rattle.model.specs.Run.{Step, step}
 use Rattle.model.specs.Laws.Plans.{answering}
 use Rattle.model.specs.Laws.StepCases.{step-cases}
@@ -119,7 +119,7 @@ module _ {offsets resets : List ℕ} {u : Uart} {reply : SetUp} (made : SetsUp o
 module _ (u : Uart) (good : Good u) {before : List ℕ} {at : ℕ} {after : List ℕ} {place : ℕ} {r : Session} (e : r ≡ setUp u place) where
   pub left-gives : {a : HasLeft} → a ≡ leftReply (undatedCall hasLeft (meaning u) .reply)
       → Put (hasLeftText (a .«has_left»)) before at after place → Gives (calls (Call.undated Undated.hasLeft) [] (some (meaning u))) before at after r
-  unfolding answering outcome unless carried hasLeft undated quiet
+  unfolding answering outcome unless carried hasLeft quiet
   left-gives a p =
       let same = sym (step-cases (meaning u) .hasLeft) in
       in-use (calls (Call.undated Undated.hasLeft) [] (some (meaning u)))
@@ -128,7 +128,7 @@ module _ (u : Uart) (good : Good u) {before : List ℕ} {at : ℕ} {after : List
 
   pub pending-gives : {a : HostPending} → a ≡ pendingReply (undatedCall hostPending (meaning u) .reply)
       → Put (hostPendingText (a .count)) before at after place → Gives (calls (Call.undated Undated.hostPending) [] (some (meaning u))) before at after r
-  unfolding answering outcome unless carried hostPending undated quiet
+  unfolding answering outcome unless carried hostPending quiet
   pending-gives a p =
       let same = sym (step-cases (meaning u) .hostPending) in
       in-use (calls (Call.undated Undated.hostPending) [] (some (meaning u)))

@@ -15,7 +15,7 @@ use Rattle.text.specs.Ascii.{ascii}
 use Rattle.text.specs.Same.{sameBytes, same-refl}
 use Rattle.model.specs.State.{Uart}
 use Rattle.model.specs.Replies.{Take, contents}
-use Rattle.model.specs.Calls.{Outcome, refusing, unless, afterSettling, undated, carried, outcome, quiet, filled, notTaken, takeTx}
+use Rattle.model.specs.Calls.{Outcome, refusing, unless, afterSettling, carried, outcome, quiet, filled, notTaken, takeTx}
 use Rattle.model.specs.Calls.{takeWritten}
 use Rattle.model.specs.declared.Refusal.{Refusal}
 use Rattle.model.specs.declared.Report.{Report}
@@ -123,7 +123,7 @@ unfolding outcome carried takeTx afterSettling quiet
 tx-handed now lent u = unless-handed lent _ _ u (gave _)
 
 written-handed : (lent : List ℕ) (u : Uart ℕ ℕ) → Handed lent (undatedCall (takeWritten lent) u .reply)
-unfolding outcome carried takeWritten undated quiet
+unfolding outcome carried takeWritten quiet
 written-handed lent u = unless-handed lent _ _ u (gave _)
 
 -- the bytes stand at the front, and what is after them was not changed

@@ -18,7 +18,7 @@ use Rattle.model.specs.Registers.{Access, pop, readLooking, readAt, star
 use Rattle.model.specs.Registers.{resetFifos, storing, clearing, writeRegister, concluded}
 use Rattle.model.specs.Tests.{sentLimit, transmitFull}
 use Rattle.model.specs.Calls
-use Rattle.model.specs.Calls.{afterSettling, outcome, carried, dated, settleAt}
+use Rattle.model.specs.Calls.{afterSettling, outcome, carried, dated}
 use Rattle.model.specs.Limits.{All, flightDates, Fits}
 use Rattle.model.specs.Laws.Lists.{lastOf, chain-take, chain-snoc, all-take, all-snoc, all-last, map-take}
 use Rattle.model.specs.Laws.Choose.{choose-ind}
@@ -122,7 +122,7 @@ module _ {H W : Type 0} where
       (omega (arith, k .sent, leb-false)) (p .flight)))
 
   pub send-parts : (now : ℕ) (b : W) (u : Uart H W) → Parts u → Parts (outcome (some now) (Calls.send now b u) u .state)
-  unfolding outcome carried Calls.send afterSettling settleAt dated
+  unfolding outcome carried Calls.send afterSettling dated
   send-parts now b u p =
       dated-parts Write.Refused _ u p now _
       (λ h e. concluded-parts _ (sendByte-parts now b (dated now u) _ (settle-keeps now (dated now u)) (not-refused _ _ none e .0)

@@ -7,7 +7,8 @@ use mathlib.Core.Option.{Option, none, some, Option·some-ne-none}
 use borrow.Author.Tests.{leb-false}
 use Rattle.model.specs.State.{Uart}
 use Rattle.model.specs.Tests.{dateEnd, pastEnd, wentBack, refuseIf, refuseDate}
-use Rattle.model.specs.Calls.{Outcome, refusing, unless, dated, settleAt}
+use Rattle.model.specs.Calls.{Outcome, refusing, unless, dated}
+use Rattle.model.specs.Laws.Plans.{settleAt}
 use Rattle.model.specs.Keeps.Parts.{Parts, putClock}
 use Rattle.model.specs.Keeps.Settling.{settle-parts}
 use Rattle.model.specs.declared.Refusal.{Refusal}
@@ -33,7 +34,7 @@ module _ {R H W : Type 0} (reply : Refusal → R) (work : Uart H W → Outcome R
   -- tests 2 and 3 come first
   pub dated-parts : (now : ℕ) (rest : Option Refusal) → (now < dateEnd → rest ≡ none → Parts (work u .state))
       → Parts (unless (refuseDate now (u .control) rest) reply work u .state)
-  unfolding refuseDate pastEnd
+  unfolding refuseDate
   dated-parts now rest w =
       unless-parts _ (λ e. let past = not-refused (pastEnd now) _ _ e in w (leb-false _ _ (past .0))
       (not-refused (wentBack (u .control .last) now) _ _ (past .1) .1))
@@ -45,5 +46,4 @@ module _ {H W : Type 0} (now : ℕ) (u : Uart H W) (h : now < dateEnd) (p : Part
   moved-parts = putClock p (record { low = p .clock .low; high = p .clock .high; last = h; wake = p .clock .wake })
 
   pub settleAt-parts : Parts (settleAt now u .state)
-  unfolding settleAt
   settleAt-parts = settle-parts now (dated now u) moved-parts

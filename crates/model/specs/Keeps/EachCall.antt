@@ -12,10 +12,11 @@ use borrow.Author.Tests.{leb-false, ltb-false, lt-ltb}
 use Rattle.model.specs.State.{Uart}
 use Rattle.model.specs.Setters.{withTx}
 use Rattle.model.specs.Map.{Register, registerOf}
-use Rattle.model.specs.Tests.{sentLimit, runsLimit, periodLimit, hostFull, runsFull, periodTooLong}
+use Rattle.model.specs.Tests.{sentLimit, runsLimit, periodLimit, hostFull, runsFull}
 use Rattle.model.specs.Calls
 use Rattle.model.specs.Call.{Machine}
-use Rattle.model.specs.Calls.{unless, afterSettling, undated, outcome, carried, lastDate, hostDate, clearedLine, dated, settleAt, quiet, handOver}
+use Rattle.model.specs.Calls.{unless, afterSettling, outcome, carried, lastDate, hostDate, clearedLine, dated, quiet, handOver}
+use Rattle.model.specs.Laws.Plans.{settleAt}
 use Rattle.model.specs.Calls.{clocked, cleared}
 use Rattle.model.specs.Limits.{Chain, All, Fits, Within}
 use Rattle.model.specs.Laws.AccessCases.{write-ind}
@@ -59,7 +60,7 @@ module _ {H W : Type 0} where
       (p .host)))
 
   receive-parts : (now at : ℕ) (bs : List H) (u : Uart H W) → Parts u → Parts (outcome (some now) (Calls.receive now at bs u) u .state)
-  unfolding outcome carried Calls.receive afterSettling quiet settleAt dated hostDate
+  unfolding outcome carried Calls.receive afterSettling quiet dated hostDate
   receive-parts now at bs u p =
       dated-parts Done.Refused _ u p now _
       (λ h e. let five = not-refused _ _ _ e in
@@ -96,7 +97,7 @@ module _ {H W : Type 0} where
       putClock p (record { low = le-max-right _ _; high = max-le h (lit≤ tt); last = p .clock .last; wake = p .clock .wake })
 
   clockChange-parts : (now period : ℕ) (u : Uart H W) → Parts u → Parts (outcome (some now) (Calls.machine now (Machine.clockChange period) u) u .state)
-  unfolding outcome carried Calls.machine afterSettling quiet periodTooLong
+  unfolding outcome carried Calls.machine afterSettling quiet
   clockChange-parts now period u p =
       dated-parts Done.Refused _ u p now _
       (λ h e. arm-parts _ (settle-parts now _ (clocked-parts period _ (ltb-false _ _ (not-refused _ _ none e .0))
@@ -130,7 +131,7 @@ module _ {H W : Type 0} where
     takeTx-parts now lent u p = dated-parts _ _ u p now _ (λ h _. taken-parts (settleAt now u .state) (settleAt-parts now u h p))
 
     takeWritten-parts : (lent : List L) (u : Uart H W) → Parts u → Parts (outcome none (Calls.takeWritten lent u) u .state)
-    unfolding outcome carried Calls.takeWritten undated quiet
+    unfolding outcome carried Calls.takeWritten quiet
     takeWritten-parts lent u p = unless-parts _ _ u p _ (λ _. putFlight p (empty-flight {W = W} [] zero-le))
 
 -- ---- each call, refused or carried out
@@ -153,7 +154,7 @@ module _ {H W : Type 0} where
   receive-within now at bs u = through u _ (receive-parts now at bs u)
 
   pub hostPending-within : (u : Uart H W) → Within u → Within (outcome none (Calls.hostPending u) u .state)
-  unfolding outcome carried Calls.hostPending undated unless quiet
+  unfolding outcome carried Calls.hostPending unless quiet
   hostPending-within u w = w
 
   pub wake-within : (now : ℕ) (u : Uart H W) → Within u → Within (outcome (some now) (Calls.machine now Machine.wake u) u .state)
@@ -172,7 +173,7 @@ module _ {H W : Type 0} where
   reset-within now u = through u _ (reset-parts now u)
 
   pub hasLeft-within : (u : Uart H W) → Within u → Within (outcome none (Calls.hasLeft u) u .state)
-  unfolding outcome carried Calls.hasLeft undated unless quiet
+  unfolding outcome carried Calls.hasLeft unless quiet
   hasLeft-within u w = w
 
   module _ {L : Type 0} where

@@ -23,7 +23,7 @@ use Rattle.model.specs.Map.{Word, Register, isFifo, registerOf, placeAmo
 use Rattle.model.specs.Registers.{Access, pop, readRegister, readLooking, readAt, sendByte, sent, dropped, resetFifos, storing}
 use Rattle.model.specs.Registers.{clearing, writeRegister, concluded}
 use Rattle.model.specs.Calls
-use Rattle.model.specs.Calls.{afterSettling, undated, carried, quiet, dated, clocked, cleared, clearedLine}
+use Rattle.model.specs.Calls.{afterSettling, carried, quiet, dated, clocked, cleared, clearedLine}
 use Rattle.model.specs.Calls.{handOver, readPlaced, send, writePlaced}
 use Rattle.model.specs.Call.{Machine, Dated, Undated, Call, dateOf, Written, Request, given}
 use Rattle.model.specs.Run.{Step, stepped, replying, planBy, writing, plan, step}
@@ -204,7 +204,7 @@ worked-numbers (Call.undated Undated.hasLeft) u v g n = n
 worked-numbers (Call.undated Undated.hostPending) u v g n = n
 
 carried-numbers : (c : Request) (u : Uart ℕ ℕ) → Given c → Numbers u → Numbers (carried (dateOf c) (plan c u) u .state)
-unfolding carried undated afterSettling dated dateOf
+unfolding carried afterSettling dated dateOf
 carried-numbers (Call.at now c) u g n =
     worked-numbers (Call.at now c) u _ g
     (settled-all Numbers now (settle-numbers now) _ _ (withRaw refl refl refl (n .raw) n) (changes-numbers now c u))

@@ -1,12 +1,17 @@
--- A plan whose own result is turned into a reply gives the same outcome, so turned. Assumes nothing.
+-- Plans carried out: one whose own result is turned into a reply gives the same outcome, so turned. Assumes nothing.
 use mathlib.Core.Path.{_≡_, refl}
 use Prim.Native.Nat.{ℕ}
 use mathlib.Core.Option.{Option, none, some}
 use Rattle.model.specs.State.{Uart}
-use Rattle.model.specs.Calls.{Outcome, Plan, refusalBy, refusing, unless, undated, afterSettling, carried, outcome}
+use Rattle.model.specs.Settle.{Settled, settle}
+use Rattle.model.specs.Calls.{Outcome, Plan, dated, refusalBy, refusing, unless, afterSettling, carried, outcome}
 use Rattle.model.specs.Call.{Reply}
 use Rattle.model.specs.Run.{Step, stepped, replying}
 use Rattle.model.specs.declared.Refusal.{Refusal}
+
+-- the settling of a call that changes nothing before it
+abbrev pub settleAt : {H W : Type 0} → ℕ → Uart H W → Settled H W
+settleAt now u = settle now (dated now u)
 
 module _ {R H W L : Type 0} (as-reply : R → Reply H W L) where
   unfoldable pub answering : Outcome R H W → Step H W L
@@ -14,7 +19,7 @@ module _ {R H W L : Type 0} (as-reply : R → Reply H W L) where
 
   module _ (p : Plan R H W) (u : Uart H W) where
     carried-replies : (d : Option ℕ) → stepped (carried d (replying as-reply p) u) ≡ answering (carried d p u)
-    unfolding stepped carried replying answering undated afterSettling
+    unfolding stepped carried replying answering afterSettling
     carried-replies none = refl
     carried-replies (some now) = refl
 

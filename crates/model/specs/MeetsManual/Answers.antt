@@ -5,14 +5,15 @@ use mathlib.Core.Bool.{Bool, decide}
 use mathlib.Core.Option.{Option, none, some}
 use lib.ListN.{length}
 use borrow.Author.Tests.{lt-leb, lt-ltb, le-ltb}
+use Rattle.model.specs.Settle.{settle}
 use Rattle.model.specs.Numbers.{choose}
 use Rattle.model.specs.State.{Uart}
 use Rattle.model.specs.Line.{fifoBytes}
 use Rattle.model.specs.Map.{Register, registerOf}
 use Rattle.model.specs.Registers.{sendByte, sent, dropped}
-use Rattle.model.specs.Tests.{dateEnd, pastEnd, wentBack, sentLimit, transmitFull, refuseIf, refuseDate}
+use Rattle.model.specs.Tests.{dateEnd, sentLimit, transmitFull, refuseIf, refuseDate}
 use Rattle.model.specs.Calls
-use Rattle.model.specs.Calls.{Outcome, Plan, unless, carried, outcome, settleAt, readPlaced, writePlaced, send, writeAt}
+use Rattle.model.specs.Calls.{Outcome, Plan, unless, carried, outcome, readPlaced, writePlaced, send, writeAt, dated}
 use Rattle.model.specs.Call.{Dated, Call, dateOf, Written, Reply, reads, writes}
 use Rattle.model.specs.Run.{stepped, replying, planBy, writing, plan, step}
 use Rattle.model.specs.Laws.Plans.{answering, replied}
@@ -21,7 +22,7 @@ use Rattle.model.specs.declared.Refusal.the-variants.{DatePastEnd, DateW
 
 -- the state as the settling of a call at `now` leaves it
 abbrev pub settled : ℕ → Uart ℕ ℕ → Uart ℕ ℕ
-settled now u = settleAt now u .state
+settled now u = settle now (dated now u) .state
 
 -- neither 2 nor 3
 pub record InTime {H W : Type 0} (now : ℕ) (u : Uart H W) : Type 0 where
@@ -30,7 +31,7 @@ pub record InTime {H W : Type 0} (now : ℕ) (u : Uart H W) : Type 0 where
 
 pub in-time : {H W : Type 0} {now : ℕ} {u : Uart H W} → InTime now u → (others : Option Refusal)
     → refuseDate now (u .control) others ≡ others
-unfolding refuseDate refuseIf pastEnd wentBack
+unfolding refuseDate refuseIf
 in-time {now = now} {u = u} h others =
     ap₂ (λ (a b : Bool). refuseIf a DatePastEnd (refuseIf b DateWentBack others)) (lt-leb dateEnd now (h .beforeEnd))
     (le-ltb now (u .control .last) (h .notBack))

@@ -13,7 +13,7 @@ use Rattle.model.specs.Arm.{arm}
 use Rattle.model.specs.Map.{Register, registerOf}
 use Rattle.model.specs.Registers.{pop, readRegister, readLooking, readAt, concluded}
 use Rattle.model.specs.Calls
-use Rattle.model.specs.Calls.{afterSettling, undated, carried, dated, quiet, handOver, readPlaced, send, writePlaced}
+use Rattle.model.specs.Calls.{afterSettling, carried, dated, quiet, handOver, readPlaced, send, writePlaced}
 use Rattle.model.specs.Call.{Machine, Dated, Undated, Call, dateOf, Request, writes}
 use Rattle.model.specs.Run.{numberOf, stepped, replying, planBy, writing, plan, step}
 use Rattle.model.specs.SetUp.{newControl, new}
@@ -105,7 +105,7 @@ machine-leaves now (Machine.clockChange period) u e = apart (cc)
 -- one that does not
 carried-leaves : (c : Request) (u : Uart ℕ ℕ) → settlings c u ≡ []
     → stepped (carried (dateOf c) (plan c u) u) .state .control .level ≡ u .control .level
-unfolding stepped carried afterSettling undated dated dateOf plan planBy replying writing quiet Calls.read readPlaced Calls.write send
+unfolding stepped carried afterSettling dated dateOf plan planBy replying writing quiet Calls.read readPlaced Calls.write send
     writePlaced Calls.receive Calls.takeTx Calls.takeWritten Calls.hasLeft Calls.hostPending
 carried-leaves (Call.at now (Dated.read offset)) u e = apart (cc)
 carried-leaves (Call.at now (Dated.write x)) u e =

@@ -21,7 +21,8 @@ use Rattle.model.specs.Map.{Word, Shown, Register, registerOf, valueOf}
 use Rattle.model.specs.Registers.{looks, statusWord, pop, shownIn, readRegister, readLooking, readAt, clearing}
 use Rattle.model.specs.Registers.{writeRegister, concluded}
 use Rattle.model.specs.SetUp.{fifoCounts}
-use Rattle.model.specs.Calls.{afterSettling, dated, settleAt, readPlaced, writePlaced, carried}
+use Rattle.model.specs.Calls.{afterSettling, dated, readPlaced, writePlaced, carried}
+use Rattle.model.specs.Laws.Plans.{settleAt}
 use Rattle.model.specs.Call.{Dated, Call, Written, reads}
 use Rattle.model.specs.Run.{Step, step}
 use Rattle.model.specs.Laws.Plans.{answering}
@@ -104,7 +105,7 @@ module _ (now : ℕ) (u : Uart ℕ ℕ) (t : InTime now u) where
   -- the level that a read reports is whether INT_ST is other than 0: it is driven as the settling ends, and no read changes it
   pub level-read : (offset : ℕ) (p : Register) → registerOf (u .map .offsets) offset ≡ p
       → step (Call.at now (Dated.read offset)) u .answer .report .level ≡ not (eqb (intStatus (settled now u .control)) 0)
-  unfolding answering carried readPlaced afterSettling readAt report settleAt settle settleTo leveled levels drive intStatus
+  unfolding answering carried readPlaced afterSettling readAt report settle settleTo leveled levels drive intStatus
   level-read offset p e =
       ap (λ (s : Step ℕ ℕ ℕ). s .answer .report .level) (read-answer t offset p e) ∙ level-kept _ p (settled now u)
 
@@ -163,5 +164,5 @@ module _ (now : ℕ) (u : Uart ℕ ℕ) (t : InTime now u) where
   pub raw-read-rises : (offset : ℕ) → registerOf (u .map .offsets) offset ≡ Register.shown Shown.intRaw
       → (step (Call.at now (Dated.read offset)) u .answer .reply ≡ reads (word (lineOf (settled now u) .«int_raw»)))
       × FiveBits (dated now u) (settleAt now u .events) (settled now u)
-  unfolding settleAt settle settlingDate dated
+  unfolding settle settlingDate dated
   raw-read-rises offset e = (raw-read offset e, settling-rises _ (dated now u))

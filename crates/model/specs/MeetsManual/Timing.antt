@@ -17,7 +17,7 @@ use Rattle.model.specs.Arm.{arm, nthGone, lastGone}
 use Rattle.model.specs.Map.{Register, registerOf}
 use Rattle.model.specs.Registers.{Access, startsAt, goneAt, sent, concluded}
 use Rattle.model.specs.Tests.{sentLimit}
-use Rattle.model.specs.Calls.{afterSettling, dated, settleAt, send, carried}
+use Rattle.model.specs.Calls.{afterSettling, dated, send, carried}
 use Rattle.model.specs.Call.{Dated, Call, Written}
 use Rattle.model.specs.Run.{Step, step}
 use Rattle.model.specs.Laws.Plans.{answering}
@@ -107,7 +107,7 @@ module _ (now : ℕ) (u : Uart ℕ ℕ) (x : Written) (m : Meant (u .control)) (
   frame = byteTime (u .control .words) (u .control .period)
 
   settled-lasts : byteTime (settled now u .control .words) (settled now u .control .period) ≡ frame
-  unfolding settleAt settle dated
+  unfolding settle dated
   settled-lasts = ap₂ byteTime (settleTo-words _ (dated now u)) (settleTo-period _ (dated now u))
 
   -- a byte that is taken has gone a frame after it starts, which is now or when the last one in flight has gone

@@ -15,7 +15,7 @@ use Rattle.model.specs.Registers.{noteIf, sourceNotes, Access, pop, give
 use Rattle.model.specs.Registers.{storedNotes, sent, dropped, sendByte}
 use Rattle.model.specs.Registers.{storing, clearing, writeRegister, concluded}
 use Rattle.model.specs.Calls
-use Rattle.model.specs.Calls.{afterSettling, undated, carried, filled, quiet, readPlaced, send, writePlaced}
+use Rattle.model.specs.Calls.{afterSettling, carried, filled, quiet, readPlaced, send, writePlaced}
 use Rattle.model.specs.Call.{Machine, Dated, Undated, Call, dateOf, Request, writes, Answer}
 use Rattle.model.specs.Run.{numberOf, stepped, replying, planBy, writing, plan}
 use Rattle.model.specs.Laws.Choose.{choose-ind}
@@ -139,7 +139,7 @@ pub record Fine (a : Answer ℕ ℕ ℕ) : Type 0 where
 
 -- a call that is carried out answers number 0 and at most 8 notices
 pub carried-fine : (c : Request) (u : Uart ℕ ℕ) → Fine (stepped (carried (dateOf c) (plan c u) u) .answer)
-unfolding stepped carried undated afterSettling
+unfolding stepped carried afterSettling
 carried-fine c u = by-date (dateOf c)
   where
     by-date : (d : Option ℕ) → Fine (stepped (carried d (plan c u) u) .answer)

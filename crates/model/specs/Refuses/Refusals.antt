@@ -11,7 +11,7 @@ use borrow.Author.Tests.{ltb-true, ltb-false, leb-true, leb-false, lt-ltb, le-le
 use Rattle.model.specs.State.{Run, Uart}
 use Rattle.model.specs.Replies.{number, readNumber, writeNumber, doneNumber, takenNumber}
 use Rattle.model.specs.Map.{Register, isFifo, registerOf}
-use Rattle.model.specs.Tests.{pastEnd, wentBack, transmitFull, hostFull, runsFull, bufferTooShort, refuseIf}
+use Rattle.model.specs.Tests.{transmitFull, hostFull, runsFull, refuseIf}
 use Rattle.model.specs.Tests.{refuseDate}
 use Rattle.model.specs.Calls
 use Rattle.model.specs.Calls.{refusalBy, refusing, unless, carried, outcome, lastDate, hostDate, notTaken, readPlaced, writePlaced}
@@ -76,7 +76,7 @@ module _ (c : Request) (u : Uart ℕ ℕ) where
   dates : (now : ℕ) (o : Option Refusal) → dateOf c ≡ some now
       → Verdict (λ q. Condition u q c) (PeriodTooLong ∷ BufferTooShort ∷ TransmitFull ∷ HostFull ∷ RunsFull ∷ []) o
       → Verdict (λ q. Condition u q c) order (refuseDate now (u .control) o)
-  unfolding refuseDate pastEnd wentBack
+  unfolding refuseDate
   dates now o e v = tested-le (2 ^ 59) now DatePastEnd (number2 e) from2 (tested-lt now _ DateWentBack (number3 e) from3 v)
     where
       from2 : Condition u DatePastEnd c → 2 ^ 59 ≤ now
@@ -209,7 +209,7 @@ machine-verdict now (Machine.clockChange period) u =
     (skip (elim [ ]) (skip (elim [ ]) (skip (elim [ ]) (skip (elim [ ]) (clear nil))))))
 
 verdict : (c : Request) (u : Uart ℕ ℕ) → Verdict (λ q. Condition u q c) order (refusalBy (dateOf c) (plan c u .test) (u .control))
-unfolding plan planBy replying writing dateOf hostFull bufferTooShort tooMany
+unfolding plan planBy replying writing dateOf hostFull tooMany
     Calls.read readPlaced Calls.write Calls.receive Calls.takeTx Calls.takeWritten Calls.hasLeft Calls.hostPending
 verdict (Call.at now (Dated.read offset)) u = dates _ u now none refl (no-other (elim [ ]) (elim [ ]) (elim [ ]) (elim [ ]) (elim [ ]))
 verdict (Call.at now (Dated.write x)) u = write-verdict now x u

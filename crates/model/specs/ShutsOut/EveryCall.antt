@@ -17,7 +17,8 @@ use Rattle.model.specs.Map.{Register, registerOf}
 use Rattle.model.specs.Registers.{Access, pop, readRegister, looks, readLooking, readAt, sendByte, sent, dropped}
 use Rattle.model.specs.Registers.{storing, clearing, resetFifos, writeRegister, concluded}
 use Rattle.model.specs.Calls
-use Rattle.model.specs.Calls.{Outcome, Plan, refusing, undated, carried, outcome, quiet, filled, settleAt, dated, clocked, hostDate}
+use Rattle.model.specs.Calls.{Outcome, Plan, refusing, carried, outcome, quiet, filled, dated, clocked, hostDate}
+use Rattle.model.specs.Laws.Plans.{settleAt}
 use Rattle.model.specs.Calls.{cleared, handOver, afterSettling, writePlaced, send}
 use Rattle.model.specs.Call.{Machine, Dated, Undated, Call, dateOf, Written, Request, Reply}
 use Rattle.model.specs.Run.{stepped, replying, planBy, writing, plan, step}
@@ -159,7 +160,7 @@ carried-walk : (c : Request) (u : Uart ℕ ℕ) (R : Uart ℕ ℕ → Uart ℕ �
     → (v : ℕ) (s : Uart ℕ ℕ) → R s (clearing v s .state))
     → ((now : ℕ) → c ≡ Call.at now (Dated.machine Machine.reset) → (s : Uart ℕ ℕ) → R s (cleared s))
     → R u (carried (dateOf c) (plan c u) u .state)
-unfolding dateOf plan planBy replying carried afterSettling undated writing quiet Calls.read Calls.readPlaced Calls.receive
+unfolding dateOf plan planBy replying carried afterSettling writing quiet Calls.read Calls.readPlaced Calls.receive
     Calls.takeTx Calls.takeWritten Calls.hasLeft Calls.hostPending
 carried-walk (Call.at now (Dated.read r)) u R k clr rst =
     let p : Register = registerOf (u .map .offsets) r in walk-after now R k u (readAt p) (walk-read now R k p)

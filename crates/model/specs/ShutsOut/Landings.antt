@@ -19,7 +19,7 @@ use Rattle.model.specs.Settle.{settle, settlingDate}
 use Rattle.model.specs.Replies.{byte}
 use Rattle.model.specs.Map.{Register, registerOf}
 use Rattle.model.specs.Registers.{pop, looks, readRegister, readLooking, readAt}
-use Rattle.model.specs.Calls.{dated, settleAt, afterSettling, readPlaced, carried}
+use Rattle.model.specs.Calls.{dated, afterSettling, readPlaced, carried}
 use Rattle.model.specs.Call.{Dated, Call, reads}
 use Rattle.model.specs.Run.{Step, step}
 use Rattle.model.specs.Laws.Plans.{answering}
@@ -121,7 +121,7 @@ pub byte-read : (now offset : ℕ) (u : Uart ℕ ℕ) (l : OnTheLine ℕ) → In
     → l .frame .heard ≡ true → bit 25 (u .control .words .«clk_conf») ≡ true → bit 17 (u .control .words .conf0) ≡ false → u .rx ≡ []
     → lineOf u .«line_free_at» ≤ settlingDate now (u .control)
     → step (Call.at now (Dated.read offset)) u .answer .reply ≡ reads (byte (l .byte))
-unfolding answering carried readPlaced afterSettling readAt looks decide readLooking readRegister settleAt settle settlingDate dated
+unfolding answering carried readPlaced afterSettling readAt looks decide readLooking readRegister settle settlingDate dated
 byte-read now offset u l t limits e on heard clock rst empty come =
     let closed : lineOf u .«idle_since» ≡ Date.None = limits .idleLine l on heard in
     let stored = landing-settled (settlingDate now (u .control)) (dated now u) l closed on heard clock rst (rw empty (omega arith)) come in

@@ -16,7 +16,8 @@ use Rattle.model.specs.Arm.{arm}
 use Rattle.model.specs.Map.{Register, registerOf}
 use Rattle.model.specs.Registers.{Access, sendByte, sent, dropped, storing, clearing, resetFifos, writeRegister, concluded}
 use Rattle.model.specs.Calls
-use Rattle.model.specs.Calls.{carried, clearedLine, cleared, settleAt, afterSettling, send, writePlaced}
+use Rattle.model.specs.Calls.{carried, clearedLine, cleared, afterSettling, send, writePlaced}
+use Rattle.model.specs.Laws.Plans.{settleAt}
 use Rattle.model.specs.Call.{Machine, Dated, Call, dateOf, Written, Request, writes}
 use Rattle.model.specs.Run.{Step, numberOf, stepped, replying, planBy, writing, plan, step}
 use Rattle.model.specs.Laws.Choose.{choose-ind}

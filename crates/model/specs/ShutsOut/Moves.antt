@@ -19,7 +19,8 @@ use Rattle.model.specs.Map.{Register, registerOf}
 use Rattle.model.specs.Registers.{Access, sourceNotes, goneAt, sent, dropped, sendByte, concluded}
 use Rattle.model.specs.Tests.{dateEnd, sentLimit, hostLimit, hostFull, runsFull, refuseIf}
 use Rattle.model.specs.Calls
-use Rattle.model.specs.Calls.{afterSettling, quiet, settleAt, dated, filled, hostDate, lastDate, send, carried}
+use Rattle.model.specs.Calls.{afterSettling, quiet, dated, filled, hostDate, lastDate, send, carried}
+use Rattle.model.specs.Laws.Plans.{settleAt}
 use Rattle.model.specs.Call.{Dated, Call, dateOf, Written, writes, does, takes}
 use Rattle.model.specs.Run.{Step, planBy, plan, step}
 use Rattle.model.specs.Laws.Plans.{answering}
@@ -123,7 +124,7 @@ module _ (offsets ws : List ℕ) (now : ℕ) (early : now < dateEnd) where
   new-in-time = record { beforeEnd = early; notBack = omega arith }
 
   none-flying : settled now fresh .inFlight ≡ []
-  unfolding settleAt settle dated new depart leave gone
+  unfolding settle dated new depart leave gone
   none-flying = settleTo-inFlight _ (dated now fresh)
 
   -- neither 4 nor any other number at a first write to FIFO: the byte is in flight

@@ -18,7 +18,8 @@ use Rattle.model.specs.Settle.{pass, passesFrom, pending, passes, assert
 use Rattle.model.specs.Settle.{settleTo, settle, settlingDate}
 use Rattle.model.specs.Map.{Register, registerOf}
 use Rattle.model.specs.Registers.{Access, pop, readRegister, readLooking, readAt}
-use Rattle.model.specs.Calls.{dated, settleAt, afterSettling, readPlaced, carried}
+use Rattle.model.specs.Calls.{dated, afterSettling, readPlaced, carried}
+use Rattle.model.specs.Laws.Plans.{settleAt}
 use Rattle.model.specs.Call.{Dated, Call}
 use Rattle.model.specs.Run.{Step, step}
 use Rattle.model.specs.Laws.Plans.{answering}
@@ -122,7 +123,7 @@ module _ {H W : Type 0} where
 pub timeout-closes-line : (now offset : ℕ) (u : Uart ℕ ℕ) → InTime now u → u .receiving ≡ none → u .host ≡ []
     → dueBy (settlingDate now (u .control)) (timeoutAt (settingsOf u) (lineOf u)) ≡ true
     → lineOf (step (Call.at now (Dated.read offset)) u .state) .«idle_since» ≡ Date.None
-unfolding answering carried readPlaced afterSettling readAt settleAt settle settlingDate dated settingsOf
+unfolding answering carried readPlaced afterSettling readAt settle settlingDate dated settingsOf
 timeout-closes-line now offset u t line waiting due =
     let p : Register = registerOf (u .map .offsets) offset in
     ap (λ (x : Step ℕ ℕ ℕ). lineOf (x .state) .«idle_since») (read-answer t offset p refl)
@@ -135,7 +136,7 @@ off-tout conf1 clkConf e held = ap (λ (t : Bool). t && bit 25 clkConf && ltb 0 
 
 -- with RX_TOUT_EN clear no settling raises RXFIFO_TOUT
 pub disabled-raises-nothing : (now : ℕ) (u : Uart ℕ ℕ) → bit 21 (u .control .words .conf1) ≡ false → rawBit 8 (settled now u) ≡ rawBit 8 u
-unfolding settleAt settle dated
+unfolding settle dated
 disabled-raises-nothing now u e =
     settling-rises _ (dated now u) .tout
     ∙ ap (λ (b : Bool). rawBit 8 u || b)

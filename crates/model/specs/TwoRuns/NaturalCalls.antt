@@ -12,12 +12,12 @@ use Rattle.model.specs.Setters.{withHost}
 use Rattle.model.specs.Events.{passesIn, overflowsIn}
 use Rattle.model.specs.Settle.{Settled, found, ended, settle, levels}
 use Rattle.model.specs.Arm.{arm}
-use Rattle.model.specs.Replies.{ReadOf, word, byte, report}
+use Rattle.model.specs.Replies.{ReadOf, word, byte, report, noReport}
 use Rattle.model.specs.Map.{Word, Shown, Register}
 use Rattle.model.specs.Registers.{Access, gives, pop, shownIn, readRegister, readLooking, readAt, goneAt, sent, dropped, sendByte}
 use Rattle.model.specs.Registers.{resetFifos, storing, clearing, writeRegister, concluded}
 use Rattle.model.specs.Calls
-use Rattle.model.specs.Calls.{Outcome, Plan, dated, settledBy, refusalBy, refusing, unless, afterSettling, undated}
+use Rattle.model.specs.Calls.{Outcome, Plan, dated, settledBy, refusalBy, refusing, unless, afterSettling}
 use Rattle.model.specs.Calls.{carried, outcome, filled, notTaken, quiet, readPlaced, writePlaced, send, joined, handOver, clocked}
 use Rattle.model.specs.Calls.{cleared, written}
 use Rattle.model.specs.Call.{Machine, Dated, Undated, Call, dateOf, Reply}
@@ -99,8 +99,8 @@ module _ {R R′ H H′ W W′ : Type 0} (m : R → R′) (f : H → H′) (g : 
 
   module _ {p : Plan R H W} {p′ : Plan R′ H′ W′} (n : Natural p p′) (u : Uart H W) where
     carried-nat : (d : Option ℕ) → carried d p′ (mapUart f g u) ≡ mapOutcome (carried d p u)
-    unfolding carried undated mapAccess mapOutcome dated mapSettled
-    carried-nat none = ap undated (n .work u)
+    unfolding carried mapAccess mapOutcome dated mapSettled
+    carried-nat none = ap (λ a. record { reply = a .reply; report = noReport; state = a .state; events = [] }) (n .work u)
     carried-nat (some now) =
         ap (λ t. afterSettling t (p′ .work)) (settledBy-nat now (n .changes) (ended (dated now u)))
         ∙ after-nat _ (p .work) (p′ .work) (n .work)

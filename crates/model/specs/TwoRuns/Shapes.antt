@@ -12,7 +12,8 @@ use Rattle.model.specs.Replies.{ReadOf, byte, refused, Take, report}
 use Rattle.model.specs.Map.{Register, sameRegister, registerOf}
 use Rattle.model.specs.Registers.{sourceNotes, looks, pop, readRegister, readLooking, readAt}
 use Rattle.model.specs.Tests.{refuseDate}
-use Rattle.model.specs.Calls.{Plan, refusing, unless, afterSettling, carried, outcome, settleAt, readPlaced}
+use Rattle.model.specs.Calls.{Plan, refusing, unless, afterSettling, carried, outcome, readPlaced}
+use Rattle.model.specs.Laws.Plans.{settleAt}
 use Rattle.model.specs.Call.{Dated, Undated, Call, dateOf, Request, Reply, reads, writes, does, takes, left, pends}
 use Rattle.model.specs.Run.{Step, stepped, replying, planBy}
 use Rattle.model.specs.Laws.Plans.{answering, replied}

@@ -4,7 +4,7 @@ use mathlib.Core.Option.{none}
 use borrow.Author.Tests.{ltb-false}
 use Rattle.model.specs.Keeps.Dated.{not-refused}
 use Rattle.model.specs.Replies.{takenNumber}
-use Rattle.model.specs.Calls.{undated, carried, quiet, filled, takeWritten}
+use Rattle.model.specs.Calls.{carried, quiet, filled, takeWritten}
 use Rattle.model.specs.Keeps.EachCall.{takeWritten-within}
 use Rattle.replies.specs.Refusals.{takingWritten}
 use Rattle.replies.specs.Calls.{written-tests}
@@ -58,7 +58,7 @@ returns c =
     (c .refuse .ensures)
 
 returns-2 : tie.Need-returns-2
-unfolding carried takeWritten undated quiet filled takenNumber
+unfolding carried takeWritten quiet filled takenNumber
 returns-2 c =
     let start = c .before .before .before .before .before .before .before .before .before .before .before in
     let o = start .args in
