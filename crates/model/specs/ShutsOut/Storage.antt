@@ -1,22 +1,29 @@
--- Register access: what cannot be read, what a stored word reads as and what a write leaves of the nine, and a write that is not
--- accepted. Assumes nothing.
+-- Register access: what cannot be read, what STATUS, MEM_RX_STATUS and a stored word read as, what a write leaves of the nine, and a write
+-- that is not accepted. Assumes nothing.
 use mathlib.Core.Path.{_≡_, refl, ap, _∙_}
-use Prim.Native.Nat.{ℕ}
-use mathlib.Core.Bool.{decide}
-use Rattle.model.specs.Numbers.{choose}
+use Prim.Native.Nat.{ℕ, _-_, _*_, _^_}
+use mathlib.Core.Bool.{Bool, false, decide}
+use mathlib.Core.List.{[]}
+use lib.ListN.{length, take}
+use lib.Bits.{bitOr}
+use Rattle.model.specs.Numbers.{choose, bit}
 use Rattle.model.specs.State.{Uart}
-use Rattle.model.specs.Settle.{levels, drive, assertLevels, settle}
+use Rattle.model.specs.Settle.{inFifo, levels, drive, assertLevels, settle}
 use Rattle.model.specs.Arm.{arm}
 use Rattle.model.specs.Replies.{word, noValue, report}
 use Rattle.model.specs.Map.{Word, Shown, Register, sameWord, registerOf, valueOf, wordsBy, replaced}
-use Rattle.model.specs.Registers.{looks, readRegister, readLooking, readAt, resetFifos, storing, writeRegister, concluded}
+use Rattle.model.specs.Registers.{statusWord, looks, shownIn, readRegister, readLooking, readAt, resetFifos, storing, writeRegister}
+use Rattle.model.specs.Registers.{concluded}
 use Rattle.model.specs.Calls.{afterSettling, carried, dated, readPlaced, writeAt, writePlaced}
 use Rattle.model.specs.Call.{Call, Written, reads, writes}
 use Rattle.model.specs.Run.{Step, step}
 use Rattle.model.specs.Laws.Choose.{choose-ind}
 use Rattle.model.specs.Laws.Plans.{answering}
+use Rattle.model.specs.Keeps.Kept.{settle-keeps}
 use Rattle.model.specs.Keeps.Rest.{settleTo-words}
 use Rattle.model.specs.MeetsManual.Answers.{InTime, settled, read-answer, write-answer}
+use Rattle.model.specs.ShutsOut.Notices.{conf0-answer}
+use Rattle.model.specs.declared.RegisterMap.{RegisterMap}
 use Rattle.model.specs.declared.Words.{Words}
 use Rattle.model.specs.declared.Write.{Write}
 
@@ -65,6 +72,29 @@ module _ (now : ℕ) (u : Uart ℕ ℕ) (t : InTime now u) where
       ap (λ (s : Step ℕ ℕ ℕ). s .answer .reply) (read-answer t offset (Register.stored x) e)
       ∙ ap (λ (w : Words). reads (word (valueOf w x))) settled-words
 
+  settled-map : settled now u .map ≡ u .map
+  unfolding dated
+  settled-map = settle-keeps now (dated now u) .map
+
+  -- STATUS reads as its reset word without the counts, and both counts; MEM_RX_STATUS as its reset word
+  pub status-word : (offset : ℕ) → registerOf (u .map .offsets) offset ≡ Register.shown Shown.status
+      → let v : Uart ℕ ℕ = settled now u in
+      step (Call.read now offset) u .answer .reply
+      ≡ reads (word (bitOr (bitOr (u .map .«idle_status») ((length (v .inFlight) - 1) * 2 ^ 16)) (length (v .rx))))
+  unfolding answering carried readPlaced afterSettling readAt looks decide readLooking readRegister shownIn statusWord inFifo
+  status-word offset e =
+      let v : Uart ℕ ℕ = settled now u in
+      ap (λ (s : Step ℕ ℕ ℕ). s .answer .reply) (read-answer t offset (Register.shown Shown.status) e)
+      ∙ ap (λ (m : RegisterMap). reads (word (bitOr (bitOr (m .«idle_status») ((length (v .inFlight) - 1) * 2 ^ 16)) (length (v .rx)))))
+      settled-map
+
+  pub mem-rx-status-read : (offset : ℕ) → registerOf (u .map .offsets) offset ≡ Register.shown Shown.memRxStatus
+      → step (Call.read now offset) u .answer .reply ≡ reads (word (u .map .«mem_rx_status»))
+  unfolding answering carried readPlaced afterSettling readAt looks decide readLooking readRegister shownIn
+  mem-rx-status-read offset e =
+      ap (λ (s : Step ℕ ℕ ℕ). s .answer .reply) (read-answer t offset (Register.shown Shown.memRxStatus) e)
+      ∙ ap (λ (m : RegisterMap). reads (word (m .«mem_rx_status»))) settled-map
+
   -- ---- writes
 
   kept-words : (x : Word) (v : ℕ) → choose (sameWord x Word.conf0) (resetFifos v (settled now u)) (settled now u) .control .words
@@ -85,6 +115,18 @@ module _ (now : ℕ) (u : Uart ℕ ℕ) (t : InTime now u) where
         λ y. ap (λ (s : Step ℕ ℕ ℕ). valueOf (s .state .control .words) y) q
             ∙ ap (λ (z : Words). valueOf (replaced x (w .value) z) y) (kept-words x (w .value) ∙ settled-words)
             ∙ replaced-value x (w .value) (u .control .words) y,
+      )
+
+  -- CONF0 without TXFIFO_RST leaves all in flight, and without RXFIFO_RST all received
+  pub conf0-leaves-fifos : (w : Written) → registerOf (u .map .offsets) (w .offset) ≡ Register.stored Word.conf0
+      → let v : Uart ℕ ℕ = step (Call.write now w) u .state in
+      (bit 18 (w .value) ≡ false → v .inFlight ≡ settled now u .inFlight) × (bit 17 (w .value) ≡ false → v .rx ≡ settled now u .rx)
+  unfolding answering carried writePlaced afterSettling concluded writeRegister storing resetFifos arm levels choose decide
+  conf0-leaves-fifos w e =
+      let s : Uart ℕ ℕ = settled now u in (
+        λ rst. ap (λ (z : Step ℕ ℕ ℕ). z .state .inFlight) (conf0-answer now u w t e)
+            ∙ ap (λ (b : Bool). choose b (take 1 (s .inFlight)) (s .inFlight)) rst,
+        λ rst. ap (λ (z : Step ℕ ℕ ℕ). z .state .rx) (conf0-answer now u w t e) ∙ ap (λ (b : Bool). choose b [] (s .rx)) rst,
       )
 
   -- a read-only or unknown register is not accepted; the write settles, raises levels and arms, and does nothing else
