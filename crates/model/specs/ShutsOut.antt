@@ -6,3 +6,9 @@ pub mod Timeouts
 pub mod Notices
 pub mod Corners
 pub mod Landings
+pub mod Unsettled
+pub mod Storage
+pub mod Clock
+pub mod Start
+pub mod HandOver
+pub mod Wakes
