@@ -8,7 +8,8 @@ use mathlib.Core.List.{List, [], _∷_}
 use lib.Dec.{eqb}
 use borrow.Author.Tests.{eq-eqb, ne-eqb}
 use Rattle.model.specs.Numbers.{choose, field}
-use Rattle.model.specs.State.{Uart, withPeriod, withControl}
+use Rattle.model.specs.State.{Uart}
+use Rattle.model.specs.Setters.{withPeriod, withControl}
 use Rattle.model.specs.Timing.{sourcePeriod, unmodelled, unmodelledSource, halfBitTime, divider}
 use Rattle.model.specs.Events.{passesIn, overflowsIn}
 use Rattle.model.specs.Settle.{Settled, settle}
@@ -16,8 +17,8 @@ use Rattle.model.specs.Arm.{arm}
 use Rattle.model.specs.Replies.{report}
 use Rattle.model.specs.Registers.{sourceNotes}
 use Rattle.model.specs.Calls
-use Rattle.model.specs.Calls.{afterSettling, carried, quiet, settleAt, clocked}
-use Rattle.model.specs.Call.{Call, dateOf}
+use Rattle.model.specs.Calls.{afterSettling, carried, dated, quiet, clocked}
+use Rattle.model.specs.Call.{Machine, Dated, Call, dateOf}
 use Rattle.model.specs.Run.{Step, numberOf, stepped, replying, planBy, plan, step}
 use Rattle.model.specs.Laws.Choose.{choose-true, choose-false}
 use Rattle.model.specs.Laws.Events.{passes-append, overflows-append}
@@ -29,34 +30,35 @@ use Rattle.model.specs.declared.Unsupported.the-variants.{UartClock}
 
 -- ---- a clock change
 
-module _ (now period : ℕ) (u : Uart ℕ ℕ) (done : numberOf (step (Call.clockChange now period) u .answer .reply) ≡ 0) where
-  -- settled with the old period; then, with the new one, of which 0 counts as 1, settled again
-  abbrev first : Settled ℕ ℕ
-  first = settleAt now u
-
-  abbrev second : Settled ℕ ℕ
-  second = settle now (withControl (withPeriod (max period 1) (first .state .control)) (first .state))
-
-  change-is : step (Call.clockChange now period) u ≡ stepped (carried (some now) (plan (Call.clockChange now period) u) u)
+module _ (now period : ℕ) (u : Uart ℕ ℕ)
+    (done : numberOf (step (Call.at now (Dated.machine (Machine.clockChange period))) u .answer .reply) ≡ 0) where
+  change-is : step (Call.at now (Dated.machine (Machine.clockChange period))) u
+      ≡ stepped (carried (some now) (plan (Call.at now (Dated.machine (Machine.clockChange period))) u) u)
   unfolding dateOf
-  change-is = done-carried (Call.clockChange now period) u done
+  change-is = done-carried (Call.at now (Dated.machine (Machine.clockChange period))) u done
 
-  -- what it leaves is armed
-  pub clock-change-leaves : step (Call.clockChange now period) u .state ≡ arm (second .state)
-  unfolding stepped carried afterSettling dateOf plan planBy replying quiet Calls.clockChange clocked
+  -- settled with the old period; then, with the new one, of which 0 counts as 1, settled again; and armed
+  pub clock-change-leaves : let v : Uart ℕ ℕ = settle now (dated now u) .state in
+      step (Call.at now (Dated.machine (Machine.clockChange period))) u .state
+      ≡ arm (settle now (withControl (withPeriod (max period 1) (v .control)) v) .state)
+  unfolding stepped carried afterSettling dateOf plan planBy replying quiet Calls.machine clocked
   clock-change-leaves = ap (λ (s : Step ℕ ℕ ℕ). s .state) change-is
 
-  -- passes and overflows are the sums over both settlings
-  pub clock-change-counts : let s : Step ℕ ℕ ℕ = step (Call.clockChange now period) u in
-      (s .answer .report .passes ≡ passesIn (first .events) + passesIn (second .events))
-      × (s .answer .report .overflows ≡ overflowsIn (first .events) + overflowsIn (second .events))
-  unfolding stepped carried afterSettling dateOf plan planBy replying quiet Calls.clockChange clocked report
-  clock-change-counts = (
-    ap (λ (s : Step ℕ ℕ ℕ). s .answer .report .passes) change-is ∙ passes-append (first .events) (second .events),
-    ap (λ (s : Step ℕ ℕ ℕ). s .answer .report .overflows) change-is ∙ overflows-append (first .events) (second .events),
-  )
+  -- what both settlings find is counted: passes and overflows are the sums
+  pub clock-change-counts : let t : Settled ℕ ℕ = settle now (dated now u) in
+      let r : Settled ℕ ℕ = settle now (withControl (withPeriod (max period 1) (t .state .control)) (t .state)) in
+      let s : Step ℕ ℕ ℕ = step (Call.at now (Dated.machine (Machine.clockChange period))) u in
+      (s .answer .report .passes ≡ passesIn (t .events) + passesIn (r .events))
+      × (s .answer .report .overflows ≡ overflowsIn (t .events) + overflowsIn (r .events))
+  unfolding stepped carried afterSettling dateOf plan planBy replying quiet Calls.machine clocked report
+  clock-change-counts =
+      let t : Settled ℕ ℕ = settle now (dated now u) in
+      let r : Settled ℕ ℕ = settle now (withControl (withPeriod (max period 1) (t .state .control)) (t .state)) in (
+        ap (λ (s : Step ℕ ℕ ℕ). s .answer .report .passes) change-is ∙ passes-append (t .events) (r .events),
+        ap (λ (s : Step ℕ ℕ ℕ). s .answer .report .overflows) change-is ∙ overflows-append (t .events) (r .events),
+      )
 
-  pub clock-change-period : step (Call.clockChange now period) u .state .control .period ≡ max period 1
+  pub clock-change-period : step (Call.at now (Dated.machine (Machine.clockChange period))) u .state .control .period ≡ max period 1
   unfolding arm
   clock-change-period = ap (λ (v : Uart ℕ ℕ). v .control .period) clock-change-leaves ∙ settle-keeps now _ .period
 

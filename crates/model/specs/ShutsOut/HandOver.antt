@@ -7,12 +7,13 @@ use mathlib.Core.Option.{none}
 use mathlib.Core.List.{List, [], _∷_, _++_}
 use lib.ListN.{length, drop}
 use borrow.Author.Tests.{le-ltb, le-leb, lt-leb}
-use Rattle.model.specs.State.{Run, Uart, withTx, withHost}
+use Rattle.model.specs.State.{Run, Uart}
+use Rattle.model.specs.Setters.{withTx, withHost}
 use Rattle.model.specs.Arm.{arm}
 use Rattle.model.specs.Tests.{refuseIf}
 use Rattle.model.specs.Calls
 use Rattle.model.specs.Calls.{afterSettling, carried, quiet, filled, notTaken, joined, hostDate, handOver}
-use Rattle.model.specs.Call.{Call, dateOf, takes}
+use Rattle.model.specs.Call.{Dated, Undated, Call, dateOf, takes}
 use Rattle.model.specs.Run.{Step, numberOf, stepped, replying, planBy, plan, step}
 use Rattle.model.specs.Laws.Choose.{choose-true, choose-false}
 use Rattle.model.specs.Laws.Plans.{answering}
@@ -47,20 +48,20 @@ module _ (date n : ℕ) where
   joins-behind (q ∷ s ∷ rs) r h = ap (λ (l : List Run). q ∷ l) (joins-behind (s ∷ rs) r h)
 
 -- a hand-over settles; then its bytes wait behind the others, dated max(its cycle, now) × 32 held at the last date, and the wake is armed
-pub handed-over : (now at : ℕ) (u : Uart ℕ ℕ) (b : ℕ) (bs : List ℕ) → numberOf (step (Call.receive now at (b ∷ bs)) u .answer .reply) ≡ 0
+pub handed-over : (now at : ℕ) (u : Uart ℕ ℕ) (b : ℕ) (bs : List ℕ) → numberOf (step (Call.at now (Dated.receive at (b ∷ bs))) u .answer .reply) ≡ 0
     → let v : Uart ℕ ℕ = settled now u in
-    step (Call.receive now at (b ∷ bs)) u .state
+    step (Call.at now (Dated.receive at (b ∷ bs))) u .state
     ≡ arm (withHost (v .host ++ (b ∷ bs)) (joined (min (max at now * 32) (2 ^ 64 - 1)) (length (b ∷ bs)) (v .hostRuns)) v)
 unfolding stepped carried afterSettling dateOf plan planBy replying quiet handOver hostDate Calls.receive
-handed-over now at u b bs done = ap (λ (s : Step ℕ ℕ ℕ). s .state) (done-carried (Call.receive now at (b ∷ bs)) u done)
+handed-over now at u b bs done = ap (λ (s : Step ℕ ℕ ℕ). s .state) (done-carried (Call.at now (Dated.receive at (b ∷ bs))) u done)
 
 -- ---- a lent buffer
 
 -- take_tx settles and puts the bytes that left at the front, answers how many, and writes nothing after them
 pub take-tx : (now : ℕ) (u : Uart ℕ ℕ) (lent : List ℕ) → InTime now u → 1152 ≤ length lent → let out : List ℕ = settled now u .tx in
-    (step (Call.takeTx now lent) u .answer .reply
+    (step (Call.at now (Dated.takeTx lent)) u .answer .reply
     ≡ takes (record { taken = Taken.Bytes (length out); front = out; rest = drop (length out) lent }))
-    × (step (Call.takeTx now lent) u .state ≡ withTx [] (settled now u))
+    × (step (Call.at now (Dated.takeTx lent)) u .state ≡ withTx [] (settled now u))
 unfolding step plan planBy dateOf answering Calls.takeTx carried afterSettling quiet filled refuseIf
 take-tx now u lent t long =
     let q = carried-answer t takes (Calls.takeTx now lent u)
@@ -70,16 +71,16 @@ take-tx now u lent t long =
     )
 
 -- a refused call leaves the buffer as it was lent
-pub refused-take-tx : (now : ℕ) (u : Uart ℕ ℕ) (lent : List ℕ) → 1 ≤ numberOf (step (Call.takeTx now lent) u .answer .reply)
+pub refused-take-tx : (now : ℕ) (u : Uart ℕ ℕ) (lent : List ℕ) → 1 ≤ numberOf (step (Call.at now (Dated.takeTx lent)) u .answer .reply)
     → (r : Refusal)
-    × (step (Call.takeTx now lent) u .answer .reply ≡ takes (record { taken = Taken.Refused r; front = []; rest = lent }))
+    × (step (Call.at now (Dated.takeTx lent)) u .answer .reply ≡ takes (record { taken = Taken.Refused r; front = []; rest = lent }))
 unfolding plan planBy replying Calls.takeTx notTaken
 refused-take-tx now u lent h =
-    let (r, e) = refused-untouched (Call.takeTx now lent) u h in (r, ap (λ (s : Step ℕ ℕ ℕ). s .answer .reply) e)
+    let (r, e) = refused-untouched (Call.at now (Dated.takeTx lent)) u h in (r, ap (λ (s : Step ℕ ℕ ℕ). s .answer .reply) e)
 
-pub refused-take-written : (u : Uart ℕ ℕ) (lent : List ℕ) → 1 ≤ numberOf (step (Call.takeWritten lent) u .answer .reply)
+pub refused-take-written : (u : Uart ℕ ℕ) (lent : List ℕ) → 1 ≤ numberOf (step (Call.undated (Undated.takeWritten lent)) u .answer .reply)
     → (r : Refusal)
-    × (step (Call.takeWritten lent) u .answer .reply ≡ takes (record { taken = Taken.Refused r; front = []; rest = lent }))
+    × (step (Call.undated (Undated.takeWritten lent)) u .answer .reply ≡ takes (record { taken = Taken.Refused r; front = []; rest = lent }))
 unfolding plan planBy replying Calls.takeWritten notTaken
 refused-take-written u lent h =
-    let (r, e) = refused-untouched (Call.takeWritten lent) u h in (r, ap (λ (s : Step ℕ ℕ ℕ). s .answer .reply) e)
+    let (r, e) = refused-untouched (Call.undated (Undated.takeWritten lent)) u h in (r, ap (λ (s : Step ℕ ℕ ℕ). s .answer .reply) e)

@@ -2,7 +2,7 @@
 -- that is not accepted. Assumes nothing.
 use mathlib.Core.Path.{_≡_, refl, ap, _∙_}
 use Prim.Native.Nat.{ℕ, _-_, _*_, _^_}
-use mathlib.Core.Bool.{Bool, false, decide}
+use mathlib.Core.Bool.{Bool, false, true≢false, decide}
 use mathlib.Core.List.{[]}
 use lib.ListN.{length, take}
 use lib.Bits.{bitOr}
@@ -11,11 +11,11 @@ use Rattle.model.specs.State.{Uart}
 use Rattle.model.specs.Settle.{inFifo, levels, drive, assertLevels, settle}
 use Rattle.model.specs.Arm.{arm}
 use Rattle.model.specs.Replies.{word, noValue, report}
-use Rattle.model.specs.Map.{Word, Shown, Register, sameWord, registerOf, valueOf, wordsBy, replaced}
+use Rattle.model.specs.Map.{Word, Shown, Register, sameWord, isFifo, registerOf, valueOf, wordsBy, replaced}
 use Rattle.model.specs.Registers.{statusWord, looks, shownIn, readRegister, readLooking, readAt, resetFifos, storing, writeRegister}
 use Rattle.model.specs.Registers.{concluded}
 use Rattle.model.specs.Calls.{afterSettling, carried, dated, readPlaced, writeAt, writePlaced}
-use Rattle.model.specs.Call.{Call, Written, reads, writes}
+use Rattle.model.specs.Call.{Dated, Call, Written, reads, writes}
 use Rattle.model.specs.Run.{Step, step}
 use Rattle.model.specs.Laws.Choose.{choose-ind}
 use Rattle.model.specs.Laws.Plans.{answering}
@@ -23,14 +23,10 @@ use Rattle.model.specs.Keeps.Kept.{settle-keeps}
 use Rattle.model.specs.Keeps.Rest.{settleTo-words}
 use Rattle.model.specs.MeetsManual.Answers.{InTime, settled, read-answer, write-answer}
 use Rattle.model.specs.ShutsOut.Notices.{conf0-answer}
+use Rattle.model.specs.TwoRuns.Unused.{takesWord}
 use Rattle.model.specs.declared.RegisterMap.{RegisterMap}
 use Rattle.model.specs.declared.Words.{Words}
 use Rattle.model.specs.declared.Write.{Write}
-
--- what can only be read, or that the map lacks
-pub data ReadOnly : Register → Type 0 where
-  unknown : ReadOnly Register.unknown
-  shown : (s : Shown) → ReadOnly (Register.shown s)
 
 -- ---- nine words, bit for bit
 
@@ -55,18 +51,18 @@ module _ (now : ℕ) (u : Uart ℕ ℕ) (t : InTime now u) where
 
   -- INT_CLR cannot be read, nor an offset that the map lacks
   pub clear-unread : (offset : ℕ) → registerOf (u .map .offsets) offset ≡ Register.intClr
-      → step (Call.read now offset) u .answer .reply ≡ reads noValue
+      → step (Call.at now (Dated.read offset)) u .answer .reply ≡ reads noValue
   unfolding answering carried readPlaced afterSettling readAt looks decide readLooking readRegister
   clear-unread offset e = ap (λ (s : Step ℕ ℕ ℕ). s .answer .reply) (read-answer t offset Register.intClr e)
 
   pub unknown-unread : (offset : ℕ) → registerOf (u .map .offsets) offset ≡ Register.unknown
-      → step (Call.read now offset) u .answer .reply ≡ reads noValue
+      → step (Call.at now (Dated.read offset)) u .answer .reply ≡ reads noValue
   unfolding answering carried readPlaced afterSettling readAt looks decide readLooking readRegister
   unknown-unread offset e = ap (λ (s : Step ℕ ℕ ℕ). s .answer .reply) (read-answer t offset Register.unknown e)
 
   -- a stored word reads as it stands there
   pub word-read : (x : Word) (offset : ℕ) → registerOf (u .map .offsets) offset ≡ Register.stored x
-      → step (Call.read now offset) u .answer .reply ≡ reads (word (valueOf (u .control .words) x))
+      → step (Call.at now (Dated.read offset)) u .answer .reply ≡ reads (word (valueOf (u .control .words) x))
   unfolding answering carried readPlaced afterSettling readAt looks decide readLooking readRegister
   word-read x offset e =
       ap (λ (s : Step ℕ ℕ ℕ). s .answer .reply) (read-answer t offset (Register.stored x) e)
@@ -79,7 +75,7 @@ module _ (now : ℕ) (u : Uart ℕ ℕ) (t : InTime now u) where
   -- STATUS reads as its reset word without the counts, and both counts; MEM_RX_STATUS as its reset word
   pub status-word : (offset : ℕ) → registerOf (u .map .offsets) offset ≡ Register.shown Shown.status
       → let v : Uart ℕ ℕ = settled now u in
-      step (Call.read now offset) u .answer .reply
+      step (Call.at now (Dated.read offset)) u .answer .reply
       ≡ reads (word (bitOr (bitOr (u .map .«idle_status») ((length (v .inFlight) - 1) * 2 ^ 16)) (length (v .rx))))
   unfolding answering carried readPlaced afterSettling readAt looks decide readLooking readRegister shownIn statusWord inFifo
   status-word offset e =
@@ -89,7 +85,7 @@ module _ (now : ℕ) (u : Uart ℕ ℕ) (t : InTime now u) where
       settled-map
 
   pub mem-rx-status-read : (offset : ℕ) → registerOf (u .map .offsets) offset ≡ Register.shown Shown.memRxStatus
-      → step (Call.read now offset) u .answer .reply ≡ reads (word (u .map .«mem_rx_status»))
+      → step (Call.at now (Dated.read offset)) u .answer .reply ≡ reads (word (u .map .«mem_rx_status»))
   unfolding answering carried readPlaced afterSettling readAt looks decide readLooking readRegister shownIn
   mem-rx-status-read offset e =
       ap (λ (s : Step ℕ ℕ ℕ). s .answer .reply) (read-answer t offset (Register.shown Shown.memRxStatus) e)
@@ -105,7 +101,7 @@ module _ (now : ℕ) (u : Uart ℕ ℕ) (t : InTime now u) where
 
   -- a stored word takes the value whole, and the eight others stay
   pub word-stored : (x : Word) (w : Written) → registerOf (u .map .offsets) (w .offset) ≡ Register.stored x
-      → let s : Step ℕ ℕ ℕ = step (Call.write now w) u in
+      → let s : Step ℕ ℕ ℕ = step (Call.at now (Dated.write w)) u in
       (s .answer .reply ≡ writes Write.Accepted)
       × ((y : Word) → valueOf (s .state .control .words) y ≡ choose (sameWord x y) (w .value) (valueOf (u .control .words) y))
   unfolding answering carried writeAt writePlaced afterSettling concluded writeRegister storing arm levels drive assertLevels choose decide
@@ -119,7 +115,7 @@ module _ (now : ℕ) (u : Uart ℕ ℕ) (t : InTime now u) where
 
   -- CONF0 without TXFIFO_RST leaves all in flight, and without RXFIFO_RST all received
   pub conf0-leaves-fifos : (w : Written) → registerOf (u .map .offsets) (w .offset) ≡ Register.stored Word.conf0
-      → let v : Uart ℕ ℕ = step (Call.write now w) u .state in
+      → let v : Uart ℕ ℕ = step (Call.at now (Dated.write w)) u .state in
       (bit 18 (w .value) ≡ false → v .inFlight ≡ settled now u .inFlight) × (bit 17 (w .value) ≡ false → v .rx ≡ settled now u .rx)
   unfolding answering carried writePlaced afterSettling concluded writeRegister storing resetFifos arm levels choose decide
   conf0-leaves-fifos w e =
@@ -130,19 +126,22 @@ module _ (now : ℕ) (u : Uart ℕ ℕ) (t : InTime now u) where
       )
 
   -- a read-only or unknown register is not accepted; the write settles, raises levels and arms, and does nothing else
-  pub write-not-accepted : (w : Written) (r : Register) → registerOf (u .map .offsets) (w .offset) ≡ r → ReadOnly r
-      → let s : Step ℕ ℕ ℕ = step (Call.write now w) u in
+  pub write-not-accepted : (w : Written) (r : Register) → registerOf (u .map .offsets) (w .offset) ≡ r → isFifo r ≡ false → takesWord r ≡ false
+      → let s : Step ℕ ℕ ℕ = step (Call.at now (Dated.write w)) u in
       (s .answer .reply ≡ writes Write.NotAccepted) × (s .state ≡ arm (levels (settled now u))) × (s .answer .report .noted ≡ 0)
   unfolding answering carried writeAt writePlaced afterSettling concluded writeRegister choose decide report
-  write-not-accepted w r e ReadOnly.unknown =
+  write-not-accepted w Register.fifo e f n = absurd (true≢false f)
+  write-not-accepted w Register.intClr e f n = absurd (true≢false n)
+  write-not-accepted w Register.unknown e f n =
       let q = write-answer t w Register.unknown e refl in (
         ap (λ (s : Step ℕ ℕ ℕ). s .answer .reply) q,
         ap (λ (s : Step ℕ ℕ ℕ). s .state) q,
         ap (λ (s : Step ℕ ℕ ℕ). s .answer .report .noted) q,
       )
-  write-not-accepted w r e (ReadOnly.shown k) =
+  write-not-accepted w (Register.shown k) e f n =
       let q = write-answer t w (Register.shown k) e refl in (
         ap (λ (s : Step ℕ ℕ ℕ). s .answer .reply) q,
         ap (λ (s : Step ℕ ℕ ℕ). s .state) q,
         ap (λ (s : Step ℕ ℕ ℕ). s .answer .report .noted) q,
       )
+  write-not-accepted w (Register.stored x) e f n = absurd (true≢false n)

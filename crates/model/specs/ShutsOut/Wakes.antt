@@ -4,7 +4,7 @@ use mathlib.Core.Path.{_≡_, refl, subst}
 use Prim.Native.Nat.{ℕ, _+_, _/_, _≤_, _<_, min}
 use native.Mathlib.Omega.{arith}
 use mathlib.Core.Bool.{Bool, true, false}
-use mathlib.Core.List.{List, [], _∷_, map}
+use mathlib.Core.List.{List, [], _∷_, map, List·Memᴰ, List·Memᴰ·head, List·Memᴰ·tail}
 use lib.Dec.{leb}
 use borrow.Author.Tests.{leb-true, leb-false, le-leb, lt-leb}
 use Rattle.model.specs.Numbers.{dueBy, earliest, inCycles}
@@ -26,15 +26,11 @@ InTimeFor wake None = Unit {0}
 InTimeFor None (At c) = ⊥
 InTimeFor (At w) (At c) = w ≤ c
 
-pub data Among (d : Date) : List Date → Type 0 where
-  here : {c : Date} {ds : List Date} → d ≡ c → Among d (c ∷ ds)
-  there : {c : Date} {ds : List Date} → Among d ds → Among d (c ∷ ds)
-
 -- `w` is the earliest of the wake that was armed and the cycles of the instants
-pub record Earliest (wake : Date) (ds : List Date) (w : Date) : Type 0 where
-  pub kept : InTimeFor w wake
-  pub each : All (λ d. InTimeFor w (cycleOf d)) ds
-  pub one : Among w (wake ∷ map cycleOf ds)
+record Earliest (wake : Date) (ds : List Date) (w : Date) : Type 0 where
+  kept : InTimeFor w wake
+  each : All (λ d. InTimeFor w (cycleOf d)) ds
+  one : List·Memᴰ w (wake ∷ map cycleOf ds)
 
 in-cycles : (d : Date) → inCycles d ≡ cycleOf d
 unfolding inCycles
@@ -69,14 +65,14 @@ one-of-two None b P p q = q
 one-of-two (At x) None P p q = p
 one-of-two (At x) (At y) P p q = least (λ n. P (At n)) x y p q
 
-both : (w a b : Date) (ds : List Date) → Among w (earliest a b ∷ ds) → Among w (a ∷ b ∷ ds)
-both w a b ds (Among.here e) =
-    one-of-two a b (λ c. w ≡ c → Among w (a ∷ b ∷ ds)) (λ f. Among.here f) (λ f. Among.there (Among.here f)) e
-both w a b ds (Among.there m) = Among.there (Among.there m)
+both : (w a b : Date) (ds : List Date) → List·Memᴰ w (earliest a b ∷ ds) → List·Memᴰ w (a ∷ b ∷ ds)
+both w a b ds (List·Memᴰ·head e) =
+    one-of-two a b (λ c. w ≡ c → List·Memᴰ w (a ∷ b ∷ ds)) (λ f. List·Memᴰ·head f) (λ f. List·Memᴰ·tail (List·Memᴰ·head f)) e
+both w a b ds (List·Memᴰ·tail m) = List·Memᴰ·tail (List·Memᴰ·tail m)
 
 armAll-earliest : (ds : List Date) (wake : Date) → Earliest wake ds (armAll ds wake)
 unfolding armAll
-armAll-earliest [] wake = record { kept = itself wake; each = nil; one = Among.here refl }
+armAll-earliest [] wake = record { kept = itself wake; each = nil; one = List·Memᴰ·head refl }
   where
     itself : (d : Date) → InTimeFor d d
     itself None = tt
@@ -87,13 +83,15 @@ armAll-earliest (d ∷ ds) wake =
     record {
       kept = no-later-left w wake (inCycles d) (e .kept);
       each = cons (subst (InTimeFor w) (in-cycles d) (no-later-right w wake (inCycles d) (e .kept))) (e .each);
-      one = subst (λ c. Among w (wake ∷ c ∷ map cycleOf ds)) (in-cycles d) (both w wake (inCycles d) (map cycleOf ds) (e .one));
+      one = subst (λ c. List·Memᴰ w (wake ∷ c ∷ map cycleOf ds)) (in-cycles d) (both w wake (inCycles d) (map cycleOf ds) (e .one));
     }
 
 -- no instant is left out because it is past
-pub arm-earliest : (u : Uart ℕ ℕ) → Earliest (u .control .wake) (instants u) (arm u .control .wake)
+pub arm-earliest : (u : Uart ℕ ℕ) → let w : Date = arm u .control .wake in
+    InTimeFor w (u .control .wake) × All (λ d. InTimeFor w (cycleOf d)) (instants u)
+    × List·Memᴰ w (u .control .wake ∷ map cycleOf (instants u))
 unfolding arm
-arm-earliest u = armAll-earliest (instants u) (u .control .wake)
+arm-earliest u = let e = armAll-earliest (instants u) (u .control .wake) in (e .kept, e .each, e .one)
 
 -- ---- a call
 
