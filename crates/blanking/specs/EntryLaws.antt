@@ -17,7 +17,8 @@ use Rattle.trace.specs.declared.names.Name.{Name}
 use Rattle.trace.specs.declared.names.Name.the-variants.{Setup, Read, Write, Receive, Wake, Watch, Reset, PowerDown, Clock, TakeTx}
 use Rattle.trace.specs.declared.names.Name.the-variants.{TakeWritten, HasLeft, HostPending}
 use Rattle.blanking.specs.Blanked.{blankByte, blankWord, blankWritten, blankResets, blanked}
-use Rattle.blanking.specs.Entries.{entryOf, blankedEntry, number, numbers, bitNumber, machineWords, callWords, entryWords, machineName, callName}
+use Rattle.blanking.specs.Entries.{entryOf, blankedEntry, number, numbers, bitNumber, machineWords, callWords, entryWords}
+use Rattle.blanking.specs.Entries.{machineName, callName}
 use Rattle.blanking.specs.Entries.{entryName, entryText}
 use Rattle.blanking.specs.Puts.{Puts}
 

@@ -45,7 +45,8 @@ write-alike offsets now x = by-word (takesWord (registerOf offsets (x .offset)))
     by-fifo false f e = AlikeInUse.unusedWord f e
 
     by-word : (t : Bool) → takesWord (registerOf offsets (x .offset)) ≡ t
-        → AlikeInUse offsets (Call.at now (Dated.write x)) (Call.at now (Dated.write (record { offset = x .offset; value = choose t (x .value) 0 })))
+        → AlikeInUse offsets (Call.at now (Dated.write x))
+        (Call.at now (Dated.write (record { offset = x .offset; value = choose t (x .value) 0 })))
     by-word true e = AlikeInUse.alike Alike.same
     by-word false e = by-fifo (isFifo (registerOf offsets (x .offset))) refl e
 

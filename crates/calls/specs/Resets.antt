@@ -40,7 +40,8 @@ module _ (cycle : ℕ) {c : Core} {a : Arrays} (ok : Ok c a) {from : Core}
       let settled = subst (λ (x : Core). Settles (settleAt cycle (abs x a)) c₁ a₁ n o) up s in
       let k =
       subst (λ (x : Core). ConcludesAny x (a₁ .goneAt) (a₁ .runAt) c₃) ec concludes a₁ refl refl (cleared-shape c₁ a₁ (s .ok .shape)) in
-      subst (λ (x : DoneCore). Works (λ w. w) (datedWork cycle (machine cycle Machine.reset) (abs c a)) (x .core) a₁ (x .reply) (x .report)) (sym same)
+      subst (λ (x : DoneCore). Works (λ w. w) (datedWork cycle (machine cycle Machine.reset) (abs c a)) (x .core) a₁ (x .reply) (x .report))
+      (sym same)
       (after (λ x. x) settled _
       (record {
         shape = k .shape;

@@ -37,7 +37,8 @@ fn carry_out<'a>(
 ) -> DoneCore
     requires { ⌜ Ok core (lent «gone_at» flight tx host «run_at» «run_len» rx) × (cycle < dateEnd) ⌝ }
     ensures { λ r. ⌜ Works (λ x. x)
-        (datedWork cycle (machine cycle Machine.wake) (abs core (lent («gone_at» .entry) (flight .entry) (tx .entry) (host .entry) («run_at» .entry)
+        (datedWork cycle (machine cycle Machine.wake)
+        (abs core (lent («gone_at» .entry) (flight .entry) (tx .entry) (host .entry) («run_at» .entry)
         («run_len» .entry) (rx .entry))))
         (r .core)
         (lent («gone_at» .entry) (flight .entry) (tx .exit) (host .entry) («run_at» .entry) («run_len» .exit) (rx .exit))

@@ -29,8 +29,8 @@ withLineFreeAt v l =
 
 -- a control by its parts in their order, so that a line below shows which one changes
 abbrev pub controlFrom : Words → Line → ℕ → ℕ → Date → Bool → Date → Bool → Control
-controlFrom words line period last wake watched down level =
-    record { words = words; line = line; period = period; last = last; wake = wake; watched = watched; «powered_down_at» = down; level = level }
+controlFrom w l period last wake watched down level =
+    record { words = w; line = l; period = period; last = last; wake = wake; watched = watched; «powered_down_at» = down; level = level }
 
 abbrev pub withWords : Words → Control → Control
 withWords v c = controlFrom v (c .line) (c .period) (c .last) (c .wake) (c .watched) (c .«powered_down_at») (c .level)

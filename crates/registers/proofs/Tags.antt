@@ -8,7 +8,8 @@ use types.Run.{OneOf}
 use denote.Enum.Declared.{tagOf}
 use Rattle.registers.specs.Places.{places}
 use Rattle.registers.specs.declared.places.Place.{Place}
-use Rattle.registers.specs.declared.places.Place.the-variants.{Fifo, IntRaw, IntSt, IntEna, IntClr, Clkdiv, Status, FsmStatus, Conf0, Conf1, ClkConf}
+use Rattle.registers.specs.declared.places.Place.the-variants.{Fifo, IntRaw, IntSt, IntEna, IntClr, Clkdiv, Status, FsmStatus, Conf0}
+use Rattle.registers.specs.declared.places.Place.the-variants.{Conf1, ClkConf}
 use Rattle.registers.specs.declared.places.Place.the-variants.{IdleConf, Rs485Conf, AtCmdChar, MemConf, MemRxStatus, Unknown}
 use Rattle.registers.proofs.places.Place.{the-type}
 

@@ -9,7 +9,8 @@ use borrow.Author.Tests.{eq-eqb, ne-eqb}
 use Rattle.model.specs.Laws.Choose.{choose-true, choose-false}
 use Rattle.model.specs.Map.{Word, Shown, Register, fifo, intClr, unknown, shown, stored, registers, registerAmong}
 use Rattle.registers.specs.declared.places.Place.{Place}
-use Rattle.registers.specs.declared.places.Place.the-variants.{Fifo, IntRaw, IntSt, IntEna, IntClr, Clkdiv, Status, FsmStatus, Conf0, Conf1, ClkConf}
+use Rattle.registers.specs.declared.places.Place.the-variants.{Fifo, IntRaw, IntSt, IntEna, IntClr, Clkdiv, Status, FsmStatus, Conf0}
+use Rattle.registers.specs.declared.places.Place.the-variants.{Conf1, ClkConf}
 use Rattle.registers.specs.declared.places.Place.the-variants.{IdleConf, Rs485Conf, AtCmdChar, MemConf, MemRxStatus, Unknown}
 
 -- the places in the order of set-up

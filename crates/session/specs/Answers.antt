@@ -118,19 +118,23 @@ module _ {offsets resets : List ℕ} {u : Uart} {reply : SetUp} (made : SetsUp o
 
 module _ (u : Uart) (good : Good u) {before : List ℕ} {at : ℕ} {after : List ℕ} {place : ℕ} {r : Session} (e : r ≡ setUp u place) where
   pub left-gives : {a : HasLeft} → a ≡ leftReply (undatedCall hasLeft (meaning u) .reply)
-      → Put (hasLeftText (a .«has_left»)) before at after place → Gives (calls (Call.undated Undated.hasLeft) [] (some (meaning u))) before at after r
+      → Put (hasLeftText (a .«has_left»)) before at after place
+      → Gives (calls (Call.undated Undated.hasLeft) [] (some (meaning u))) before at after r
   unfolding answering outcome unless carried hasLeft quiet
   left-gives a p =
       let same = sym (step-cases (meaning u) .hasLeft) in
       in-use (calls (Call.undated Undated.hasLeft) [] (some (meaning u)))
-      (ap (λ (x : HasLeft). hasLeftText (x .«has_left»)) a ∙ ap (λ (s : Step ℕ ℕ ℕ). answerText (Call.undated Undated.hasLeft) (s .answer)) same)
+      (ap (λ (x : HasLeft). hasLeftText (x .«has_left»)) a
+      ∙ ap (λ (s : Step ℕ ℕ ℕ). answerText (Call.undated Undated.hasLeft) (s .answer)) same)
       (ap (λ (s : Step ℕ ℕ ℕ). some (s .state)) same) good (used p e)
 
   pub pending-gives : {a : HostPending} → a ≡ pendingReply (undatedCall hostPending (meaning u) .reply)
-      → Put (hostPendingText (a .count)) before at after place → Gives (calls (Call.undated Undated.hostPending) [] (some (meaning u))) before at after r
+      → Put (hostPendingText (a .count)) before at after place
+      → Gives (calls (Call.undated Undated.hostPending) [] (some (meaning u))) before at after r
   unfolding answering outcome unless carried hostPending quiet
   pending-gives a p =
       let same = sym (step-cases (meaning u) .hostPending) in
       in-use (calls (Call.undated Undated.hostPending) [] (some (meaning u)))
-      (ap (λ (x : HostPending). hostPendingText (x .count)) a ∙ ap (λ (s : Step ℕ ℕ ℕ). answerText (Call.undated Undated.hostPending) (s .answer)) same)
+      (ap (λ (x : HostPending). hostPendingText (x .count)) a
+      ∙ ap (λ (s : Step ℕ ℕ ℕ). answerText (Call.undated Undated.hostPending) (s .answer)) same)
       (ap (λ (s : Step ℕ ℕ ℕ). some (s .state)) same) good (used p e)

@@ -48,7 +48,8 @@ pub data Command : Type 0 where
 abbrev pub commandOf : Name → List ℕ → ℕ → List ℕ → Command
 commandOf Setup ns last bytes = setUp (take 16 (map lowOf (drop 0 ns))) (take 16 (map lowOf (drop 16 ns)))
 commandOf Read ns last bytes = call (Call.at (getD ns 0 0) (Dated.read (lowOf (getD ns 1 0))))
-commandOf Write ns last bytes = call (Call.at (getD ns 0 0) (Dated.write (record { offset = lowOf (getD ns 1 0); value = lowOf (getD ns 2 0) })))
+commandOf Write ns last bytes =
+    call (Call.at (getD ns 0 0) (Dated.write (record { offset = lowOf (getD ns 1 0); value = lowOf (getD ns 2 0) })))
 commandOf Receive ns last bytes = call (Call.at (getD ns 0 0) (Dated.receive (getD ns 1 0) (take last bytes)))
 commandOf Wake ns last bytes = call (Call.at (getD ns 0 0) (Dated.machine Machine.wake))
 commandOf Watch ns last bytes = call (Call.at (getD ns 0 0) (Dated.machine (Machine.watch (eqb last 1))))

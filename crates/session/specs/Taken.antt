@@ -36,7 +36,8 @@ module _ {u u′ : Uart} {lent out : List ℕ} {reply : Taken} {report : Report}
       i
 
   pub written-gives : Took (undatedCall (takeWritten lent)) u u′ reply report out
-      → InUse (writtenLine out reply) u′ before at after r → Gives (calls (Call.undated (Undated.takeWritten lent)) [] (some (meaning u))) before at after r
+      → InUse (writtenLine out reply) u′ before at after r
+      → Gives (calls (Call.undated (Undated.takeWritten lent)) [] (some (meaning u))) before at after r
   written-gives t i =
       gives (t .0) (Call.undated (Undated.takeWritten lent)) takes (step-cases (meaning u) .takeWritten lent)
       (ap₂ writtenLine (t .1) (t .0 .replies) ∙ written-line (length lent) (meaning u) (ascii "\n") lent marks)

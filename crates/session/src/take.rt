@@ -122,7 +122,8 @@ fn lend_written(uart: Uart, lent: &mut [u8], at: usize, out: &mut [u8]) -> Sessi
 pub(crate) fn take_tx(uart: Uart, cycle: u64, size: usize, at: usize, out: &mut [u8]) -> Session
     requires { ⌜ Good uart ⌝ }
     requires { ⌜ Wide (now out) at ⌝ }
-    ensures { λ r. ⌜ Gives (calls (Call.at cycle (Dated.takeTx (lentOf size))) [] (some (meaning uart))) (now (out .entry)) at (now (out .exit)) r ⌝ }
+    ensures { λ r. ⌜ Gives (calls (Call.at cycle (Dated.takeTx (lentOf size))) [] (some (meaning uart))) (now (out .entry)) at
+        (now (out .exit)) r ⌝ }
 {
     let mut lent = marks();
     let n = within(size, &lent);
@@ -132,7 +133,8 @@ pub(crate) fn take_tx(uart: Uart, cycle: u64, size: usize, at: usize, out: &mut 
 pub(crate) fn take_written(uart: Uart, size: usize, at: usize, out: &mut [u8]) -> Session
     requires { ⌜ Good uart ⌝ }
     requires { ⌜ Wide (now out) at ⌝ }
-    ensures { λ r. ⌜ Gives (calls (Call.undated (Undated.takeWritten (lentOf size))) [] (some (meaning uart))) (now (out .entry)) at (now (out .exit)) r ⌝ }
+    ensures { λ r. ⌜ Gives (calls (Call.undated (Undated.takeWritten (lentOf size))) [] (some (meaning uart))) (now (out .entry)) at
+        (now (out .exit)) r ⌝ }
 {
     let mut lent = marks();
     let m = within(size, &lent);

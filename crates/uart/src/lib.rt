@@ -252,7 +252,8 @@ impl Uart {
     // The armed cycle has come.
     pub fn wake(mut self, cycle: u64) -> AfterDone
         requires { ⌜ Good self ⌝ }
-        ensures { λ r. ⌜ Answered (λ x. x) doneNumber (datedCall cycle (machine cycle Machine.wake)) self (r .uart) (r .reply) (r .report) ⌝ }
+        ensures { λ r. ⌜ Answered (λ x. x) doneNumber (datedCall cycle (machine cycle Machine.wake)) self (r .uart) (r .reply)
+            (r .report) ⌝ }
     {
         let mut tx = self.tx;
         let mut run_len = self.run_len;
@@ -277,7 +278,8 @@ impl Uart {
     // A reset of the UART.
     pub fn reset(mut self, cycle: u64) -> AfterDone
         requires { ⌜ Good self ⌝ }
-        ensures { λ r. ⌜ Answered (λ x. x) doneNumber (datedCall cycle (machine cycle Machine.reset)) self (r .uart) (r .reply) (r .report) ⌝ }
+        ensures { λ r. ⌜ Answered (λ x. x) doneNumber (datedCall cycle (machine cycle Machine.reset)) self (r .uart) (r .reply)
+            (r .report) ⌝ }
     {
         let mut tx = self.tx;
         let mut run_len = self.run_len;
@@ -302,7 +304,8 @@ impl Uart {
     // Another period of the APB clock, in cycles.
     pub fn clock_change(mut self, cycle: u64, period: u64) -> AfterDone
         requires { ⌜ Good self ⌝ }
-        ensures { λ r. ⌜ Answered (λ x. x) doneNumber (datedCall cycle (machine cycle (Machine.clockChange period))) self (r .uart) (r .reply) (r .report) ⌝ }
+        ensures { λ r. ⌜ Answered (λ x. x) doneNumber (datedCall cycle (machine cycle (Machine.clockChange period))) self (r .uart)
+            (r .reply) (r .report) ⌝ }
     {
         let mut tx = self.tx;
         let mut run_len = self.run_len;
@@ -387,7 +390,8 @@ impl Uart {
     // Whether the first departure asks for a wake.
     pub fn watch(mut self, cycle: u64, on: bool) -> AfterDone
         requires { ⌜ Good self ⌝ }
-        ensures { λ r. ⌜ Answered (λ x. x) doneNumber (datedCall cycle (machine cycle (Machine.watch on))) self (r .uart) (r .reply) (r .report) ⌝ }
+        ensures { λ r. ⌜ Answered (λ x. x) doneNumber (datedCall cycle (machine cycle (Machine.watch on))) self (r .uart) (r .reply)
+            (r .report) ⌝ }
     {
         let done = watch::watch(
             self.core,
@@ -407,7 +411,8 @@ impl Uart {
     // Nothing moves after this cycle until a reset.
     pub fn power_down(mut self, cycle: u64) -> AfterDone
         requires { ⌜ Good self ⌝ }
-        ensures { λ r. ⌜ Answered (λ x. x) doneNumber (datedCall cycle (machine cycle Machine.powerDown)) self (r .uart) (r .reply) (r .report) ⌝ }
+        ensures { λ r. ⌜ Answered (λ x. x) doneNumber (datedCall cycle (machine cycle Machine.powerDown)) self (r .uart) (r .reply)
+            (r .report) ⌝ }
     {
         let done = power_down::power_down(
             self.core,

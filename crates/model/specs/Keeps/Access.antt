@@ -82,7 +82,8 @@ module _ {H W : Type 0} where
   readLooking-parts true at u p = readRegister-ind (λ a. Parts (a .state)) _ _ (pop-parts _ (u .rx) _ (p .rx) p) (λ _. p) at
   readLooking-parts false at u p = readRegister-ind (λ a. Parts (a .state)) _ u (pop-parts _ (u .rx) u (p .rx) p) (λ _. p) at
 
-  pub readPlaced-parts : (now : ℕ) (at : Register) (u : Uart H W) → Parts u → Parts (outcome (some now) (Calls.readPlaced now at u) u .state)
+  pub readPlaced-parts : (now : ℕ) (at : Register) (u : Uart H W) → Parts u
+      → Parts (outcome (some now) (Calls.readPlaced now at u) u .state)
   unfolding outcome carried Calls.readPlaced afterSettling readAt
   readPlaced-parts now at u p = dated-parts refused _ u p now none (λ h _. readLooking-parts _ at _ (settleAt-parts now u h p))
 
@@ -104,7 +105,8 @@ module _ {H W : Type 0} where
   unfolding storing clearing
   writeRegister-parts at v u p = writeRegister-ind (λ _ a. Parts (a .state)) v u (λ _. p) p (λ _. resetFifos-parts v u p) (λ _. p) at
 
-  pub writePlaced-parts : (now : ℕ) (at : Register) (v : ℕ) (u : Uart H W) → Parts u → Parts (outcome (some now) (Calls.writePlaced now at v u) u .state)
+  pub writePlaced-parts : (now : ℕ) (at : Register) (v : ℕ) (u : Uart H W) → Parts u
+      → Parts (outcome (some now) (Calls.writePlaced now at v u) u .state)
   unfolding outcome carried Calls.writePlaced afterSettling
   writePlaced-parts now at v u p =
       dated-parts Write.Refused _ u p now none (λ h _. concluded-parts _ (writeRegister-parts at v _ (settleAt-parts now u h p)))

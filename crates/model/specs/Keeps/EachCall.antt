@@ -96,7 +96,8 @@ module _ {H W : Type 0} where
   clocked-parts period u h p =
       putClock p (record { low = le-max-right _ _; high = max-le h (lit≤ tt); last = p .clock .last; wake = p .clock .wake })
 
-  clockChange-parts : (now period : ℕ) (u : Uart H W) → Parts u → Parts (outcome (some now) (Calls.machine now (Machine.clockChange period) u) u .state)
+  clockChange-parts : (now period : ℕ) (u : Uart H W) → Parts u
+      → Parts (outcome (some now) (Calls.machine now (Machine.clockChange period) u) u .state)
   unfolding outcome carried Calls.machine afterSettling quiet
   clockChange-parts now period u p =
       dated-parts Done.Refused _ u p now _
@@ -137,10 +138,12 @@ module _ {H W : Type 0} where
 -- ---- each call, refused or carried out
 
 module _ {H W : Type 0} where
-  pub readPlaced-within : (now : ℕ) (at : Register) (u : Uart H W) → Within u → Within (outcome (some now) (Calls.readPlaced now at u) u .state)
+  pub readPlaced-within : (now : ℕ) (at : Register) (u : Uart H W) → Within u
+      → Within (outcome (some now) (Calls.readPlaced now at u) u .state)
   readPlaced-within now at u = through u _ (readPlaced-parts now at u)
 
-  pub writePlaced-within : (now : ℕ) (at : Register) (v : ℕ) (u : Uart H W) → Within u → Within (outcome (some now) (Calls.writePlaced now at v u) u .state)
+  pub writePlaced-within : (now : ℕ) (at : Register) (v : ℕ) (u : Uart H W) → Within u
+      → Within (outcome (some now) (Calls.writePlaced now at v u) u .state)
   writePlaced-within now at v u = through u _ (writePlaced-parts now at v u)
 
   pub send-within : (now : ℕ) (b : W) (u : Uart H W) → Within u → Within (outcome (some now) (Calls.send now b u) u .state)
@@ -150,7 +153,8 @@ module _ {H W : Type 0} where
   unfolding Calls.read
   read-within now offset u = readPlaced-within now _ u
 
-  pub receive-within : (now at : ℕ) (bs : List H) (u : Uart H W) → Within u → Within (outcome (some now) (Calls.receive now at bs u) u .state)
+  pub receive-within : (now at : ℕ) (bs : List H) (u : Uart H W) → Within u
+      → Within (outcome (some now) (Calls.receive now at bs u) u .state)
   receive-within now at bs u = through u _ (receive-parts now at bs u)
 
   pub hostPending-within : (u : Uart H W) → Within u → Within (outcome none (Calls.hostPending u) u .state)
@@ -160,13 +164,15 @@ module _ {H W : Type 0} where
   pub wake-within : (now : ℕ) (u : Uart H W) → Within u → Within (outcome (some now) (Calls.machine now Machine.wake u) u .state)
   wake-within now u = through u _ (wake-parts now u)
 
-  pub watch-within : (now : ℕ) (b : Bool) (u : Uart H W) → Within u → Within (outcome (some now) (Calls.machine now (Machine.watch b) u) u .state)
+  pub watch-within : (now : ℕ) (b : Bool) (u : Uart H W) → Within u
+      → Within (outcome (some now) (Calls.machine now (Machine.watch b) u) u .state)
   watch-within now b u = through u _ (watch-parts now b u)
 
   pub powerDown-within : (now : ℕ) (u : Uart H W) → Within u → Within (outcome (some now) (Calls.machine now Machine.powerDown u) u .state)
   powerDown-within now u = through u _ (powerDown-parts now u)
 
-  pub clockChange-within : (now period : ℕ) (u : Uart H W) → Within u → Within (outcome (some now) (Calls.machine now (Machine.clockChange period) u) u .state)
+  pub clockChange-within : (now period : ℕ) (u : Uart H W) → Within u
+      → Within (outcome (some now) (Calls.machine now (Machine.clockChange period) u) u .state)
   clockChange-within now period u = through u _ (clockChange-parts now period u)
 
   pub reset-within : (now : ℕ) (u : Uart H W) → Within u → Within (outcome (some now) (Calls.machine now Machine.reset u) u .state)
@@ -183,8 +189,10 @@ module _ {H W : Type 0} where
     pub takeWritten-within : (lent : List L) (u : Uart H W) → Within u → Within (outcome none (Calls.takeWritten lent u) u .state)
     takeWritten-within lent u = through u _ (takeWritten-parts lent u)
 
-pub write-within : {H : Type 0} (now offset v : ℕ) (u : Uart H ℕ) → Within u → Within (outcome (some now) (Calls.write now offset v u) u .state)
+pub write-within : {H : Type 0} (now offset v : ℕ) (u : Uart H ℕ) → Within u
+    → Within (outcome (some now) (Calls.write now offset v u) u .state)
 unfolding Calls.write
 write-within now offset v u w =
     let p : Register = registerOf (u .map .offsets) offset in
-    write-ind (λ o. Within (outcome (some now) o u .state)) now p v u (λ _. send-within now (v % 256) u w) (λ _. writePlaced-within now p v u w)
+    write-ind (λ o. Within (outcome (some now) o u .state)) now p v u (λ _. send-within now (v % 256) u w)
+    (λ _. writePlaced-within now p v u w)

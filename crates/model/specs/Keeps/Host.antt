@@ -35,7 +35,8 @@ module _ (date n : ℕ) where
   unfolding joined Events.total
   joined-sum [] = omega arith
   joined-sum (r ∷ []) =
-      choose-ind (λ (l : List Run). Events.total (λ r. r .count) l ≡ Events.total (λ r. r .count) (r ∷ []) + n) _ (λ _. omega arith) (λ _. omega arith)
+      choose-ind (λ (l : List Run). Events.total (λ r. r .count) l ≡ Events.total (λ r. r .count) (r ∷ []) + n) _ (λ _. omega arith)
+      (λ _. omega arith)
   joined-sum (r ∷ s ∷ rs) = omega (arith, joined-sum (s ∷ rs))
 
 one-more : (runs : ℕ) → (1 ≤ runs → runs < runsLimit) → runs + 1 ≤ runsLimit

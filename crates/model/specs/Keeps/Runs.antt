@@ -57,7 +57,8 @@ new-within offsets ws sixteen different =
 
 -- ---- one call
 
-machine-within : {H W : Type 0} (now : ℕ) (m : Machine) (u : Uart H W) → Within u → Within (outcome (some now) (Calls.machine now m u) u .state)
+machine-within : {H W : Type 0} (now : ℕ) (m : Machine) (u : Uart H W) → Within u
+    → Within (outcome (some now) (Calls.machine now m u) u .state)
 unfolding Calls.machine
 machine-within now Machine.wake u w = wake-within now u w
 machine-within now Machine.reset u w = reset-within now u w

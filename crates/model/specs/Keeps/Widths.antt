@@ -249,7 +249,8 @@ flight-same (s ∷ ss) (cons p a) =
 line-same : (o : Option (OnTheLine ℕ)) → Bytes (lineBytes o) → mapReceiving low o ≡ o
 unfolding mapReceiving low
 line-same none h = refl
-line-same (some l) (cons h nil) = ap (λ b. some (record { byte = b; frame = l .frame })) (let e : l .byte % 256 ≡ l .byte = omega arith in e)
+line-same (some l) (cons h nil) =
+    ap (λ b. some (record { byte = b; frame = l .frame })) (let e : l .byte % 256 ≡ l .byte = omega arith in e)
 
 byteOn : Option (OnTheLine ℕ) → ℕ
 byteOn none = 0

@@ -24,7 +24,8 @@ module _ {R H W L : Type 0} (as-reply : R → Reply H W L) where
     carried-replies (some now) = refl
 
     by-test : (d : Option ℕ) (o : Option Refusal)
-        → stepped (unless o (replying as-reply p .refuses) (carried d (replying as-reply p)) u) ≡ answering (unless o (p .refuses) (carried d p) u)
+        → stepped (unless o (replying as-reply p .refuses) (carried d (replying as-reply p)) u)
+        ≡ answering (unless o (p .refuses) (carried d p) u)
     unfolding stepped replying answering unless refusing
     by-test d none = carried-replies d
     by-test d (some r) = refl

@@ -47,13 +47,15 @@ module _ {now : ℕ} {u : Uart ℕ ℕ} (t : InTime now u) where
       → stepped (outcome (some now) (replying as-reply p) u) ≡ answering as-reply (carried (some now) p u)
   unfolding outcome
   carried-answer as-reply p e =
-      replied as-reply p u (some now) ∙ ap (answering as-reply) (carried-out (p .refuses) (carried (some now) p) u (in-time t (p .test) ∙ e))
+      replied as-reply p u (some now)
+      ∙ ap (answering as-reply) (carried-out (p .refuses) (carried (some now) p) u (in-time t (p .test) ∙ e))
 
   pub read-answer : (offset : ℕ) (p : Register) → registerOf (u .map .offsets) offset ≡ p
       → step (Call.at now (Dated.read offset)) u ≡ answering reads (carried (some now) (readPlaced now p u) u)
   unfolding step plan planBy dateOf Calls.read readPlaced
   read-answer offset p e =
-      ap (λ (q : Register). stepped (outcome (some now) (replying reads (readPlaced now q u)) u)) e ∙ carried-answer reads (readPlaced now p u) refl
+      ap (λ (q : Register). stepped (outcome (some now) (replying reads (readPlaced now q u)) u)) e
+      ∙ carried-answer reads (readPlaced now p u) refl
 
   pub write-answer : (x : Written) (p : Register) → registerOf (u .map .offsets) (x .offset) ≡ p → writeAt now p (x .value) u .test ≡ none
       → step (Call.at now (Dated.write x)) u ≡ answering writes (carried (some now) (writeAt now p (x .value) u) u)

@@ -132,7 +132,8 @@ raisesTout w held = Manual.RXFIFO-TOUT (w .conf1) (w .«clk_conf») true held
 module _ {H W : Type 0} (w : Words) (period date : ℕ) where
   -- what a pass found, and what the later ones found from where it led
   first-timeout : (u v : Uart H W) (e : Event H W) → Takes (settings w period) date u e v → (es : List (Event H W))
-      → (raisedBy (settings w period) 8 (length (u .rx)) e || someTimeout (raisesTout w) (v .rx) es) ≡ someTimeout (raisesTout w) (u .rx) (e ∷ es)
+      → (raisedBy (settings w period) 8 (length (u .rx)) e || someTimeout (raisesTout w) (v .rx) es)
+      ≡ someTimeout (raisesTout w) (u .rx) (e ∷ es)
   unfolding raisedBy someTimeout Manual.RXFIFO-TOUT settings
   first-timeout u v (departure at b) t es = absurd t
   first-timeout u v (timeout at) t es = ap (λ h. raisesTout w (length (u .rx)) || someTimeout (raisesTout w) h es) (t .rx)

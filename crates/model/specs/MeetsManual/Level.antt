@@ -86,7 +86,8 @@ unfolding stepped carried afterSettling dateOf plan planBy replying writing quie
 carried-drives (Call.at now (Dated.read offset)) u s ss e =
     looking-driven _ (registerOf (u .map .offsets) offset) _ (settled-driven now (dated now u))
 carried-drives (Call.at now (Dated.write x)) u s ss e =
-    write-ind (λ p. Driven (carried (some now) (replying {L = ℕ} writes p) u .state)) now (registerOf (u .map .offsets) (x .offset)) (x .value) u
+    write-ind (λ p. Driven (carried (some now) (replying {L = ℕ} writes p) u .state)) now (registerOf (u .map .offsets) (x .offset))
+    (x .value) u
     (λ _. arm-driven _ (levels-driven _)) (λ _. arm-driven _ (levels-driven _))
 carried-drives (Call.at now (Dated.receive date bs)) u s ss e = hand-driven _ bs _ (settled-driven now (dated now u))
 carried-drives (Call.at now (Dated.takeTx lent)) u s ss e = taken-driven _ (settled-driven now (dated now u))
@@ -109,7 +110,8 @@ unfolding stepped carried afterSettling dated dateOf plan planBy replying writin
     writePlaced Calls.receive Calls.takeTx Calls.takeWritten Calls.hasLeft Calls.hostPending
 carried-leaves (Call.at now (Dated.read offset)) u e = apart (cc)
 carried-leaves (Call.at now (Dated.write x)) u e =
-    write-ind (λ p. settlingsBy now (p .changes) (dated now u) ≡ [] → carried (some now) (replying {L = ℕ} writes p) u .state .control .level ≡ u .control .level) now
+    write-ind (λ p. settlingsBy now (p .changes) (dated now u) ≡ []
+    → carried (some now) (replying {L = ℕ} writes p) u .state .control .level ≡ u .control .level) now
     (registerOf (u .map .offsets) (x .offset)) (x .value) u (λ _ h. apart (cc)) (λ _ h. apart (cc)) e
 carried-leaves (Call.at now (Dated.receive date bs)) u e = apart (cc)
 carried-leaves (Call.at now (Dated.takeTx lent)) u e = apart (cc)

@@ -106,7 +106,13 @@ module _ (s : Settling) where
   unfolding settle settingsOf settings
   settled-lands w =
       let r = settling-receives date (s .begins) w in
-      record { time = byteTime (s .begins .control .words) (s .begins .control .period); frame = byte-lasts (s .begins .control); lands = r .lands; rest = r .rest }
+      record {
+        time = byteTime (s .begins .control .words) (s .begins .control .period);
+        frame = byte-lasts
+            (s .begins .control);
+        lands = r .lands;
+        rest = r .rest;
+      }
 
   abbrev pub ClockOn : Type 0
   ClockOn =

@@ -81,7 +81,8 @@ module _ (c : Control) (m : Meant c) where
   halves-last : (halves : ℕ) → LastsHalves c m halves (halves * halfBitTime (c .words) (c .period))
   unfolding halfBitTime Manual.divider
   halves-last halves =
-      rw (whole-divider (c .words .«clk_conf») (m .whole), source-period (c .words .«clk_conf») (c .period) (m .source) (m .sourceIs)) (omega arith)
+      rw (whole-divider (c .words .«clk_conf») (m .whole), source-period (c .words .«clk_conf») (c .period) (m .source) (m .sourceIs))
+      (omega arith)
 
   -- a byte lasts as long on the way out and on the receive line
   pub byte-lasts : FrameTime c m (byteTime (c .words) (c .period))

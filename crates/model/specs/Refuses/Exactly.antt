@@ -91,7 +91,8 @@ done-exactly c u =
     (done-yes (step-result c u), λ n. ap (λ s. numberOf (s .answer .reply)) (yes-done (step-result c u) n) ∙ carried-fine c u .zero)
 
 -- every call with number 0 is carried out
-pub done-carried : (c : Request) (u : Uart ℕ ℕ) → numberOf (step c u .answer .reply) ≡ 0 → step c u ≡ stepped (carried (dateOf c) (plan c u) u)
+pub done-carried : (c : Request) (u : Uart ℕ ℕ) → numberOf (step c u .answer .reply) ≡ 0 → step c u
+    ≡ stepped (carried (dateOf c) (plan c u) u)
 done-carried c u e = yes-done (step-result c u) (done-exactly c u .0 e)
 
 -- ---- a refusal keeps everything

@@ -87,7 +87,8 @@ module _ (now : ℕ) (u : Uart ℕ ℕ) (done : numberOf (step (Call.at now (Dat
   )
 
   -- the wake that was armed stays, and the instants that ask for one are armed
-  pub reset-wake : step (Call.at now (Dated.machine Machine.reset)) u .state .control .wake ≡ armAll (instants (levels (cleared found))) (u .control .wake)
+  pub reset-wake : step (Call.at now (Dated.machine Machine.reset)) u .state .control .wake
+      ≡ armAll (instants (levels (cleared found))) (u .control .wake)
   unfolding arm levels drive assertLevels cleared dated
   reset-wake =
       ap (λ v. v .control .wake) reset-is ∙ ap (armAll (instants (levels (cleared found)))) (settle-keeps now _ .wake)
@@ -98,7 +99,8 @@ module _ (now : ℕ) (u : Uart ℕ ℕ) (done : numberOf (step (Call.at now (Dat
   unfolding arm cleared clearedLine aboveFull belowEmpty inFifo emptyThreshold Manual.TXFIFO-EMPTY
   reset-raw n =
       ap (rawBit n) reset-is ∙ levels-raise n (cleared found)
-      ∙ ap₂ (λ a b. a || b || (eqb n 1 && ltb 0 (field 9 9 (found .map .reset .conf1)))) (no-bit n) (never-above n (field 0 9 (found .map .reset .conf1)))
+      ∙ ap₂ (λ a b. a || b || (eqb n 1 && ltb 0 (field 9 9 (found .map .reset .conf1)))) (no-bit n)
+      (never-above n (field 0 9 (found .map .reset .conf1)))
       ∙ ap (λ m. eqb n 1 && ltb 0 (field 9 9 (m .reset .conf1))) found-map
 
 -- ---- calls that arm nothing

@@ -48,7 +48,8 @@ module _ (date n : ℕ) where
   joins-behind (q ∷ s ∷ rs) r h = ap (λ (l : List Run). q ∷ l) (joins-behind (s ∷ rs) r h)
 
 -- a hand-over settles; then its bytes wait behind the others, dated max(its cycle, now) × 32 held at the last date, and the wake is armed
-pub handed-over : (now at : ℕ) (u : Uart ℕ ℕ) (b : ℕ) (bs : List ℕ) → numberOf (step (Call.at now (Dated.receive at (b ∷ bs))) u .answer .reply) ≡ 0
+pub handed-over : (now at : ℕ) (u : Uart ℕ ℕ) (b : ℕ) (bs : List ℕ)
+    → numberOf (step (Call.at now (Dated.receive at (b ∷ bs))) u .answer .reply) ≡ 0
     → let v : Uart ℕ ℕ = settled now u in
     step (Call.at now (Dated.receive at (b ∷ bs))) u .state
     ≡ arm (withHost (v .host ++ (b ∷ bs)) (joined (min (max at now * 32) (2 ^ 64 - 1)) (length (b ∷ bs)) (v .hostRuns)) v)
@@ -80,7 +81,8 @@ refused-take-tx now u lent h =
 
 pub refused-take-written : (u : Uart ℕ ℕ) (lent : List ℕ) → 1 ≤ numberOf (step (Call.undated (Undated.takeWritten lent)) u .answer .reply)
     → (r : Refusal)
-    × (step (Call.undated (Undated.takeWritten lent)) u .answer .reply ≡ takes (record { taken = Taken.Refused r; front = []; rest = lent }))
+    × (step (Call.undated (Undated.takeWritten lent)) u .answer .reply
+    ≡ takes (record { taken = Taken.Refused r; front = []; rest = lent }))
 unfolding plan planBy replying Calls.takeWritten notTaken
 refused-take-written u lent h =
     let (r, e) = refused-untouched (Call.undated (Undated.takeWritten lent)) u h in (r, ap (λ (s : Step ℕ ℕ ℕ). s .answer .reply) e)

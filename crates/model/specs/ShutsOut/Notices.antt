@@ -53,7 +53,8 @@ conf0-noted v = refl
 
 module _ (now : ℕ) (u : Uart ℕ ℕ) (x : Written) (t : InTime now u)
     (e : registerOf (u .map .offsets) (x .offset) ≡ Register.stored Word.conf0) where
-  pub conf0-answer : step (Call.at now (Dated.write x)) u ≡ answering writes (carried (some now) (writePlaced now (Register.stored Word.conf0) (x .value) u) u)
+  pub conf0-answer : step (Call.at now (Dated.write x)) u
+      ≡ answering writes (carried (some now) (writePlaced now (Register.stored Word.conf0) (x .value) u) u)
   unfolding writeAt writePlaced choose decide
   conf0-answer = write-answer t x (Register.stored Word.conf0) e refl
 

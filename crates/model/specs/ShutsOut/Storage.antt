@@ -126,7 +126,8 @@ module _ (now : ℕ) (u : Uart ℕ ℕ) (t : InTime now u) where
       )
 
   -- a read-only or unknown register is not accepted; the write settles, raises levels and arms, and does nothing else
-  pub write-not-accepted : (w : Written) (r : Register) → registerOf (u .map .offsets) (w .offset) ≡ r → isFifo r ≡ false → takesWord r ≡ false
+  pub write-not-accepted : (w : Written) (r : Register) → registerOf (u .map .offsets) (w .offset) ≡ r → isFifo r ≡ false → takesWord r
+      ≡ false
       → let s : Step ℕ ℕ ℕ = step (Call.at now (Dated.write w)) u in
       (s .answer .reply ≡ writes Write.NotAccepted) × (s .state ≡ arm (levels (settled now u))) × (s .answer .report .noted ≡ 0)
   unfolding answering carried writeAt writePlaced afterSettling concluded writeRegister choose decide report

@@ -84,7 +84,8 @@ module _ (now : ℕ) (u : Uart ℕ ℕ) where
 
   -- watching moves the last date, sets the mark and arms
   pub watch-arms : (b : Bool) → numberOf (step (Call.at now (Dated.machine (Machine.watch b))) u .answer .reply) ≡ 0
-      → step (Call.at now (Dated.machine (Machine.watch b))) u ≡ unsettled (arm (withControl (withWatched b (dated now u .control)) (dated now u)))
+      → step (Call.at now (Dated.machine (Machine.watch b))) u
+      ≡ unsettled (arm (withControl (withWatched b (dated now u .control)) (dated now u)))
   unfolding stepped carried afterSettling dateOf plan planBy replying quiet Calls.machine passesIn overflowsIn total
   watch-arms b done = done-carried (Call.at now (Dated.machine (Machine.watch b))) u done
 

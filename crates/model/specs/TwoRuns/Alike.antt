@@ -22,11 +22,14 @@ fifoOffset offsets = getD offsets 0 0
 -- of a lent buffer
 pub data Alike (fifo : ℕ) : Request → Request → Type 0 where
   same : {c : Request} → Alike fifo c c
-  hostBytes : {now at : ℕ} {bs bs′ : List ℕ} → length bs ≡ length bs′ → Alike fifo (Call.at now (Dated.receive at bs)) (Call.at now (Dated.receive at bs′))
+  hostBytes : {now at : ℕ} {bs bs′ : List ℕ} → length bs ≡ length bs′
+      → Alike fifo (Call.at now (Dated.receive at bs)) (Call.at now (Dated.receive at bs′))
   fifoWord : {now v v′ : ℕ} → Alike fifo (Call.at now (Dated.write (record { offset = fifo; value = v })))
       (Call.at now (Dated.write (record { offset = fifo; value = v′ })))
-  lentToTakeTx : {now : ℕ} {lent lent′ : List ℕ} → length lent ≡ length lent′ → Alike fifo (Call.at now (Dated.takeTx lent)) (Call.at now (Dated.takeTx lent′))
-  lentToTakeWritten : {lent lent′ : List ℕ} → length lent ≡ length lent′ → Alike fifo (Call.undated (Undated.takeWritten lent)) (Call.undated (Undated.takeWritten lent′))
+  lentToTakeTx : {now : ℕ} {lent lent′ : List ℕ} → length lent ≡ length lent′
+      → Alike fifo (Call.at now (Dated.takeTx lent)) (Call.at now (Dated.takeTx lent′))
+  lentToTakeWritten : {lent lent′ : List ℕ} → length lent ≡ length lent′
+      → Alike fifo (Call.undated (Undated.takeWritten lent)) (Call.undated (Undated.takeWritten lent′))
 
 -- ---- the numbering
 

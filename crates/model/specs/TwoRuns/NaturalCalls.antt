@@ -156,7 +156,8 @@ module _ {H H′ W W′ : Type 0} (f : H → H′) (g : W → W′) where
   readPlaced-nat : (now : ℕ) (p : Register) (u : Uart H W)
       → Natural (mapReadOf f) f g (readPlaced now p u) (readPlaced now p (mapUart f g u))
   unfolding readPlaced readAt dated mapReadOf
-  readPlaced-nat now p u = record { test = refl; refuses = λ r. refl; changes = Each.cons (λ v. refl) Each.nil; work = λ v. readLooking-nat _ p v }
+  readPlaced-nat now p u =
+      record { test = refl; refuses = λ r. refl; changes = Each.cons (λ v. refl) Each.nil; work = λ v. readLooking-nat _ p v }
 
   storing-nat : (x : Word) (v : ℕ) (u : Uart H W) → storing x v (mapUart f g u) ≡ mapAccess itself f g (storing x v u)
   unfolding storing mapAccess
@@ -242,21 +243,25 @@ module _ {H H′ W W′ : Type 0} (f : H → H′) (g : W → W′) where
   armed-nat : (v : Uart H W) → quiet Done.Done (arm (mapUart f g v)) ≡ mapAccess itself f g (quiet Done.Done (arm v))
   armed-nat v = quiet-nat itself f g Done.Done (arm v) refl (arm-nat f g v)
 
-  wake-nat : (now : ℕ) (u : Uart H W) → Natural itself f g (Calls.machine now Machine.wake u) (Calls.machine now Machine.wake (mapUart f g u))
+  wake-nat : (now : ℕ) (u : Uart H W)
+      → Natural itself f g (Calls.machine now Machine.wake u) (Calls.machine now Machine.wake (mapUart f g u))
   unfolding Calls.machine dated
   wake-nat now u = record { test = refl; refuses = λ r. refl; changes = Each.cons (λ v. refl) Each.nil; work = armed-nat }
 
-  watch-nat : (now : ℕ) (b : Bool) (u : Uart H W) → Natural itself f g (Calls.machine now (Machine.watch b) u) (Calls.machine now (Machine.watch b) (mapUart f g u))
+  watch-nat : (now : ℕ) (b : Bool) (u : Uart H W)
+      → Natural itself f g (Calls.machine now (Machine.watch b) u) (Calls.machine now (Machine.watch b) (mapUart f g u))
   unfolding Calls.machine
   watch-nat now b u = record { test = refl; refuses = λ r. refl; changes = Each.nil; work = λ v. armed-nat _ }
 
-  powerDown-nat : (now : ℕ) (u : Uart H W) → Natural itself f g (Calls.machine now Machine.powerDown u) (Calls.machine now Machine.powerDown (mapUart f g u))
+  powerDown-nat : (now : ℕ) (u : Uart H W)
+      → Natural itself f g (Calls.machine now Machine.powerDown u) (Calls.machine now Machine.powerDown (mapUart f g u))
   unfolding Calls.machine
   powerDown-nat now u =
       record { test = refl; refuses = λ r. refl; changes = Each.nil; work = λ v. quiet-nat itself f g Done.Done _ refl refl }
 
   clockChange-nat : (now period : ℕ) (u : Uart H W)
-      → Natural itself f g (Calls.machine now (Machine.clockChange period) u) (Calls.machine now (Machine.clockChange period) (mapUart f g u))
+      → Natural itself f g (Calls.machine now (Machine.clockChange period) u)
+      (Calls.machine now (Machine.clockChange period) (mapUart f g u))
   unfolding Calls.machine dated clocked mapSettled
   clockChange-nat now period u = record {
     test = refl;
@@ -265,7 +270,8 @@ module _ {H H′ W W′ : Type 0} (f : H → H′) (g : W → W′) where
     work = armed-nat;
   }
 
-  reset-nat : (now : ℕ) (u : Uart H W) → Natural itself f g (Calls.machine now Machine.reset u) (Calls.machine now Machine.reset (mapUart f g u))
+  reset-nat : (now : ℕ) (u : Uart H W)
+      → Natural itself f g (Calls.machine now Machine.reset u) (Calls.machine now Machine.reset (mapUart f g u))
   unfolding Calls.machine dated cleared
   reset-nat now u = record {
     test = refl;

@@ -86,7 +86,8 @@ pub data Shape (fifo : ℕ) : Request → Bare → Type 0 where
       → Shape fifo (Call.at now (Dated.read fifo)) (record { reply = reads (byte n); report = r })
   fifoEmpty : {now : ℕ} {r : Report} (s : Source) → Notes r (sourceNotes UartReceiveClock s ++ (UartEmptyRead ∷ []))
       → Shape fifo (Call.at now (Dated.read fifo)) (record { reply = reads (word 0); report = r })
-  fifoRefused : {now : ℕ} {x : Refusal} {r : Report} → Shape fifo (Call.at now (Dated.read fifo)) (record { reply = reads (refused x); report = r })
+  fifoRefused : {now : ℕ} {x : Refusal} {r : Report}
+      → Shape fifo (Call.at now (Dated.read fifo)) (record { reply = reads (refused x); report = r })
   handedOut : {c : Request} {t : Take ℕ (Unit {0})} {r : Report} → NotFifo fifo c → Shape fifo c (record { reply = takes t; report = r })
   noByte : {c : Request} {a : Bare} → NotFifo fifo c → ((b : ℕ) → ¬ (a .reply ≡ reads (byte b)))
       → ((t : Take ℕ (Unit {0})) → ¬ (a .reply ≡ takes t)) → Shape fifo c a

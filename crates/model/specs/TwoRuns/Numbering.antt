@@ -189,7 +189,8 @@ module _ (fifo : ℕ) (others : List ℕ) where
     call-alike same = refl
     call-alike (hostBytes {now = now} {at = at} e) = ap (λ k. Call.at now (Dated.receive at (upFrom h k))) e
     call-alike (fifoWord {now = now} {v = v} {v′ = v′}) =
-        ap (λ x. Call.at now (Dated.write (mapPut (λ b. w) x))) (put-fifo v) ∙ ap (λ x. Call.at now (Dated.write (mapPut (λ b. w) x))) (sym (put-fifo v′))
+        ap (λ x. Call.at now (Dated.write (mapPut (λ b. w) x))) (put-fifo v)
+        ∙ ap (λ x. Call.at now (Dated.write (mapPut (λ b. w) x))) (sym (put-fifo v′))
     call-alike (lentToTakeTx {now = now} {lent = l} {lent′ = l′} e) = ap (λ b. Call.at now (Dated.takeTx b)) (forget-alike l l′ e)
     call-alike (lentToTakeWritten {lent = l} {lent′ = l′} e) = ap (λ b. Call.undated (Undated.takeWritten b)) (forget-alike l l′ e)
 

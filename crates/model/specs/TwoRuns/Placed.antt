@@ -76,7 +76,8 @@ pub step-placed : (c : Request) (u : Uart ℕ ℕ) → step c u ≡ stepPlaced (
 unfolding step plan stepPlaced placed changed changedDated changedUndated stepBy planBy dateOf writing Calls.read Calls.write
 step-placed (Call.at now (Dated.read o)) u = refl
 step-placed (Call.at now (Dated.write x)) u =
-    ap (λ p. stepped (outcome (some now) (replying writes p) u)) (writeAt-placed now (registerOf (u .map .offsets) (x .offset)) (x .value) u)
+    ap (λ p. stepped (outcome (some now) (replying writes p) u))
+    (writeAt-placed now (registerOf (u .map .offsets) (x .offset)) (x .value) u)
 step-placed (Call.at now (Dated.receive date bs)) u = refl
 step-placed (Call.at now (Dated.takeTx lent)) u = refl
 step-placed (Call.at now (Dated.machine m)) u = refl

@@ -33,7 +33,8 @@ use Rattle.model.specs.declared.Unsupported.the-variants.{UartReceiveClo
 module _ (fifo now : ℕ) where
   pop-shape : (passes overflows : ℕ) (s : Source) (bs : List ℕ) (u : Uart ℕ ℕ)
       → let a = pop (sourceNotes UartReceiveClock s) bs u in
-      Shape fifo (Call.at now (Dated.read fifo)) (record { reply = reads (a .reply); report = report passes overflows (a .notes) (a .state) })
+      Shape fifo (Call.at now (Dated.read fifo))
+      (record { reply = reads (a .reply); report = report passes overflows (a .notes) (a .state) })
   unfolding pop report
   pop-shape passes overflows s [] u = Shape.fifoEmpty s (refl, refl)
   pop-shape passes overflows s (b ∷ bs) u = Shape.fifoByte s (refl, refl)
@@ -102,8 +103,10 @@ module _ (fifo : ℕ) (others : List ℕ) where
       → Shape fifo (Call.at now (Dated.read o)) (stepPlaced (Call.at now (Dated.read (registerOf (fifo ∷ others) o))) u .answer)
   unfolding stepPlaced stepBy planBy dateOf answering
   read-shape now o u true e =
-      subst (λ p. Shape fifo (Call.at now (Dated.read o)) (stepPlaced (Call.at now (Dated.read p)) u .answer)) (sym (fifo-place fifo others o e))
-      (subst (λ i. Shape fifo (Call.at now (Dated.read i)) (stepPlaced (Call.at now (Dated.read Register.fifo)) u .answer)) (sym (eqb-true o fifo e))
+      subst (λ p. Shape fifo (Call.at now (Dated.read o)) (stepPlaced (Call.at now (Dated.read p)) u .answer))
+      (sym (fifo-place fifo others o e))
+      (subst (λ i. Shape fifo (Call.at now (Dated.read i)) (stepPlaced (Call.at now (Dated.read Register.fifo)) u .answer))
+      (sym (eqb-true o fifo e))
       (fifo-shape fifo now u))
   read-shape now o u false e =
       shaped reads _ _ _ u
@@ -117,13 +120,18 @@ module _ (fifo : ℕ) (others : List ℕ) where
   step-shape : (h w : ℕ) (c : Request) (u : Uart ℕ ℕ) → Shape fifo c (stepPlaced (numbered h w (placed (fifo ∷ others) c)) u .answer)
   unfolding numbered placed changed changedDated changedUndated stepPlaced stepBy planBy dateOf answering
   step-shape h w (Call.at now (Dated.read o)) u = read-shape now o u (eqb o fifo) refl
-  step-shape h w (Call.at now (Dated.write x)) u = shaped writes _ _ _ u (no-byte _ (writes _) (λ n e. apart (cc)) (λ b e. apart (cc)) (λ t e. apart (cc)))
-  step-shape h w (Call.at now (Dated.receive date bs)) u = shaped does _ _ _ u (no-byte _ (does _) (λ n e. apart (cc)) (λ b e. apart (cc)) (λ t e. apart (cc)))
+  step-shape h w (Call.at now (Dated.write x)) u =
+      shaped writes _ _ _ u (no-byte _ (writes _) (λ n e. apart (cc)) (λ b e. apart (cc)) (λ t e. apart (cc)))
+  step-shape h w (Call.at now (Dated.receive date bs)) u =
+      shaped does _ _ _ u (no-byte _ (does _) (λ n e. apart (cc)) (λ b e. apart (cc)) (λ t e. apart (cc)))
   step-shape h w (Call.at now (Dated.takeTx lent)) u = shaped takes _ _ _ u (Shape.handedOut (λ n e. apart (cc)))
-  step-shape h w (Call.at now (Dated.machine m)) u = shaped does _ _ _ u (no-byte _ (does _) (λ n e. apart (cc)) (λ b e. apart (cc)) (λ t e. apart (cc)))
+  step-shape h w (Call.at now (Dated.machine m)) u =
+      shaped does _ _ _ u (no-byte _ (does _) (λ n e. apart (cc)) (λ b e. apart (cc)) (λ t e. apart (cc)))
   step-shape h w (Call.undated (Undated.takeWritten lent)) u = shaped takes _ _ _ u (Shape.handedOut (λ n e. apart (cc)))
-  step-shape h w (Call.undated Undated.hasLeft) u = shaped left _ _ _ u (no-byte _ (left _) (λ n e. apart (cc)) (λ b e. apart (cc)) (λ t e. apart (cc)))
-  step-shape h w (Call.undated Undated.hostPending) u = shaped pends _ _ _ u (no-byte _ (pends _) (λ n e. apart (cc)) (λ b e. apart (cc)) (λ t e. apart (cc)))
+  step-shape h w (Call.undated Undated.hasLeft) u =
+      shaped left _ _ _ u (no-byte _ (left _) (λ n e. apart (cc)) (λ b e. apart (cc)) (λ t e. apart (cc)))
+  step-shape h w (Call.undated Undated.hostPending) u =
+      shaped pends _ _ _ u (no-byte _ (pends _) (λ n e. apart (cc)) (λ b e. apart (cc)) (λ t e. apart (cc)))
 
   -- every answer of a numbered list has its call's shape
   pub run-shape : (h w : ℕ) (cs : List Request) (u : Uart ℕ ℕ)

@@ -171,7 +171,8 @@ took (takes u) t e =
     let same : record { taken = u .taken; front = u .front; rest = map (λ b. tt) (u .rest) } ≡ t = cc in
     record {
       rest = u .rest;
-      is = ap₂ (λ k l. takes (record { taken = k; front = l; rest = u .rest })) (sym (ap (λ v. v .taken) same)) (sym (ap (λ v. v .front) same));
+      is = ap₂ (λ k l. takes (record { taken = k; front = l; rest = u .rest })) (sym (ap (λ v. v .taken) same))
+          (sym (ap (λ v. v .front) same));
       long = sym (length-map (u .rest) (λ b. tt)) ∙ ap (λ v. length (v .rest)) same;
     }
 took (left b) t e = apart (cc)

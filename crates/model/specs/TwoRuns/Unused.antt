@@ -42,7 +42,8 @@ unused-at (Register.stored x) f e now v w u = absurd (true≢false e)
 
 pub step-unused : (now offset v w : ℕ) (u : Uart ℕ ℕ) → isFifo (registerOf (u .map .offsets) offset) ≡ false
     → takesWord (registerOf (u .map .offsets) offset) ≡ false
-    → step (Call.at now (Dated.write (record { offset = offset; value = v }))) u ≡ step (Call.at now (Dated.write (record { offset = offset; value = w }))) u
+    → step (Call.at now (Dated.write (record { offset = offset; value = v }))) u
+    ≡ step (Call.at now (Dated.write (record { offset = offset; value = w }))) u
 unfolding step plan planBy dateOf writing Calls.write
 step-unused now offset v w u f e =
     ap (λ p. stepped (outcome (some now) (replying writes p) u)) (unused-at (registerOf (u .map .offsets) offset) f e now v w u)

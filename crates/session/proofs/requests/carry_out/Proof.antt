@@ -61,7 +61,8 @@ returns-4 : tie.Need-returns-4
 returns-4 c =
     let far = c .before .before .before .before .before .before .before .before in
     let a = far .before .before .before .args in
-    gives-as (ap (λ (l : List ℕ). calls (Call.at (getD (a .t3) 0 0) (Dated.receive (getD (a .t3) 1 0) l)) [] (some (meaning (a .session .uart))))
+    gives-as (ap
+    (λ (l : List ℕ). calls (Call.at (getD (a .t3) 0 0) (Dated.receive (getD (a .t3) 1 0) l)) [] (some (meaning (a .session .uart))))
     (c .before .before .before .before .before .front .ensures)
     ∙ sym (ap (λ (n : Name). carriedOut (commandOf n (a .t3) (a .last) (a .bytes .now)) [] (some (meaning (a .session .uart))))
     (c .before .before .before .before .before .before .enum-told4 .given .1)))
@@ -76,7 +77,8 @@ returns-5 c =
     let a = far .before .before .before .args in
     gives-as (sym (ap (λ (n : Name). carriedOut (commandOf n (a .t3) (a .last) (a .bytes .now)) [] (some (meaning (a .session .uart))))
     (c .before .before .before .before .before .enum-told5 .given .1)))
-    (gives (c .before .before .before .before .wake .ensures) (Call.at (getD (a .t3) 0 0) (Dated.machine Machine.wake)) does (step-cases _ .machine _ _)
+    (gives (c .before .before .before .before .wake .ensures) (Call.at (getD (a .t3) 0 0) (Dated.machine Machine.wake)) does
+    (step-cases _ .machine _ _)
     (said (c .before .before .before .before .wake .ensures) doneText) (c .before .before .after-done2 .ensures))
 
 returns-6 : tie.Need-returns-6
@@ -85,7 +87,8 @@ returns-6 c =
     let a = far .before .before .before .args in
     gives-as (sym (ap (λ (n : Name). carriedOut (commandOf n (a .t3) (a .last) (a .bytes .now)) [] (some (meaning (a .session .uart))))
     (c .before .before .before .before .before .enum-told6 .given .1)))
-    (gives (c .before .before .before .before .watch .ensures) (Call.at (getD (a .t3) 0 0) (Dated.machine (Machine.watch (eqb (a .last) 1)))) does
+    (gives (c .before .before .before .before .watch .ensures)
+    (Call.at (getD (a .t3) 0 0) (Dated.machine (Machine.watch (eqb (a .last) 1)))) does
     (step-cases _ .machine _ _)
     (said (c .before .before .before .before .watch .ensures) doneText) (c .before .before .after-done3 .ensures))
 
@@ -95,7 +98,8 @@ returns-7 c =
     let a = far .before .before .before .args in
     gives-as (sym (ap (λ (n : Name). carriedOut (commandOf n (a .t3) (a .last) (a .bytes .now)) [] (some (meaning (a .session .uart))))
     (c .before .before .before .before .before .enum-told7 .given .1)))
-    (gives (c .before .before .before .before .reset .ensures) (Call.at (getD (a .t3) 0 0) (Dated.machine Machine.reset)) does (step-cases _ .machine _ _)
+    (gives (c .before .before .before .before .reset .ensures) (Call.at (getD (a .t3) 0 0) (Dated.machine Machine.reset)) does
+    (step-cases _ .machine _ _)
     (said (c .before .before .before .before .reset .ensures) doneText) (c .before .before .after-done4 .ensures))
 
 returns-8 : tie.Need-returns-8
@@ -104,7 +108,8 @@ returns-8 c =
     let a = far .before .before .before .args in
     gives-as (sym (ap (λ (n : Name). carriedOut (commandOf n (a .t3) (a .last) (a .bytes .now)) [] (some (meaning (a .session .uart))))
     (c .before .before .before .before .before .enum-told8 .given .1)))
-    (gives (c .before .before .before .before .power-down .ensures) (Call.at (getD (a .t3) 0 0) (Dated.machine Machine.powerDown)) does (step-cases _ .machine _ _)
+    (gives (c .before .before .before .before .power-down .ensures) (Call.at (getD (a .t3) 0 0) (Dated.machine Machine.powerDown)) does
+    (step-cases _ .machine _ _)
     (said (c .before .before .before .before .power-down .ensures) doneText) (c .before .before .after-done5 .ensures))
 
 returns-9 : tie.Need-returns-9
@@ -113,7 +118,8 @@ returns-9 c =
     let a = far .before .before .before .args in
     gives-as (sym (ap (λ (n : Name). carriedOut (commandOf n (a .t3) (a .last) (a .bytes .now)) [] (some (meaning (a .session .uart))))
     (c .before .before .before .before .before .enum-told9 .given .1)))
-    (gives (c .before .before .before .before .clock-change .ensures) (Call.at (getD (a .t3) 0 0) (Dated.machine (Machine.clockChange (getD (a .t3) 1 0)))) does
+    (gives (c .before .before .before .before .clock-change .ensures)
+    (Call.at (getD (a .t3) 0 0) (Dated.machine (Machine.clockChange (getD (a .t3) 1 0)))) does
     (step-cases _ .machine _ _)
     (said (c .before .before .before .before .clock-change .ensures) doneText) (c .before .before .after-done6 .ensures))
 

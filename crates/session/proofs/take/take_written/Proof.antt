@@ -22,7 +22,8 @@ lend-written-requires c κs =
 returns : tie.Need-returns
 returns c =
     let far = c .before .before .before .before .before .before .before in
-    gives-as (ap (λ (l : List ℕ). calls (Call.undated (Undated.takeWritten l)) [] (some (meaning (far .before .before .before .args .uart))))
+    gives-as (ap
+    (λ (l : List ℕ). calls (Call.undated (Undated.takeWritten l)) [] (some (meaning (far .before .before .before .args .uart))))
     (lent-of (far .before .before .before .args .size) (far .before .marks .ensures .1)
     (c .before .before .before .before .before .before .within .ensures .1))) (c .before .before .before .lend-written .ensures)
 
