@@ -3,5 +3,5 @@
 pub mod faults;
 mod notices;
 pub mod refusals;
-pub mod replies;
 mod reports;
+pub mod results;

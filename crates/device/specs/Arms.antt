@@ -1,7 +1,6 @@
 -- Arming a held UART is the definition's: each instant from the numbers of the queues, and the wake that keeps the earliest.
 -- Assumes nothing.
-use mathlib.Core.Path.{_≡_, refl, sym, ap, ap₂, subst, _∙_}
-use mathlib.Core.Bool.{Bool}
+use mathlib.Core.Path.{_≡_, refl, sym, ap, _∙_}
 use mathlib.Core.List.{List, [], _∷_}
 use Prim.Native.Nat.{ℕ, zero, suc, _-_, _≤_, _<_}
 use native.Mathlib.Omega.{arith}
@@ -18,11 +17,10 @@ use Rattle.model.specs.Arm
 use Rattle.model.specs.Tests.{periodLimit}
 use Rattle.model.specs.declared.Date.{Date}
 use Rattle.model.specs.declared.Settings.{Settings}
-use Rattle.queue.specs.Cursors.{Held, slotOf, nthOf}
+use Rattle.queue.specs.Cursors.{Held, nthOf}
 use Rattle.queue.specs.Laws.{elems-length, elems-nth}
 use Rattle.queue.specs.declared.Cursor.{Cursor}
 use Rattle.line.specs.Instants.{belowThreshold, goneBelow, nextLanding, instants-are}
-use Rattle.line.specs.Applied.{waiting, mark}
 use Rattle.line.specs.declared.Below.{Below}
 use Rattle.device.specs.Holds.{Arrays, sentAt, flightOf, abs, Shape}
 use Rattle.device.specs.Waits.{waitingAt}

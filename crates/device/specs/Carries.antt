@@ -15,7 +15,7 @@ use Rattle.model.specs.State.{Run, OnTheLine}
 use Rattle.model.specs.Setters.{withRx, withReceiving, withHost, withLineOf}
 use Rattle.model.specs.Numbers.{choose}
 use Rattle.model.specs.Laws.Choose.{choose-true, choose-false}
-use Rattle.model.specs.Settle.{popRun, pass}
+use Rattle.model.specs.Settle.{popRun}
 use Rattle.model.specs.declared.Date.{Date}
 use Rattle.model.specs.declared.Line.{Line}
 use Rattle.model.specs.declared.Settings.{Settings}

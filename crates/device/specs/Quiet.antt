@@ -1,16 +1,13 @@
 -- Where nothing is due on the line by a date, whatever the settings, one pass finds nothing and changes nothing. Assumes nothing.
-use mathlib.Core.Path.{_≡_, refl, ap, sym, _∙_}
+use mathlib.Core.Path.{_≡_, refl, ap, _∙_}
 use mathlib.Core.Bool.{Bool, true, false}
 use Prim.Native.Nat.{ℕ}
 use lib.Dec.{ltb}
-use lib.ListN.{length, getD}
+use lib.ListN.{getD}
 use Rattle.dates.specs.Dates.{later, earlier}
 use mathlib.Core.List.{List}
-use mathlib.Core.Option.{Option}
 use Rattle.model.specs.State
-use Rattle.model.specs.State.{lineOf}
-use Rattle.model.specs.Setters.{withLineOf}
-use Rattle.model.specs.Numbers.{choose, dueBy}
+use Rattle.model.specs.Numbers.{dueBy}
 use Rattle.model.specs.Laws.Choose.{choose-true, choose-false}
 use Rattle.model.specs.Line.{timeoutAt, afterDate}
 use Rattle.model.specs.Settle.{pass}
@@ -21,7 +18,7 @@ use Rattle.line.specs.declared.Found.{Found}
 use Rattle.line.specs.declared.Receiving.{Receiving}
 use Rattle.line.specs.Seen.{Seen, seen}
 use Rattle.line.specs.Moves.{resting, inFrame, beforeStart, idle, lineFree, move}
-use Rattle.line.specs.Applied.{waiting, mark, lineByte, subject, marked, storedInto, dropIf, popRunIf, applied, pass-applied}
+use Rattle.line.specs.Applied.{lineByte, subject, marked, storedInto, dropIf, popRunIf, applied, pass-applied}
 use Rattle.device.specs.Never.{never}
 use Rattle.device.specs.Holds.{onTheLine}
 use Rattle.device.specs.Waits.{waitingAt}

@@ -6,7 +6,7 @@ use Prim.Native.Nat.{ℕ, _+_, _≤_, _<_}
 use native.Mathlib.Omega.{arith}
 use Rattle.model.specs.State.{Uart}
 use Rattle.model.specs.Events
-use Rattle.model.specs.Events.{Event, total, onePass, passesIn, overflowsIn}
+use Rattle.model.specs.Events.{Event, total, passesIn, overflowsIn}
 use Rattle.model.specs.Settle
 use Rattle.model.specs.Settle.{Settled, pass, found, ended, pending, onTheLine}
 use Rattle.model.specs.SetUp.{new}
@@ -15,7 +15,7 @@ use Rattle.model.specs.declared.Settings.{Settings}
 use Rattle.line.specs.declared.Found.{Found}
 use Rattle.queue.specs.Cursors.{slotOf}
 use Rattle.queue.specs.Laws.{elems-length}
-use Rattle.line.specs.Seen.{foundOf, Seen, seen, goesOn, lost, goes-on, loses}
+use Rattle.line.specs.Seen.{Seen, seen, goesOn, lost, goes-on, loses}
 use Rattle.line.specs.declared.Receiving.{Receiving}
 use Rattle.device.specs.Holds
 use Rattle.device.specs.Receives.{Fit, with}

@@ -6,13 +6,15 @@ use Prim.Native.Nat.{ℕ, _+_, _-_, _≤_}
 use native.Mathlib.Omega.{arith}
 use lib.ListN.{length, take, drop}
 use Rattle.dates.specs.Dates.{subcycles}
+use Rattle.model.specs.Numbers.{earliest, instantOf}
+use Rattle.model.specs.declared.Date.the-variants.{At}
 use Rattle.model.specs.State
 use Rattle.model.specs.State.{Sent}
 use Rattle.model.specs.Setters.{withLine, withLevel, withControl, withInFlight, withTx}
 use Rattle.model.specs.Timing
 use Rattle.model.specs.Settle
 use Rattle.model.specs.Events.{passesIn, overflowsIn}
-use Rattle.model.specs.Settle.{gone, txDone, depart, departures, found, drive, assertLevels, noLaterThan}
+use Rattle.model.specs.Settle.{gone, txDone, depart, departures, found, drive, assertLevels}
 use Rattle.model.specs.Limits.{Within}
 use Rattle.model.specs.Laws.Events.{departures-pass, departures-lose}
 use Rattle.model.specs.Keeps.Settling.{settle-within}
@@ -95,7 +97,7 @@ control-after c {held} {held′} {flying} {flying′} {l} a b el ed =
 module _ (cycle : ℕ) (c : Core) (a : Arrays) (ok : Ok c a) {date n passes overflows : ℕ} {s : Settings} {flight′ tx′ : Cursor}
     {left′ counts′ rx′ : List ℕ}
     {l l′ : Line} {at′ : Reception} {level : Bool}
-    (dated : date ≡ noLaterThan (c .control .«powered_down_at») (subcycles cycle))
+    (dated : date ≡ instantOf (earliest (At (subcycles cycle)) (c .control .«powered_down_at»)))
     (counted : (bytes : List ℕ) → n ≡ gone date (flightOf (a .goneAt) bytes (c .flight)))
     (leaves : Leaves n (a .flight) (c .flight) (c .tx) (a .tx) flight′ tx′ left′)
     (reads : s ≡ Timing.settings (c .control .words) (c .control .period))

@@ -12,7 +12,7 @@ use Rattle.uart.specs.Whole.{Slots, new-means, new-good}
 use Rattle.ffi.specs.Plain.{coreOf, plainCore, core-back}
 use Rattle.ffi.specs.declared.PlainCore.{PlainCore}
 use Rattle.ffi.specs.Replies.{plainSetUp}
-use Rattle.ffi.specs.declared.replies.PlainReply.{PlainReply}
+use Rattle.ffi.specs.declared.results.PlainReply.{PlainReply}
 
 -- whatever stands in the slots
 pub record SetsUpPlainly (offsets resets : List ℕ) (core : PlainCore) (reply : PlainReply) : Type 0 where

@@ -1,6 +1,6 @@
 // Set-up, for Rust and C: the core in plain numbers. The caller owns the slots of the queues, and whatever stands in them serves.
 use ffi::PlainCore;
-use ffi::replies::PlainReply;
+use ffi::results::PlainReply;
 ghost use mathlib.Core.Path.{_≡_};
 ghost use Rattle.exports.specs.SetsUp.{SetsUpPlainly};
 
@@ -23,7 +23,7 @@ fn made(offsets: [u32; 16], resets: [u32; 16]) -> PlainNew
     let new = calls::set_up::new_core(offsets, resets);
     let core = ffi::plain_core(new);
     let answer = replies::refusals::set_up_reply(offsets);
-    let reply = ffi::replies::set_up_reply(answer);
+    let reply = ffi::results::set_up_reply(answer);
     PlainNew { core, reply }
 }
 

@@ -1,6 +1,6 @@
 // has_left and host_pending, for Rust and C: the core in plain numbers by value.
 use ffi::PlainCore;
-use ffi::replies::PlainReply;
+use ffi::results::PlainReply;
 ghost use mathlib.Core.Path.{_≡_};
 ghost use Rattle.model.specs.Calls.{hasLeft, hostPending};
 ghost use Rattle.queue.specs.Cursors.{Held};
@@ -16,7 +16,7 @@ pub extern "C" fn wondraxu_has_left(core: PlainCore) -> PlainReply
 {
     let from = ffi::core_of(core);
     let answer = calls::queries::has_left(from);
-    ffi::replies::left_reply(answer)
+    ffi::results::left_reply(answer)
 }
 
 #[no_mangle]
@@ -26,5 +26,5 @@ pub extern "C" fn wondraxu_host_pending(core: PlainCore) -> PlainReply
 {
     let from = ffi::core_of(core);
     let answer = calls::queries::host_pending(from);
-    ffi::replies::pending_reply(answer)
+    ffi::results::pending_reply(answer)
 }

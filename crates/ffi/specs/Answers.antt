@@ -8,7 +8,7 @@ use Rattle.device.specs.Holds.{Arrays, Ok}
 use Rattle.ffi.specs.Plain.{coreOf, plainCore}
 use Rattle.ffi.specs.declared.PlainCore.{PlainCore}
 use Rattle.ffi.specs.Replies.{plainReport}
-use Rattle.ffi.specs.declared.replies.PlainReply.{PlainReply}
+use Rattle.ffi.specs.declared.results.PlainReply.{PlainReply}
 use Rattle.ffi.specs.declared.answers.PlainAnswer.{PlainAnswer}
 
 abbrev pub plainAnswer : Core → PlainReply → Report → PlainAnswer

@@ -13,8 +13,8 @@ use Rattle.calls.specs.declared.queries.HasLeft.{HasLeft}
 use Rattle.calls.specs.declared.queries.HostPending.{HostPending}
 use Rattle.ffi.specs.Plain.{plainDate}
 use Rattle.ffi.specs.Notes.{plainNotices}
-use Rattle.ffi.specs.declared.replies.PlainReply.{PlainReply}
-use Rattle.ffi.specs.declared.replies.PlainReport.{PlainReport}
+use Rattle.ffi.specs.declared.results.PlainReply.{PlainReply}
+use Rattle.ffi.specs.declared.results.PlainReport.{PlainReport}
 
 abbrev pub refusedReply : Refusal → PlainReply
 refusedReply r = record { number = number r; holds = false; value = 0 }

@@ -1,7 +1,7 @@
 // The whole answer of a call in plain numbers: the core after it, the reply and the report.
 use crate::PlainCore;
-use crate::replies::PlainReply;
-use crate::replies::PlainReport;
+use crate::results::PlainReply;
+use crate::results::PlainReport;
 use access::read::ReadCore;
 use access::write::WriteCore;
 use calls::answers::DoneCore;
@@ -23,7 +23,7 @@ fn answer(core: Core, reply: PlainReply, report: Report) -> PlainAnswer
     ensures { λ r. ⌜ r ≡ plainAnswer core reply report ⌝ }
 {
     let plain_core = crate::plain_core(core);
-    let plain_report = crate::replies::plain_report(report);
+    let plain_report = crate::results::plain_report(report);
     PlainAnswer {
         core: plain_core,
         reply,
@@ -35,7 +35,7 @@ pub fn read_answer(done: ReadCore) -> PlainAnswer
     ensures { λ r. ⌜ r ≡ plainAnswer (done .core) (plainRead (done .reply)) (done .report) ⌝ }
 {
     let reply = done.reply;
-    let plain_reply = crate::replies::read_reply(reply);
+    let plain_reply = crate::results::read_reply(reply);
     answer(done.core, plain_reply, done.report)
 }
 
@@ -43,7 +43,7 @@ pub fn write_answer(done: WriteCore) -> PlainAnswer
     ensures { λ r. ⌜ r ≡ plainAnswer (done .core) (plainWrite (done .reply)) (done .report) ⌝ }
 {
     let reply = done.reply;
-    let plain_reply = crate::replies::write_reply(reply);
+    let plain_reply = crate::results::write_reply(reply);
     answer(done.core, plain_reply, done.report)
 }
 
@@ -51,7 +51,7 @@ pub fn done_answer(done: DoneCore) -> PlainAnswer
     ensures { λ r. ⌜ r ≡ plainAnswer (done .core) (plainDone (done .reply)) (done .report) ⌝ }
 {
     let reply = done.reply;
-    let plain_reply = crate::replies::done_reply(reply);
+    let plain_reply = crate::results::done_reply(reply);
     answer(done.core, plain_reply, done.report)
 }
 
@@ -59,6 +59,6 @@ pub fn taken_answer(done: TakeCore) -> PlainAnswer
     ensures { λ r. ⌜ r ≡ plainAnswer (done .core) (plainTaken (done .reply)) (done .report) ⌝ }
 {
     let reply = done.reply;
-    let plain_reply = crate::replies::taken_reply(reply);
+    let plain_reply = crate::results::taken_reply(reply);
     answer(done.core, plain_reply, done.report)
 }

@@ -1,7 +1,7 @@
 // The core, replies and reports in plain numbers, as Rust and C hold them: an exported function may neither take nor give an enum.
 pub mod answers;
 pub mod notices;
-pub mod replies;
+pub mod results;
 
 use device::Core;
 use line::Receiving;

@@ -4,12 +4,14 @@ use model::Date;
 use model::Line;
 ghost use mathlib.Core.Path.{_≡_};
 ghost use Rattle.dates.specs.Dates.{subcycles};
-ghost use Rattle.model.specs.Settle.{noLaterThan, txDone, aboveFull, belowEmpty};
+ghost use Rattle.model.specs.Numbers.{earliest, instantOf};
+ghost use Rattle.model.specs.declared.Date.the-variants.{At};
+ghost use Rattle.model.specs.Settle.{txDone, aboveFull, belowEmpty};
 ghost use Rattle.line.specs.Levels.{levels as Levels·levels, intStatus, level as Levels·level};
 
 // How far, in subcycles, a settling at a cycle goes: after power-down no further than that date.
 pub fn settling_date(cycle: u64, powered_down_at: Date) -> u64
-    ensures { λ r. ⌜ r ≡ noLaterThan «powered_down_at» (subcycles cycle) ⌝ }
+    ensures { λ r. ⌜ r ≡ instantOf (earliest (At (subcycles cycle)) «powered_down_at») ⌝ }
 {
     let date = dates::subcycles(cycle);
     match powered_down_at {

@@ -14,7 +14,7 @@ use Rattle.model.specs.Line.{raiseIf, noteSource, afterDate, opened, tim
 use Rattle.model.specs.Settle.{gone, txDone, leave, depart, popRun, received, nothingDue, timedOut, landed, inFrame, begun}
 use Rattle.model.specs.Settle.{beforeStart, idle, lineFree, passOn, pass, onTheLine, passesFrom, pending}
 use Rattle.model.specs.Settle.{departures, passes, aboveFull, inFifo, emptyThreshold, belowEmpty, assertLevels, intStatus, drive}
-use Rattle.model.specs.Settle.{noLaterThan, settlingDate, levels, leveled, settingsOf, settleTo, settle}
+use Rattle.model.specs.Settle.{settlingDate, levels, leveled, settingsOf, settleTo, settle}
 use Rattle.model.specs.Arm.{called, nthGone, lastGone, belowThresholdAt, nextStart, landingOf, nextLanding, instants}
 use Rattle.model.specs.Arm.{armAll, arm}
 use Rattle.model.specs.Replies.{number, notices, noReport, report, word, byte, readNumber, writeNumber}
@@ -122,7 +122,7 @@ unfolding benchWords bench Hold p7 marks choose dueBy instantOf onlyIf earliest 
     unmodelledSource halfBitTime bitTime byteTime timeoutTime settings raiseIf noteSource afterDate opened timeoutAt timeOut frame
     start fate land gone txDone leave depart popRun received nothingDue timedOut landed inFrame begun beforeStart idle lineFree passOn pass
     total goesOn onePass lost passesIn overflowsIn onTheLine passesFrom pending departures passes aboveFull inFifo emptyThreshold belowEmpty
-    assertLevels intStatus drive noLaterThan settlingDate levels leveled settingsOf settleTo settle called nthGone lastGone
+    assertLevels intStatus drive settlingDate levels leveled settingsOf settleTo settle called nthGone lastGone
     belowThresholdAt nextStart landingOf nextLanding instants armAll arm number notices noReport report readNumber writeNumber doneNumber
     takenNumber registerAmong registerOf placeAmong decide valueOf wordsBy replaced noteIf sourceNotes statusWord Registers.fsmStatus looks
     pop shownIn readRegister readLooking readAt conf0Notes storedNotes startsAt goneAt sent dropped sendByte resetFifos storing clearing

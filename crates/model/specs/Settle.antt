@@ -7,7 +7,7 @@ use lib.Dec.{leb, ltb, eqb}
 use lib.ListN.{length, take, drop}
 use lib.Bits.{bitAnd}
 use Rattle.dates.specs.Dates.{subcycles, later, earlier}
-use Rattle.model.specs.Numbers.{choose, field, dueBy, instantOf}
+use Rattle.model.specs.Numbers.{choose, field, dueBy, instantOf, earliest}
 use Rattle.model.specs.State.{Sent, Run, OnTheLine, Uart}
 use Rattle.model.specs.Setters.{withLine, withLevel, withControl, withInFlight, withTx, withHost}
 use Rattle.model.specs.State.{lineOf}
@@ -15,8 +15,7 @@ use Rattle.model.specs.Setters.{withReceiving, withRx, withLineOf}
 use Rattle.model.specs.Timing.{settings}
 use Rattle.model.specs.Events.{Event, departure, timeout, landing, nothing, goesOn}
 use Rattle.model.specs.Line.{RXFIFO-FULL, TXFIFO-EMPTY, TX-DONE, raiseIf, timeoutAt, timeOut, frame, start, fate, land}
-use Rattle.model.specs.declared.Date.{Date}
-use Rattle.model.specs.declared.Date.the-variants.{None, At}
+use Rattle.model.specs.declared.Date.the-variants.{At}
 use Rattle.model.specs.declared.Line.{Line}
 use Rattle.model.specs.declared.Control.{Control}
 use Rattle.model.specs.declared.Settings.{Settings}
@@ -180,13 +179,9 @@ intStatus c = bitAnd (c .line .«int_raw») (c .words .«int_ena»)
 unfoldable pub drive : Control → Control
 drive c = withLevel (not (eqb (intStatus c) 0)) c
 
-unfoldable pub noLaterThan : Date → ℕ → ℕ
-noLaterThan None date = date
-noLaterThan (At down) date = earlier date down
-
 -- the settling's date: now, and after power-down no later than that date
 unfoldable pub settlingDate : ℕ → Control → ℕ
-settlingDate now c = noLaterThan (c .«powered_down_at») (subcycles now)
+settlingDate now c = instantOf (earliest (At (subcycles now)) (c .«powered_down_at»))
 
 module _ {H W : Type 0} where
   unfoldable pub levels : Uart H W → Uart H W

@@ -4,6 +4,7 @@ use crate::offsets::repeated;
 use model::Refusal;
 use model::SetUp;
 ghost use mathlib.Core.Path.{_≡_};
+ghost use Rattle.model.specs.Replies.{number};
 ghost use Rattle.model.specs.SetUp.{setUpReply};
 ghost use Rattle.model.specs.Tests.{pastEnd, wentBack, transmitFull, hostFull};
 ghost use Rattle.model.specs.Tests.{runsFull, periodTooLong, bufferTooShort, refuseIf};
@@ -30,6 +31,22 @@ const PERIOD_LIMIT: u64 = 1000000;
 pub enum Verdict {
     Passed,
     Refused(Refusal),
+}
+
+// Document 01's number of a refusal.
+pub fn number_of(refusal: Refusal) -> u32
+    ensures { λ r. ⌜ r ≡ number refusal ⌝ }
+{
+    match refusal {
+        Refusal::RepeatedOffset => 1,
+        Refusal::DatePastEnd => 2,
+        Refusal::DateWentBack => 3,
+        Refusal::TransmitFull => 4,
+        Refusal::HostFull => 5,
+        Refusal::RunsFull => 6,
+        Refusal::PeriodTooLong => 7,
+        Refusal::BufferTooShort => 8,
+    }
 }
 
 // What set-up answers: 1 where two of the sixteen offsets are equal.

@@ -1,7 +1,7 @@
 // Set-up: a new UART, or the one before.
 use crate::Session;
 use crate::in_use;
-use answers::replies::put_set_up;
+use answers::results::put_set_up;
 use model::SetUp;
 use trace::low::sixteen;
 use uart::Uart;

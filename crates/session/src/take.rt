@@ -2,8 +2,8 @@
 use crate::Session;
 use crate::in_use;
 use answers::refusals::put_refusal;
-use answers::replies::put_taken;
-use answers::replies::put_written;
+use answers::results::put_taken;
+use answers::results::put_written;
 use model::Taken;
 use text::parts::within;
 use uart::AfterTake;

@@ -10,11 +10,12 @@ use lib.Dec.{leb}
 use lib.ListN.{length, take, drop}
 use borrow.Author.Tests.{leb-true, leb-false}
 use Rattle.dates.specs.Dates.{later}
+use Rattle.model.specs.Numbers.{earliest, instantOf}
 use Rattle.model.specs.State.{Sent, Run, OnTheLine, Uart, lineOf}
 use Rattle.model.specs.Events.{Event, departure, nothing, passesIn, overflowsIn}
 use Rattle.model.specs.Timing.{settings}
 use Rattle.model.specs.Line.{raiseIf, timeoutAt}
-use Rattle.model.specs.Settle.{gone, leave, depart, pending, departures, passes, assertLevels, drive, noLaterThan, settlingDate}
+use Rattle.model.specs.Settle.{gone, leave, depart, pending, departures, passes, assertLevels, drive, settlingDate}
 use Rattle.model.specs.Settle.{levels}
 use Rattle.model.specs.Settle.{leveled, settingsOf, settleTo, settle}
 use Rattle.model.specs.Limits.{All, nil, cons, Chain, empty, single, link, flightDates}
@@ -28,12 +29,12 @@ use Rattle.model.specs.declared.Control.{Control}
 
 -- now, in subcycles
 pub settles-now : (now : ℕ) (c : Control) → now < 2 ^ 59 → c .«powered_down_at» ≡ None → settlingDate now c ≡ now * 32
-unfolding settlingDate noLaterThan
+unfolding settlingDate earliest instantOf
 settles-now now c lt e = rw e (omega arith)
 
 -- after power-down no later than that date
 pub settles-down : (now down : ℕ) (c : Control) → now < 2 ^ 59 → c .«powered_down_at» ≡ At down → settlingDate now c ≡ min (now * 32) down
-unfolding settlingDate noLaterThan
+unfolding settlingDate earliest instantOf
 settles-down now down c lt e = rw e (omega arith)
 
 -- ---- departures

@@ -122,7 +122,9 @@ carried-leaves (Call.undated Undated.hostPending) u e = refl
 
 module _ (c : Request) (u : Uart ℕ ℕ) (done : numberOf (step c u .answer .reply) ≡ 0) where
   -- after a call that settles the level is whether INT_ST is other than 0
-  pub call-drives : (s : Settling) (ss : List Settling) → settlings c u ≡ s ∷ ss → Driven (step c u .state)
+  pub call-drives : (s : Settling) (ss : List Settling) → settlings c u ≡ s ∷ ss
+      → step c u .state .control .level ≡ not (eqb (intStatus (step c u .state .control)) 0)
+  unfolding asserted
   call-drives s ss e = subst (λ x. Driven (x .state)) (sym (done-carried c u done)) (carried-drives c u s ss e)
 
   -- one that does not settle leaves it

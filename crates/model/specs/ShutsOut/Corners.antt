@@ -73,9 +73,9 @@ module _ (now : ℕ) (u : Uart ℕ ℕ) (done : numberOf (step (Call.at now (Dat
 
   -- host bytes, the byte on the line, when the line is free, bytes that left and the watch mark stay
   pub reset-keeps : let v : Uart ℕ ℕ = step (Call.at now (Dated.machine Machine.reset)) u .state in
-      (v .host ≡ found .host) × (v .hostRuns ≡ found .hostRuns) × (v .receiving ≡ found .receiving)
-      × (lineOf v .«line_free_at» ≡ lineOf found .«line_free_at») × (v .tx ≡ found .tx)
-      × (v .control .watched ≡ found .control .watched)
+      let w : Uart ℕ ℕ = settle now (dated now (withControl (withPoweredDownAt Date.None (u .control)) u)) .state in
+      (v .host ≡ w .host) × (v .hostRuns ≡ w .hostRuns) × (v .receiving ≡ w .receiving)
+      × (lineOf v .«line_free_at» ≡ lineOf w .«line_free_at») × (v .tx ≡ w .tx) × (v .control .watched ≡ w .control .watched)
   unfolding arm levels drive assertLevels raiseIf cleared clearedLine dated
   reset-keeps = (
     ap (λ v. v .host) reset-is,
@@ -87,8 +87,8 @@ module _ (now : ℕ) (u : Uart ℕ ℕ) (done : numberOf (step (Call.at now (Dat
   )
 
   -- the wake that was armed stays, and the instants that ask for one are armed
-  pub reset-wake : step (Call.at now (Dated.machine Machine.reset)) u .state .control .wake
-      ≡ armAll (instants (levels (cleared found))) (u .control .wake)
+  pub reset-wake : let w : Uart ℕ ℕ = settle now (dated now (withControl (withPoweredDownAt Date.None (u .control)) u)) .state in
+      step (Call.at now (Dated.machine Machine.reset)) u .state .control .wake ≡ armAll (instants (levels (cleared w))) (u .control .wake)
   unfolding arm levels drive assertLevels cleared dated
   reset-wake =
       ap (λ v. v .control .wake) reset-is ∙ ap (armAll (instants (levels (cleared found)))) (settle-keeps now _ .wake)

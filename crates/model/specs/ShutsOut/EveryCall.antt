@@ -7,10 +7,12 @@ use mathlib.Core.Bool.{Bool, true, false}
 use mathlib.Core.Option.{Option, some}
 use mathlib.Core.List.{List, [], _∷_}
 use Rattle.dates.specs.Dates.{subcycles}
+use Rattle.model.specs.declared.Date.the-variants.{At}
+use Rattle.model.specs.Numbers.{earliest, instantOf}
 use Rattle.model.specs.State.{OnTheLine, Uart, lineOf}
 use Rattle.model.specs.Setters.{withWake, withMistimed, withPoweredDownAt, withControl, withTx}
 use Rattle.model.specs.Setters.{withLineOf}
-use Rattle.model.specs.Settle.{levels, noLaterThan, settlingDate, settleTo, settle}
+use Rattle.model.specs.Settle.{levels, settlingDate, settleTo, settle}
 use Rattle.model.specs.Arm.{arm, called}
 use Rattle.model.specs.Replies.{ReadOf}
 use Rattle.model.specs.Map.{Register, registerOf}
@@ -42,8 +44,8 @@ pub record Walk (d : Option ℕ) (R : Uart ℕ ℕ → Uart ℕ ℕ → Type 0) 
   pub settling : (now : ℕ) → d ≡ some now → (date : ℕ) → date ≤ subcycles now → (u : Uart ℕ ℕ) → R u (settleTo date u .state)
   pub raising : (u : Uart ℕ ℕ) → R u (levels u)
 
-no-later : (d : Date) (n : ℕ) → noLaterThan d n ≤ n
-unfolding noLaterThan
+no-later : (d : Date) (n : ℕ) → instantOf (earliest (At n) d) ≤ n
+unfolding earliest instantOf
 no-later Date.None n = omega arith
 no-later (Date.At a) n = omega arith
 

@@ -11,12 +11,12 @@ use Rattle.model.specs.Numbers.{bit}
 use Rattle.model.specs.State.{OnTheLine, Uart, lineOf}
 use Rattle.model.specs.Line.{raiseIf, noteSource, timeOut}
 use Rattle.model.specs.Settle.{Pass, txDone, leave, depart, nothingDue, timedOut, inFrame, passOn, pass, passes, assertLevels}
-use Rattle.model.specs.Settle.{drive, levels, leveled, settingsOf, settleTo}
+use Rattle.model.specs.Settle.{drive, levels, leveled, settingsOf, settleTo, settle}
 use Rattle.model.specs.Arm.{arm}
 use Rattle.model.specs.Map.{Register, registerOf}
 use Rattle.model.specs.Registers.{Access, sendByte, sent, dropped, storing, clearing, resetFifos, writeRegister, concluded}
 use Rattle.model.specs.Calls
-use Rattle.model.specs.Calls.{carried, clearedLine, cleared, afterSettling, send, writePlaced}
+use Rattle.model.specs.Calls.{carried, clearedLine, cleared, afterSettling, send, writePlaced, dated}
 use Rattle.model.specs.Laws.Plans.{settleAt}
 use Rattle.model.specs.Call.{Machine, Dated, Call, dateOf, Written, Request, writes}
 use Rattle.model.specs.Run.{Step, numberOf, stepped, replying, planBy, writing, plan, step}
@@ -53,7 +53,7 @@ module _ {H W : Type 0} where
 
 -- whatever is written wherever, the byte on the line and its landing date are as settling leaves them: CLKDIV too gives it no new rate
 pub write-leaves-line : (now : ℕ) (x : Written) (u : Uart ℕ ℕ) → numberOf (step (Call.at now (Dated.write x)) u .answer .reply) ≡ 0
-    → onLine (step (Call.at now (Dated.write x)) u .state) ≡ onLine (settleAt now u .state)
+    → onLine (step (Call.at now (Dated.write x)) u .state) ≡ onLine (settle now (dated now u) .state)
 unfolding stepped plan planBy replying carried dateOf writing Calls.write send writePlaced afterSettling
 write-leaves-line now x u done =
     let p : Register = registerOf (u .map .offsets) (x .offset) in

@@ -6,7 +6,7 @@ use native.Mathlib.Omega.{arith}
 use mathlib.Core.Bool.{false, false≢true}
 use mathlib.Core.Option.{some}
 use mathlib.Core.List.{[], _∷_}
-use Rattle.model.specs.Numbers.{choose, dueBy, instantOf}
+use Rattle.model.specs.Numbers.{choose, dueBy, instantOf, earliest}
 use Rattle.model.specs.State.{Uart, lineOf}
 use Rattle.model.specs.Events.{total, goesOn}
 use Rattle.model.specs.Timing.{stopHalfBits, frameHalfBits, sourcePeriod, unmodelled, unmodelledSource, halfBitTime, bitTime}
@@ -14,7 +14,7 @@ use Rattle.model.specs.Timing.{byteTime, timeoutTime, settings}
 use Rattle.model.specs.Line.{raiseIf, noteSource, afterDate, opened, timeoutAt, timeOut, frame, start, fate, land}
 use Rattle.model.specs.Settle.{gone, txDone, leave, depart, popRun, received, nothingDue, timedOut, landed, inFrame, begun}
 use Rattle.model.specs.Settle.{beforeStart, idle, lineFree, passOn, pass, onTheLine, passesFrom, pending, passes}
-use Rattle.model.specs.Settle.{aboveFull, inFifo, emptyThreshold, belowEmpty, assertLevels, intStatus, drive, noLaterThan}
+use Rattle.model.specs.Settle.{aboveFull, inFifo, emptyThreshold, belowEmpty, assertLevels, intStatus, drive}
 use Rattle.model.specs.Settle.{settlingDate, levels, leveled, settingsOf, settleTo, settle}
 use Rattle.model.specs.Tests.{among, repeated}
 use Rattle.model.specs.Limits.{nil, cons, empty, single, Within}
@@ -101,7 +101,7 @@ one-step : lineOf (settle 40 looked .state) .«int_raw» ≡ 259
 unfolding stopHalfBits frameHalfBits sourcePeriod unmodelled unmodelledSource halfBitTime bitTime byteTime timeoutTime settings
     raiseIf noteSource afterDate opened timeoutAt timeOut frame start fate land choose dueBy instantOf goesOn
     gone txDone leave depart popRun received nothingDue timedOut landed inFrame begun beforeStart idle lineFree passOn pass onTheLine
-    passesFrom pending passes aboveFull inFifo emptyThreshold belowEmpty assertLevels intStatus drive noLaterThan settlingDate
+    passesFrom pending passes aboveFull inFifo emptyThreshold belowEmpty assertLevels intStatus drive earliest settlingDate
     levels leveled settingsOf settleTo settle
 one-step = refl
 
@@ -110,7 +110,7 @@ two-steps : lineOf (settle 40 (settle 28 looked .state) .state) .«int_raw» ≡
 unfolding stopHalfBits frameHalfBits sourcePeriod unmodelled unmodelledSource halfBitTime bitTime byteTime timeoutTime settings
     raiseIf noteSource afterDate opened timeoutAt timeOut frame start fate land choose dueBy instantOf goesOn
     gone txDone leave depart popRun received nothingDue timedOut landed inFrame begun beforeStart idle lineFree passOn pass onTheLine
-    passesFrom pending passes aboveFull inFifo emptyThreshold belowEmpty assertLevels intStatus drive noLaterThan settlingDate
+    passesFrom pending passes aboveFull inFifo emptyThreshold belowEmpty assertLevels intStatus drive earliest settlingDate
     levels leveled settingsOf settleTo settle
 two-steps = refl
 

@@ -9,10 +9,11 @@ use Prim.Native.Nat.{ℕ, _+_, _≤_}
 use native.Mathlib.Omega.{arith}
 use mathlib.Core.List.{_++_}
 use Rattle.dates.specs.Dates.{subcycles}
+use Rattle.model.specs.Numbers.{earliest, instantOf}
 use Rattle.model.specs.State.{Uart, lineOf}
 use Rattle.model.specs.Events.{landingsIn, overflowsIn}
 use Rattle.model.specs.Line.{raiseIf}
-use Rattle.model.specs.Settle.{depart, departures, passes, assertLevels, drive, noLaterThan, settlingDate, levels, leveled}
+use Rattle.model.specs.Settle.{depart, departures, passes, assertLevels, drive, settlingDate, levels, leveled}
 use Rattle.model.specs.Settle.{settingsOf, settleTo, settle}
 use Rattle.model.specs.Limits.{Within}
 use Rattle.model.specs.Laws.Events.{landings-append, lostIn, overflows-append, overflows-land, departures-land}
@@ -89,8 +90,8 @@ module _ {H W : Type 0} (a b : ℕ) (u : Uart H W) (le : a ≤ b) where
 -- ---- at cycles
 
 -- a later cycle settles no earlier
-no-later : (m n : ℕ) (d : Date) → m ≤ n → noLaterThan d (subcycles m) ≤ noLaterThan d (subcycles n)
-unfolding noLaterThan
+no-later : (m n : ℕ) (d : Date) → m ≤ n → instantOf (earliest (At (subcycles m)) d) ≤ instantOf (earliest (At (subcycles n)) d)
+unfolding earliest instantOf
 no-later m n None le = omega arith
 no-later m n (At t) le = omega arith
 
@@ -105,7 +106,7 @@ module _ {H W : Type 0} (m n : ℕ) (u : Uart H W) (le : m ≤ n) where
   -- a settling does not move the date of power-down
   again : settle n (settle m u .state) ≡ settleTo (dateOf n) (settleTo (dateOf m) u .state)
   unfolding settle settlingDate
-  again = ap (λ d. settleTo (noLaterThan d (subcycles n)) (settle m u .state)) (settle-keeps m u .poweredDownAt)
+  again = ap (λ d. settleTo (instantOf (earliest (At (subcycles n)) d)) (settle m u .state)) (settle-keeps m u .poweredDownAt)
 
   pub settle-landings : landingsIn (settle m u .events ++ settle n (settle m u .state) .events) ≡ landingsIn (settle n u .events)
   unfolding settle
@@ -116,7 +117,7 @@ module _ {H W : Type 0} (m n : ℕ) (u : Uart H W) (le : m ≤ n) where
       ≡ departures (settlingDate n (u .control)) u
   unfolding settle settlingDate
   settle-departures =
-      ap (λ d. departures (dateOf m) u ++ departures (noLaterThan d (subcycles n)) (settle m u .state)) (settle-keeps m u .poweredDownAt)
+      ap (λ d. departures (dateOf m) u ++ departures (instantOf (earliest (At (subcycles n)) d)) (settle m u .state)) (settle-keeps m u .poweredDownAt)
       ∙ settleTo-departures (dateOf m) (dateOf n) u dates
 
   pub settle-overflows : overflowsIn (settle m u .events) + overflowsIn (settle n (settle m u .state) .events)

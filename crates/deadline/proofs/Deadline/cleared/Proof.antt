@@ -3,7 +3,8 @@ use mathlib.Core.Path.{ap, sym, _∙_}
 use borrow.Author.Needs.{needs}
 use Rattle.model.specs.Arm.{called}
 use Rattle.model.specs.declared.Date.{Date}
-use Rattle.deadline.specs.Laws.{called-none, called-due, called-before}
+use Rattle.model.specs.ShutsOut.Wakes.{called-due, called-before}
+use Rattle.deadline.specs.Laws.{called-none}
 use Rattle.deadline.specs.declared.Deadline.{Deadline}
 use Rattle.deadline.proofs.Deadline.cleared.Statement.{statement}
 use Rattle.deadline.proofs.Deadline.cleared.Tie as tie

@@ -1,5 +1,5 @@
 -- `levels::settling_date` meets its contract, by cases on the power-down. Assumes nothing.
-use Rattle.model.specs.Settle.{noLaterThan}
+use Rattle.model.specs.Numbers.{earliest, instantOf}
 use Rattle.line.proofs.levels.settling_date.Statement.{statement}
 use Rattle.line.proofs.levels.settling_date.Tie as tie
 
@@ -16,11 +16,11 @@ earlier-requires : tie.Need-earlier-requires
 earlier-requires c κs = tt
 
 returns : tie.Need-returns
-unfolding noLaterThan
+unfolding earliest instantOf
 returns c = rw (c .enum-told .given .1) (c .before .before .subcycles .ensures)
 
 returns-2 : tie.Need-returns-2
-unfolding noLaterThan
+unfolding earliest instantOf
 returns-2 c =
     rw (c .before .before .powered-down-at .given .1, ← c .before .before .before .before .subcycles .ensures) (c .earlier .ensures)
 
