@@ -84,7 +84,7 @@ impl Machine {
 
     /// The line between the two: what has left UART0 starts at UART1.
     fn carry(&mut self) -> Result<(), Refusal> {
-        if !self.uarts[0].has_left() {
+        if !self.uarts[0].has_left()? {
             return Ok(());
         }
         let mut out = [0; BUFFER];

@@ -196,7 +196,7 @@ impl fmt::Debug for Uart {
             .field("level", &self.core.level)
             .field("in_flight", &self.core.flight.count)
             .field("left", &self.core.tx.count)
-            .field("host_pending", &self.host_pending())
+            .field("host_pending", &calls::host_pending(&self.core).value)
             .field("received", &self.core.rx.count)
             .finish()
     }

@@ -60,11 +60,11 @@ impl Side for Port {
     }
 
     fn host_pending(&mut self) -> usize {
-        self.uart.host_pending()
+        self.uart.host_pending().unwrap_or(0)
     }
 
     fn has_left(&mut self) -> bool {
-        self.uart.has_left()
+        self.uart.has_left().unwrap_or(false)
     }
 }
 

@@ -1,4 +1,4 @@
--- A call that settles and answers no more than a number: refused by its tests, or carried out. Assumes nothing.
+-- A dated call that answers no more than a number: refused by its tests, or carried out, with settling or without. Assumes nothing.
 use mathlib.Core.Path.{_≡_, refl, sym, ap, subst}
 use mathlib.Core.List.{List, []}
 use mathlib.Core.Option.{Option, none, some}

@@ -45,14 +45,12 @@ impl Side for Port {
             }
             Call::TakeWritten { length } => {
                 let taken = uart.take_written(&mut self.buffer[..length]);
-                match taken {
-                    Ok(count) => line::taken(out, &self.buffer[..count], kept(&self.buffer[count..])),
-                    Err(refusal) => line::refused(out, refusal),
-                }
+                let buffer = &self.buffer;
+                undated(out, taken, |out, count| line::taken(out, &buffer[..count], kept(&buffer[count..])));
                 self.restore(taken, out);
             }
-            Call::HasLeft => line::has_left(out, uart.has_left()),
-            Call::HostPending => line::host_pending(out, uart.host_pending()),
+            Call::HasLeft => undated(out, uart.has_left(), line::has_left),
+            Call::HostPending => undated(out, uart.host_pending(), line::host_pending),
             Call::Setup(_) => {}
         }
     }
@@ -94,6 +92,13 @@ fn dated<T>(out: &mut Vec<u8>, answered: Answered<T>, result: impl FnOnce(&mut V
             result(out, answer.result);
             line::report(out, &answer.report);
         }
+        Err(refusal) => line::refused(out, refusal),
+    }
+}
+
+fn undated<T>(out: &mut Vec<u8>, answered: Result<T, Refusal>, result: impl FnOnce(&mut Vec<u8>, T)) {
+    match answered {
+        Ok(answer) => result(out, answer),
         Err(refusal) => line::refused(out, refusal),
     }
 }

@@ -112,7 +112,7 @@ fn sending() {
     done(uart.wake(1360));
     (core.int_raw, core.level, core.last, core.wake) = (0x4002, true, 1360, NONE);
     holds(&uart, core, Queues { tx: vec![0x41, 0x42, 0x43], ..Queues::default() });
-    assert!(uart.has_left());
+    assert_eq!(uart.has_left(), Ok(true));
     let mut out = [0; BUFFER];
     assert_eq!(done(uart.take_tx(1360, &mut out)).0, 3);
     assert_eq!(&out[..4], [0x41, 0x42, 0x43, 0]);
@@ -136,7 +136,7 @@ fn receiving() {
     (core.last, core.wake, core.byte, core.line_free_at) = (520, at(940), 2, 30_080);
     let runs = vec![(3200, 1), (160_000, 1)];
     holds(&uart, core, Queues { host: vec![3, 4], runs, rx: vec![1], ..Queues::default() });
-    assert_eq!(uart.host_pending(), 3);
+    assert_eq!(uart.host_pending(), Ok(3));
     done(uart.wake(1360));
     (core.last, core.wake, core.idle_since, core.line_free_at) = (1360, at(5420), at(43_520), 43_520);
     (core.on_the_line, core.heard, core.byte) = (false, false, 0);
@@ -193,5 +193,5 @@ fn a_start_that_is_not_heard() {
     done(uart.wake(0));
     let core = counted(&uart);
     assert_eq!((core.on_the_line, core.heard, core.byte, core.line_free_at), (true, false, 6, 13_440));
-    assert_eq!(uart.host_pending(), 1);
+    assert_eq!(uart.host_pending(), Ok(1));
 }

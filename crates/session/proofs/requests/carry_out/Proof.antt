@@ -1,5 +1,5 @@
 -- `requests::carry_out` meets its contract: each call is the step of its name. Assumes nothing.
-use mathlib.Core.Path.{refl, ap, ap₂, sym, _∙_}
+use mathlib.Core.Path.{ap, ap₂, sym, _∙_}
 use mathlib.Core.Option.{some}
 use mathlib.Core.List.{List, [], map}
 use Prim.Native.Nat.{ℕ}
