@@ -185,17 +185,13 @@ pub(crate) fn take_written(core: &PlainCore, s: &Slots, out: &mut [u8]) -> Plain
 #[inline]
 pub(crate) fn watch(core: &PlainCore, s: &Slots, cycle: u64, on: bool) -> PlainAnswer {
     // SAFETY: the state is `Uart`'s own, and is only read.
-    unsafe {
-        wondraxu_watch(*core, &s.gone_at, &s.flight, &s.tx, &s.host, &s.run_at, &s.run_len, &s.rx, cycle, on)
-    }
+    unsafe { wondraxu_watch(*core, &s.gone_at, &s.flight, &s.tx, &s.host, &s.run_at, &s.run_len, &s.rx, cycle, on) }
 }
 
 #[inline]
 pub(crate) fn power_down(core: &PlainCore, s: &Slots, cycle: u64) -> PlainAnswer {
     // SAFETY: the state is `Uart`'s own, and is only read.
-    unsafe {
-        wondraxu_power_down(*core, &s.gone_at, &s.flight, &s.tx, &s.host, &s.run_at, &s.run_len, &s.rx, cycle)
-    }
+    unsafe { wondraxu_power_down(*core, &s.gone_at, &s.flight, &s.tx, &s.host, &s.run_at, &s.run_len, &s.rx, cycle) }
 }
 
 #[inline]
