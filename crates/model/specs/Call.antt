@@ -14,7 +14,8 @@ pub data Machine : Type 0 where
   watch : Bool → Machine
   clockChange : ℕ → Machine
 
--- R says which register is read and X what is written where; H are the host's bytes, L those of a lent buffer
+-- what is called at a cycle now. R says which register is read and X what is written where; H are the host's bytes, handed over for a
+-- cycle of their own, and L those of a lent buffer
 pub data Dated (R X H L : Type 0) : Type 0 where
   read : R → Dated R X H L
   write : X → Dated R X H L
@@ -22,11 +23,11 @@ pub data Dated (R X H L : Type 0) : Type 0 where
   takeTx : List L → Dated R X H L
   machine : Machine → Dated R X H L
 
+-- what is called without one
 pub data Undated (L : Type 0) : Type 0 where
   takeWritten : List L → Undated L
   hasLeft hostPending : Undated L
 
--- a dated call takes the cycle now
 pub data Call (R X H L : Type 0) : Type 0 where
   at : ℕ → Dated R X H L → Call R X H L
   undated : Undated L → Call R X H L

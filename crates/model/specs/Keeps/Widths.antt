@@ -189,8 +189,8 @@ machine-worked now (Machine.watch b) u v n = arm-numbers _ (withRaw refl refl re
 machine-worked now (Machine.clockChange period) u v n = arm-numbers v n
 
 worked-numbers : (c : Request) (u v : Uart ℕ ℕ) → Given c → Numbers v → Numbers (plan c u .work v .state)
-unfolding plan planBy replying writing given quiet readAt concluded Calls.read readPlaced Calls.write send writePlaced Calls.receive Calls.takeTx
-    Calls.takeWritten Calls.hasLeft Calls.hostPending
+unfolding plan planBy replying writing given quiet readAt concluded Calls.read readPlaced Calls.write send writePlaced Calls.receive
+    Calls.takeTx Calls.takeWritten Calls.hasLeft Calls.hostPending
 worked-numbers (Call.at now (Dated.read offset)) u v g n = looking-numbers _ _ v n
 worked-numbers (Call.at now (Dated.write x)) u v g n =
     write-ind (λ p. Numbers (p .work v .state)) now (registerOf (u .map .offsets) (x .offset)) (x .value) u

@@ -148,8 +148,8 @@ module _ (now : ℕ) (u : Uart ℕ ℕ) (t : InTime now u) where
       ≡ (Manual.cleared (rawBit n v) (bit n (x .value))
       || (eqb n 0 && Manual.RXFIFO-FULL (v .control .words .conf1) (length (v .rx)))
       || (eqb n 1 && Manual.TXFIFO-EMPTY (v .control .words .conf1) (length (v .inFlight) - 1)))
-  unfolding answering carried writePlaced afterSettling writeRegister clearing concluded arm Manual.RXFIFO-FULL Manual.TXFIFO-EMPTY aboveFull
-      belowEmpty inFifo emptyThreshold
+  unfolding answering carried writePlaced afterSettling writeRegister clearing concluded arm Manual.RXFIFO-FULL Manual.TXFIFO-EMPTY
+      aboveFull belowEmpty inFifo emptyThreshold
   clear-write x e small n h =
       let v : Uart ℕ ℕ = settled now u in
       let c : Uart ℕ ℕ = clearing (x .value) v .state in

@@ -117,7 +117,8 @@ module _ {H W : Type 0} (m n : ℕ) (u : Uart H W) (le : m ≤ n) where
       ≡ departures (settlingDate n (u .control)) u
   unfolding settle settlingDate
   settle-departures =
-      ap (λ d. departures (dateOf m) u ++ departures (instantOf (earliest (At (subcycles n)) d)) (settle m u .state)) (settle-keeps m u .poweredDownAt)
+      ap (λ d. departures (dateOf m) u ++ departures (instantOf (earliest (At (subcycles n)) d)) (settle m u .state))
+      (settle-keeps m u .poweredDownAt)
       ∙ settleTo-departures (dateOf m) (dateOf n) u dates
 
   pub settle-overflows : overflowsIn (settle m u .events) + overflowsIn (settle n (settle m u .state) .events)
