@@ -36,7 +36,7 @@ fn structs(text: &str) -> Declared {
 
 #[test]
 fn the_structs_are_those_of_the_proved_crates() {
-    let files = ["model/src/lib.rt", "queue/src/lib.rt", "ffi/src/lib.rt", "ffi/src/replies.rt"];
+    let files = ["model/src/lib.rt", "queue/src/lib.rt", "ffi/src/lib.rt", "ffi/src/results.rt"];
     let more = ["ffi/src/notices.rt", "ffi/src/answers.rt", "exports/src/new.rt"];
     let theirs: Declared = files.iter().chain(&more).flat_map(|file| structs(&proved(file))).collect();
     let mut ours = structs(include_str!("../plain.rs"));
