@@ -10,7 +10,8 @@ use lib.Dec.{ltb, lit≤}
 use lib.ListN.{length}
 use borrow.Author.Tests.{leb-false, ltb-false, lt-ltb}
 use Rattle.model.specs.State.{Uart}
-use Rattle.model.specs.Setters.{withTx}
+use Rattle.model.specs.Setters.{withTx, withPoweredDownAt, withControl}
+use Rattle.model.specs.Settle.{settle, levels}
 use Rattle.model.specs.Map.{Register, registerOf}
 use Rattle.model.specs.Tests.{sentLimit, runsLimit, periodLimit, hostFull, runsFull}
 use Rattle.model.specs.Calls
@@ -27,6 +28,7 @@ use Rattle.model.specs.Keeps.Wake.{called-within, arm-parts}
 use Rattle.model.specs.Keeps.Host.{joined-within}
 use Rattle.model.specs.Keeps.Dated.{not-refused, unless-parts, dated-parts, moved-parts, settleAt-parts}
 use Rattle.model.specs.Keeps.Access.{readPlaced-parts, writePlaced-parts, send-parts}
+use Rattle.model.specs.declared.Date.{Date}
 use Rattle.model.specs.declared.Done.{Done}
 
 -- ---- the host
@@ -100,8 +102,10 @@ module _ {H W : Type 0} where
       → Parts (outcome (some now) (Calls.machine now (Machine.clockChange period) u) u .state)
   unfolding outcome carried Calls.machine afterSettling quiet
   clockChange-parts now period u p =
+      let s : Uart H W = settleAt now u .state in
+      let t : Uart H W = settle now (clocked period s) .state in
       dated-parts Done.Refused _ u p now _
-      (λ h e. arm-parts _ (settle-parts now _ (clocked-parts period _ (ltb-false _ _ (not-refused _ _ none e .0))
+      (λ h e. arm-parts t (settle-parts now (clocked period s) (clocked-parts period s (ltb-false _ _ (not-refused _ _ none e .0))
       (settleAt-parts now u h p))))
 
   cleared-parts : (u : Uart H W) → Parts u → Parts (cleared u)
@@ -113,7 +117,10 @@ module _ {H W : Type 0} where
   reset-parts : (now : ℕ) (u : Uart H W) → Parts u → Parts (outcome (some now) (Calls.machine now Machine.reset u) u .state)
   unfolding outcome carried Calls.machine afterSettling quiet dated
   reset-parts now u p =
-      dated-parts Done.Refused _ u p now none (λ h _. arm-parts _ (levels-parts _ (cleared-parts _ (settleAt-parts now _ h p))))
+      let v : Uart H W = withControl (withPoweredDownAt Date.None (dated now u .control)) (dated now u) in
+      let s : Uart H W = settle now v .state in
+      dated-parts Done.Refused _ u p now none
+      (λ h _. arm-parts (levels (cleared s)) (levels-parts (cleared s) (cleared-parts s (settle-parts now v (moved-parts now u h p)))))
 
   -- ---- taking what was sent
 
