@@ -12,6 +12,7 @@ pub mod Map
 pub mod Registers
 pub mod Tests
 pub mod Calls
+pub mod Row
 pub mod SetUp
 pub mod Call
 pub mod Run
@@ -27,3 +28,4 @@ pub mod TwoRuns
 pub mod MeetsManual
 pub mod ShutsOut
 pub mod TwoSteps
+pub mod Rows

@@ -6,8 +6,9 @@ use mathlib.Core.List.{List, _++_, map}
 use lib.ListN.{length, replicate}
 use Rattle.model.specs.State.{Uart}
 use Rattle.model.specs.declared.Date.{Date}
+use Rattle.model.specs.declared.Feature.{Feature}
 use Rattle.model.specs.declared.Unsupported.{Unsupported}
-use Rattle.model.specs.declared.Unsupported.the-variants.{UartOverflow}
+use Rattle.model.specs.declared.Unsupported.the-variants.{UartOverflow, UartEmptyRead, UartClock, UartReceiveClock, UartFeature}
 use Rattle.model.specs.declared.Notice.{Notice}
 use Rattle.model.specs.declared.Refusal.{Refusal}
 use Rattle.model.specs.declared.Refusal.the-variants.{RepeatedOffset, DatePastEnd, DateWentBack, TransmitFull, HostFull, RunsFull}
@@ -42,6 +43,28 @@ noticePlaces = 8
 
 unfoldable pub notices : List Unsupported → List Notice
 notices ns = map (λ n. record { what = n }) ns ++ replicate (noticePlaces - length ns) unused
+
+-- a mode's number, from 0
+abbrev pub modeNumber : Feature → ℕ
+modeNumber Feature.Loopback = 0
+modeNumber Feature.InvertedRx = 1
+modeNumber Feature.Autobaud = 2
+modeNumber Feature.NoStopBit = 3
+modeNumber Feature.FifoSize = 4
+modeNumber Feature.Rs485 = 5
+modeNumber Feature.TxFlowControl = 6
+modeNumber Feature.RxFlowControl = 7
+modeNumber Feature.InvertedTx = 8
+modeNumber Feature.Irda = 9
+modeNumber Feature.TxBreak = 10
+
+-- a notice in two numbers: what, from 1, and which SCLK_SEL or mode
+unfoldable pub noticeNumbers : Unsupported → ℕ × ℕ
+noticeNumbers UartOverflow = (1, 0)
+noticeNumbers UartEmptyRead = (2, 0)
+noticeNumbers (UartClock sel) = (3, sel)
+noticeNumbers (UartReceiveClock sel) = (4, sel)
+noticeNumbers (UartFeature mode) = (5, modeNumber mode)
 
 -- fixed, for a refused or an undated call
 unfoldable pub noReport : Report

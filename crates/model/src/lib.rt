@@ -181,3 +181,15 @@ pub enum Taken {
     Bytes(usize),
     Refused(Refusal),
 }
+
+// How many bytes of a row were written, and how often the first and the second notice of its report came.
+pub struct Made {
+    pub count: usize,
+    pub first: u64,
+    pub second: u64,
+}
+
+pub enum Row {
+    Made(Made),
+    Refused(Refusal),
+}

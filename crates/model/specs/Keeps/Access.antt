@@ -40,12 +40,12 @@ module _ {W : Type 0} where
   nth-lastOf s [] = refl
   nth-lastOf s (t ∷ ss) = nth-lastOf t ss
 
-  lastGone-lastOf : (s : Sent W) (ss : List (Sent W)) → lastGone (s ∷ ss) ≡ At (lastOf (flightDates (s ∷ ss)))
+  pub lastGone-lastOf : (s : Sent W) (ss : List (Sent W)) → lastGone (s ∷ ss) ≡ At (lastOf (flightDates (s ∷ ss)))
   unfolding lastGone
   lastGone-lastOf s ss = ap (λ (n : ℕ). nthGone n (s ∷ ss)) (suc-sub-suc (length ss) 0 ∙ sub-zero (length ss)) ∙ nth-lastOf s ss
 
   -- a byte starts after the last one in flight, so none goes before it
-  sends-behind : (now span : ℕ) (ss : List (Sent W)) → All Fits (flightDates ss) → 1 ≤ length (flightDates ss)
+  pub sends-behind : (now span : ℕ) (ss : List (Sent W)) → All Fits (flightDates ss) → 1 ≤ length (flightDates ss)
       → lastOf (flightDates ss) ≤ after (startsAt now (lastGone ss)) span
   unfolding startsAt
   sends-behind now span [] a h = absurd (omega arith)

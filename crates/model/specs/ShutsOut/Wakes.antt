@@ -27,12 +27,12 @@ InTimeFor None (At c) = ⊥
 InTimeFor (At w) (At c) = w ≤ c
 
 -- `w` is the earliest of the wake that was armed and the cycles of the instants
-record Earliest (wake : Date) (ds : List Date) (w : Date) : Type 0 where
-  kept : InTimeFor w wake
-  each : All (λ d. InTimeFor w (cycleOf d)) ds
-  one : List·Memᴰ w (wake ∷ map cycleOf ds)
+pub record Earliest (wake : Date) (ds : List Date) (w : Date) : Type 0 where
+  pub kept : InTimeFor w wake
+  pub each : All (λ d. InTimeFor w (cycleOf d)) ds
+  pub one : List·Memᴰ w (wake ∷ map cycleOf ds)
 
-in-cycles : (d : Date) → inCycles d ≡ cycleOf d
+pub in-cycles : (d : Date) → inCycles d ≡ cycleOf d
 unfolding inCycles
 in-cycles None = refl
 in-cycles (At t) = refl
@@ -70,7 +70,7 @@ both w a b ds (List·Memᴰ·head e) =
     one-of-two a b (λ c. w ≡ c → List·Memᴰ w (a ∷ b ∷ ds)) (λ f. List·Memᴰ·head f) (λ f. List·Memᴰ·tail (List·Memᴰ·head f)) e
 both w a b ds (List·Memᴰ·tail m) = List·Memᴰ·tail (List·Memᴰ·tail m)
 
-armAll-earliest : (ds : List Date) (wake : Date) → Earliest wake ds (armAll ds wake)
+pub armAll-earliest : (ds : List Date) (wake : Date) → Earliest wake ds (armAll ds wake)
 unfolding armAll
 armAll-earliest [] wake = record { kept = itself wake; each = nil; one = List·Memᴰ·head refl }
   where

@@ -28,7 +28,7 @@ full-more : (conf1 h k : ℕ) → h ≤ k → aboveFull conf1 h ≡ true → abo
 unfolding aboveFull
 full-more conf1 h k le t = lt-ltb (field 0 9 conf1) k (omega (arith, ltb-true (field 0 9 conf1) h t))
 
-empty-less : (conf1 f g : ℕ) → g ≤ f → belowEmpty conf1 f ≡ true → belowEmpty conf1 g ≡ true
+pub empty-less : (conf1 f g : ℕ) → g ≤ f → belowEmpty conf1 f ≡ true → belowEmpty conf1 g ≡ true
 unfolding belowEmpty inFifo
 empty-less conf1 f g le t = lt-ltb (g - 1) (emptyThreshold conf1) (omega (arith, ltb-true (f - 1) (emptyThreshold conf1) t))
 

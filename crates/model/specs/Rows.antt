@@ -1,0 +1,9 @@
+-- A row: the laws of one write after another at one date.
+pub mod Still
+pub mod Levels
+pub mod Next
+pub mod First
+pub mod Within
+pub mod Calls
+pub mod Counts
+pub mod Marks

@@ -1,0 +1,143 @@
+-- What a row is, in calls: the state that it leaves, its passes and its overflows are those of its writes made one by one, its number is
+-- its first write's, and an empty one changes nothing. Assumes nothing.
+use mathlib.Core.Path.{_≡_, refl, sym, ap, ap₂, subst, _∙_}
+use Prim.Native.Nat.{ℕ, zero, suc, _+_, _%_, _≤_, _<_}
+use native.Mathlib.Omega.{arith}
+use mathlib.Core.Bool.{Bool, decide}
+use mathlib.Core.Option.{Option, none, some}
+use mathlib.Core.List.{List, [], _∷_, map, flatMap}
+use lib.Dec.{eqb}
+use lib.ListN.{length, take}
+use borrow.Author.Tests.{eqb-true, lt-leb, le-ltb}
+use Rattle.model.specs.State.{Uart}
+use Rattle.model.specs.Events.{total}
+use Rattle.model.specs.Replies.{number, noReport, report, writeNumber}
+use Rattle.model.specs.Map.{Register, isFifo, registerOf}
+use Rattle.model.specs.Registers.{sendByte, concluded}
+use Rattle.model.specs.Tests.{dateEnd, refuseIf, refuseDate}
+use Rattle.model.specs.Calls
+use Rattle.model.specs.Calls.{Outcome, refusing, unless, afterSettling, carried, outcome, send, writeAt}
+use Rattle.model.specs.Call
+use Rattle.model.specs.Call.{Dated, Call, dateOf, Request, Answer}
+use Rattle.model.specs.Row.{countedAll, timesOf, fifoWrite, writes, leftBy, summed, firstTest, row, rowNumber, rowLimit}
+use Rattle.model.specs.Run.{Step, planBy, plan, writing, step, run}
+use Rattle.model.specs.Limits.{All, nil, cons}
+use Rattle.model.specs.Laws.Choose.{choose-true, choose-ind}
+use Rattle.model.specs.Laws.Lists.{all-take}
+use Rattle.model.specs.Laws.Plans.{answering, replied}
+use Rattle.model.specs.Keeps.Runs.{stateAfter}
+use Rattle.model.specs.Refuses.Carried.{send-proper}
+use Rattle.model.specs.TwoRuns.MapKept.{step-kept}
+use Rattle.model.specs.MeetsManual.Answers.{InTime}
+use Rattle.model.specs.declared.Refusal.{Refusal}
+use Rattle.model.specs.declared.Refusal.the-variants.{DatePastEnd, DateWentBack}
+use Rattle.model.specs.declared.Row.{Row}
+use Rattle.model.specs.declared.Write.{Write}
+
+-- ---- one write
+
+-- a write of a byte at an offset
+abbrev pub writeOf : ℕ → ℕ → ℕ → Request
+writeOf now offset b = Call.at now (Dated.write (record { offset = offset; value = b }))
+
+module _ (now offset : ℕ) where
+  -- at FIFO's offset it is the row's
+  written-step : (b : ℕ) (u : Uart ℕ ℕ) → registerOf (u .map .offsets) offset ≡ Register.fifo → b < 256
+      → step (writeOf now offset b) u ≡ answering Call.writes (fifoWrite now u b)
+  unfolding step plan planBy writing dateOf Calls.write writeAt decide
+  written-step b u e h =
+      replied Call.writes (Calls.write now offset b u) u (some now)
+      ∙ ap (λ p. answering Call.writes (outcome (some now) p u))
+      (choose-true _ _ (ap isFifo e) ∙ ap (λ (n : ℕ). send now n u) (let q : b % 256 ≡ b = omega (arith, h) in q))
+
+  -- writes that are made, and the same as calls: the state that they leave, their passes, their overflows
+  abbrev Same : List (Outcome Write ℕ ℕ) → List ℕ → Uart ℕ ℕ → Type 0
+  Same os bs u =
+      let cs : List Request = map (writeOf now offset) (take (length os) bs) in
+      (leftBy u os ≡ stateAfter cs u)
+      × (total (λ o. o .report .passes) os ≡ total (λ a. a .report .passes) (run cs u))
+      × (total (λ o. o .report .overflows) os ≡ total (λ a. a .report .overflows) (run cs u))
+
+  -- one more in front
+  module _ (b : ℕ) (bs : List ℕ) (u : Uart ℕ ℕ) (e : registerOf (u .map .offsets) offset ≡ Register.fifo) (h : b < 256) where
+    kept : fifoWrite now u b .state .map ≡ u .map
+    unfolding answering
+    kept = sym (ap (λ (s : Step ℕ ℕ ℕ). s .state .map) (written-step b u e h)) ∙ step-kept (writeOf now offset b) u
+
+    more : (os : List (Outcome Write ℕ ℕ)) → Same os bs (fifoWrite now u b .state) → Same (fifoWrite now u b ∷ os) (b ∷ bs) u
+    unfolding leftBy stateAfter run total answering
+    more os rest =
+        let cs : List Request = map (writeOf now offset) (take (length os) bs) in
+        let one = written-step b u e h in (
+          rest .0 ∙ sym (ap (λ (s : Step ℕ ℕ ℕ). stateAfter cs (s .state)) one),
+          ap (λ (n : ℕ). fifoWrite now u b .report .passes + n) (rest .1)
+              ∙ sym (ap (λ (s : Step ℕ ℕ ℕ). s .answer .report .passes + total (λ a. a .report .passes) (run cs (s .state))) one),
+          ap (λ (n : ℕ). fifoWrite now u b .report .overflows + n) (rest .2)
+              ∙ sym (ap (λ (s : Step ℕ ℕ ℕ). s .answer .report .overflows + total (λ a. a .report .overflows) (run cs (s .state))) one),
+        )
+
+  writes-run : (bs : List ℕ) (u : Uart ℕ ℕ) → registerOf (u .map .offsets) offset ≡ Register.fifo → All (λ b. b < 256) bs
+      → Same (writes now u bs) bs u
+  unfolding writes leftBy stateAfter run total
+  writes-run [] u e nil = (refl, refl, refl)
+  writes-run (b ∷ bs) u e (cons h hs) =
+      choose-ind (λ (os : List (Outcome Write ℕ ℕ)). Same os (b ∷ bs) u) _
+      (λ _. more b bs u e h (writes now (fifoWrite now u b .state) bs) (writes-run bs (fifoWrite now u b .state)
+      (ap (λ m. registerOf (m .offsets) offset) (kept b bs u e h) ∙ e) hs))
+      (λ _. (refl, refl, refl))
+
+-- ---- the row
+
+-- tests 2 and 3 pass
+dates-pass : {H W : Type 0} (now : ℕ) (u : Uart H W) → now < dateEnd → u .control .last ≤ now → (rest : Option Refusal)
+    → refuseDate now (u .control) rest ≡ rest
+unfolding refuseDate refuseIf
+dates-pass now u h g rest =
+    ap₂ (λ (p q : Bool). refuseIf p DatePastEnd (refuseIf q DateWentBack rest)) (lt-leb dateEnd now h) (le-ltb now (u .control .last) g)
+
+module _ {H W : Type 0} (now : ℕ) (u : Uart H W) where
+  -- an empty row changes nothing, not even the last date, and is not refused with the transmit side full
+  pub empty-row : now < dateEnd → u .control .last ≤ now
+      → row now [] u
+      ≡ record { reply = Row.Made (record { count = 0; first = 0; second = 0 }); report = report 0 0 [] u; state = u; events = [] }
+  unfolding row firstTest unless summed writes leftBy total timesOf countedAll flatMap
+  empty-row h g =
+      ap (λ (t : Option Refusal). unless t Row.Refused (λ s. summed s (writes now s (take rowLimit []))) u) (dates-pass now u h g none)
+
+  sends-zero : (b : W) → writeNumber (carried (some now) (send now b u) u .reply) ≡ 0
+  unfolding carried afterSettling send concluded
+  sends-zero b = send-proper now b _ .zero
+
+  -- a row is refused with its first write, and by its number
+  pub row-refused : (b : W) (bs : List W) → rowNumber (row now (b ∷ bs) u .reply) ≡ writeNumber (fifoWrite now u b .reply)
+  unfolding row firstTest outcome send unless refusing summed rowNumber writeNumber
+  row-refused b bs = by-test (refuseDate now (u .control) (send now b u .test))
+    where
+      by-test : (t : Option Refusal)
+          → rowNumber (unless t Row.Refused (λ s. summed s (writes now s (take rowLimit (b ∷ bs)))) u .reply)
+          ≡ writeNumber (unless t Write.Refused (carried (some now) (send now b u)) u .reply)
+      by-test none = sym (sends-zero b)
+      by-test (some r) = refl
+
+  -- a refused one keeps the state
+  pub refused-row : (bs : List W) → 1 ≤ rowNumber (row now bs u .reply) → (row now bs u .state ≡ u) × (row now bs u .report ≡ noReport)
+  unfolding row unless refusing summed rowNumber
+  refused-row bs = by-test (refuseDate now (u .control) (firstTest now bs u))
+    where
+      by-test : (t : Option Refusal) → let x : Outcome Row H W = unless t Row.Refused (λ s. summed s (writes now s (take rowLimit bs))) u in
+          1 ≤ rowNumber (x .reply) → (x .state ≡ u) × (x .report ≡ noReport)
+      by-test none h = absurd (omega (arith, h))
+      by-test (some r) h = (refl, refl)
+
+-- from every state: the state, the passes and the overflows of as many writes as were made
+module _ (now offset : ℕ) (bs : List ℕ) (u : Uart ℕ ℕ) (fifo : registerOf (u .map .offsets) offset ≡ Register.fifo)
+    (bytes : All (λ b. b < 256) bs) where
+  abbrev made : List (Outcome Write ℕ ℕ)
+  made = writes now u (take rowLimit bs)
+
+  pub row-calls : let cs : List Request = map (writeOf now offset) (take (length (writes now u (take rowLimit bs))) (take rowLimit bs)) in
+      let x : Outcome Row ℕ ℕ = summed u (writes now u (take rowLimit bs)) in
+      (x .state ≡ stateAfter cs u) × (x .report .passes ≡ total (λ a. a .report .passes) (run cs u))
+      × (x .report .overflows ≡ total (λ a. a .report .overflows) (run cs u))
+  unfolding summed report
+  row-calls = writes-run now offset (take rowLimit bs) u fifo (all-take rowLimit bs bytes)
