@@ -5,3 +5,10 @@ pub mod Sends
 pub mod WriteStructs
 pub mod ByPlace
 pub mod Concludes
+pub mod Row
+pub mod RowSteps
+pub mod RowParts
+pub mod RowFills
+pub mod RowSettles
+pub mod RowWhole
+pub mod RowTests

@@ -36,9 +36,13 @@ use Rattle.device.specs.declared.Core.{Core}
 use Rattle.calls.specs.Answers.{datedCall, Accesses}
 use Rattle.calls.specs.Queues.{withQueuesOf, flyingIn, queues-shape}
 
+-- when a byte that takes so long has gone, from a date and those in flight
+abbrev pub goneAfter : ℕ → ℕ → List (Sent ℕ) → ℕ
+goneAfter date takes flying = after (startsAt date (lastGone flying)) takes
+
 -- when a byte written now has gone, from the control and those in flight
 abbrev pub goneAtOf : ℕ → Control → List (Sent ℕ) → ℕ
-goneAtOf cycle v flying = after (startsAt (subcycles cycle) (lastGone flying)) (byteTime (v .words) (v .period))
+goneAtOf cycle v flying = goneAfter (subcycles cycle) (byteTime (v .words) (v .period)) flying
 
 -- whatever stands in the other arrays, which a FIFO write does not touch
 abbrev pub SendsAny : ℕ → ℕ → Core → List ℕ → List ℕ → Core → List ℕ → List ℕ → Write → Notices → Type 0

@@ -2,6 +2,7 @@
 // `read` and `write` are the calls. Carried over from inkemu's uart.rs and changed.
 mod load;
 pub mod read;
+pub mod row;
 mod send;
 mod store;
 pub mod write;

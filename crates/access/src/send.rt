@@ -3,7 +3,9 @@ use crate::store::PlaceWrite;
 use device::Core;
 use model::Date;
 use model::Write;
+use queue::Cursor;
 use registers::words;
+use replies::refusals::Verdict;
 ghost use mathlib.Core.Path.{_≡_};
 ghost use Prim.Native.Nat.{ℕ, _≤_};
 ghost use mathlib.Core.List.{List};
@@ -12,7 +14,9 @@ ghost use Rattle.model.specs.Registers.{startsAt};
 ghost use Rattle.model.specs.Tests.{periodLimit};
 ghost use Rattle.queue.specs.Cursors.{Held};
 ghost use Rattle.device.specs.Holds.{flightOf};
-ghost use Rattle.access.specs.Sends.{goneAtOf, SendsAny};
+ghost use Rattle.replies.specs.Refusals.{verdict};
+ghost use Rattle.access.specs.ByPlace.{testsAt};
+ghost use Rattle.access.specs.Sends.{goneAfter, goneAtOf, SendsAny};
 
 // When a byte starts: after the last one in flight, and not before now. In subcycles.
 fn starts_at(date: u64, last: Date) -> u64
@@ -24,6 +28,15 @@ fn starts_at(date: u64, last: Date) -> u64
     }
 }
 
+// When a byte that takes so long has gone: it starts after those in flight, and not before a date.
+pub fn gone_after(gone_at: &[u64; 129], flight: Cursor, date: u64, takes: u64) -> u64
+    requires { ⌜ Held 129 flight × (length (now «gone_at») ≡ 129) ⌝ }
+    ensures { λ r. ⌜ ((bytes : List ℕ) → r ≡ goneAfter date takes (flightOf (now («gone_at» .entry)) bytes flight)) ⌝ }
+{
+    let last = device::arm::last_gone(gone_at, flight);
+    dates::after(starts_at(date, last), takes)
+}
+
 // When a byte written at a cycle has gone.
 // ASSUMPTION: a byte keeps the time that it was given when it was written; a later change of CLKDIV, CLK_CONF or the APB clock is
 // for the bytes written after it. A capture of a byte whose CLKDIV is rewritten while it is sent settles it.
@@ -33,9 +46,8 @@ fn gone_at_of(core: Core, gone_at: &[u64; 129], cycle: u64) -> u64
 {
     let control = core.control;
     let words = control.words;
-    let last = device::arm::last_gone(gone_at, core.flight);
-    let start = starts_at(dates::subcycles(cycle), last);
-    dates::after(start, timing::byte_time(words, control.period))
+    let takes = timing::byte_time(words, control.period);
+    gone_after(gone_at, core.flight, dates::subcycles(cycle), takes)
 }
 
 // With over 128 bytes in flight the byte is dropped.
@@ -74,5 +86,16 @@ pub fn send<'a>(
             reply: Write::Accepted,
             notices,
         }
+    }
+}
+
+// A write to FIFO has one test more.
+pub fn tests_at(fifo: bool, cycle: u64, last: u64, left: usize, flying: usize) -> Verdict
+    ensures { λ r. ⌜ verdict r ≡ testsAt fifo cycle last left flying ⌝ }
+{
+    if fifo {
+        replies::refusals::send_refusal(cycle, last, left, flying)
+    } else {
+        replies::refusals::date_refusal(cycle, last)
     }
 }

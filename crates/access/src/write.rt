@@ -19,13 +19,12 @@ ghost use Rattle.model.specs.Replies.{writeNumber};
 ghost use Rattle.model.specs.Calls.{write as Calls·write};
 ghost use Rattle.registers.specs.Places.{registerAt};
 ghost use Rattle.queue.specs.Cursors.{Held};
-ghost use Rattle.replies.specs.Refusals.{verdict};
 ghost use Rattle.device.specs.Holds.{abs, Ok};
 ghost use Rattle.device.specs.Arms.{Ready};
 ghost use Rattle.device.specs.Wholes.{lent};
 ghost use Rattle.calls.specs.Answers.{datedCall, Works, Answers};
 ghost use Rattle.access.specs.WriteStructs.{writeCore, refusedWrite};
-ghost use Rattle.access.specs.ByPlace.{testsAt, workAt};
+ghost use Rattle.access.specs.ByPlace.{workAt};
 ghost use Rattle.access.specs.Concludes.{ConcludesAny};
 
 #[repr(C)]
@@ -63,17 +62,6 @@ fn low_byte(value: u32) -> u8
     ensures { λ r. ⌜ r ≡ value % 256 ⌝ }
 {
     (value & 0xFF) as u8
-}
-
-// A write to FIFO has one test more.
-fn tests_at(fifo: bool, cycle: u64, last: u64, left: usize, flying: usize) -> Verdict
-    ensures { λ r. ⌜ verdict r ≡ testsAt fifo cycle last left flying ⌝ }
-{
-    if fifo {
-        replies::refusals::send_refusal(cycle, last, left, flying)
-    } else {
-        replies::refusals::date_refusal(cycle, last)
-    }
 }
 
 // Every write raises levels, drives the interrupt and arms, accepted or not.
@@ -152,7 +140,7 @@ pub fn write<'a>(
     let place = places::place_of(offsets, offset);
     let fifo = places::is_fifo(place);
     let control = core.control;
-    let tests = tests_at(fifo, cycle, control.last, core.tx.count, core.flight.count);
+    let tests = crate::send::tests_at(fifo, cycle, control.last, core.tx.count, core.flight.count);
     match tests {
         Verdict::Refused(refusal) => refuse(core, refusal),
         Verdict::Passed => carry_out(

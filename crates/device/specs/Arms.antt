@@ -5,14 +5,14 @@ use mathlib.Core.List.{List, [], _∷_}
 use Prim.Native.Nat.{ℕ, zero, suc, _-_, _≤_, _<_}
 use native.Mathlib.Omega.{arith}
 use lib.ListN.{length, getD}
-use Rattle.model.specs.Numbers.{onlyIf}
+use Rattle.model.specs.Numbers.{onlyIf, earliest, inCycles}
 use Rattle.model.specs.State
 use Rattle.model.specs.State.{Sent}
 use Rattle.model.specs.Setters.{withWake}
 use Rattle.model.specs.Timing
 use Rattle.model.specs.Line.{timeoutAt}
 use Rattle.model.specs.Settle.{emptyThreshold, settingsOf}
-use Rattle.model.specs.Arm.{nthGone, lastGone, instants, armAll}
+use Rattle.model.specs.Arm.{nthGone, lastGone, belowThresholdAt, instants, armed, armAll}
 use Rattle.model.specs.Arm
 use Rattle.model.specs.Tests.{periodLimit}
 use Rattle.model.specs.declared.Date.{Date}
@@ -20,7 +20,7 @@ use Rattle.model.specs.declared.Settings.{Settings}
 use Rattle.queue.specs.Cursors.{Held, nthOf}
 use Rattle.queue.specs.Laws.{elems-length, elems-nth}
 use Rattle.queue.specs.declared.Cursor.{Cursor}
-use Rattle.line.specs.Instants.{belowThreshold, goneBelow, nextLanding, instants-are}
+use Rattle.line.specs.Instants.{belowThreshold, goneBelow, below-at, nextLanding, instants-are}
 use Rattle.line.specs.declared.Below.{Below}
 use Rattle.device.specs.Holds.{Arrays, sentAt, flightOf, abs, Shape}
 use Rattle.device.specs.Waits.{waitingAt}
@@ -144,3 +144,31 @@ arms c a w k e = record {
   shape = search;
   same = ap (λ (x : Date). abs (withWakeOf x c) a) e;
 }
+
+-- ---- one byte more in flight
+
+-- the wake once it is armed for the instant at which the transmit FIFO falls below its threshold
+abbrev pub armedBelow : Date → ℕ → List (Sent ℕ) → Date
+armedBelow due conf1 flying = earliest due (inCycles (belowThresholdAt (emptyThreshold conf1) flying))
+
+abbrev pub wakeBelow : Core → Arrays → Date
+wakeBelow c a = armedBelow (c .control .wake) (c .control .words .conf1) (abs c a .inFlight)
+
+-- whatever stands in the other arrays
+abbrev pub WakesBelow : Date → ℕ → Cursor → List ℕ → Date → Type 0
+WakesBelow due conf1 flight goneAt wake =
+    (a : Arrays) → a .goneAt ≡ goneAt → wake ≡ armedBelow due conf1 (flightOf (a .goneAt) (a .flight) flight)
+
+pub below-by : (due : Date) (conf1 : ℕ) (flight : Cursor) (a : Arrays) {goneAt : List ℕ} → a .goneAt ≡ goneAt → {which : Below}
+    {below wake : Date}
+    → which ≡ belowThreshold (emptyThreshold conf1) (flight .count) → below ≡ goneBelow which (flightOf goneAt (a .flight) flight)
+    → wake ≡ armed (inCycles below) due
+    → wake ≡ armedBelow due conf1 (flightOf (a .goneAt) (a .flight) flight)
+below-by due conf1 flight a eg {which} {below} ew eb e =
+    let flying : List (Sent ℕ) = flightOf (a .goneAt) (a .flight) flight in
+    let same : below ≡ belowThresholdAt (emptyThreshold conf1) flying =
+    eb ∙ ap (λ (l : List ℕ). goneBelow which (flightOf l (a .flight) flight)) (sym eg)
+    ∙ ap (λ (w : Below). goneBelow w flying)
+    (ew ∙ ap (belowThreshold (emptyThreshold conf1)) (sym (elems-length (sentAt (a .goneAt) (a .flight)) 129 flight)))
+    ∙ sym (below-at (emptyThreshold conf1) flying) in
+    e ∙ ap (λ (d : Date). armed (inCycles d) due) same

@@ -13,7 +13,7 @@ ghost use Rattle.model.specs.Arm.{nthGone, lastGone};
 ghost use Rattle.line.specs.Instants.{goneBelow};
 ghost use Rattle.queue.specs.Cursors.{Held};
 ghost use Rattle.device.specs.Holds.{flightOf};
-ghost use Rattle.device.specs.Arms.{Ready, Armed, ArmsAny, withWakeOf};
+ghost use Rattle.device.specs.Arms.{Ready, Armed, ArmsAny, WakesBelow, withWakeOf};
 
 // When the n-th byte in flight has gone.
 fn nth_gone(gone_at: &[u64; 129], flight: Cursor, n: usize) -> Date
@@ -106,4 +106,14 @@ pub fn arm<'a>(core: Core, gone_at: &'a [u64; 129], run_at: &'a [u64; 64]) -> Co
     let run_date = run_at[run];
     let wake = next_wake(core, gone_at, run_date);
     with_wake_of(core, wake)
+}
+
+// The wake once it is armed for the one instant that a byte more in flight can bring: the transmit FIFO falls below its threshold.
+pub fn wake_below(wake: Date, conf1: u32, gone_at: &[u64; 129], flight: Cursor) -> Date
+    requires { ⌜ Held 129 flight × (length (now «gone_at») ≡ 129) ⌝ }
+    ensures { λ r. ⌜ WakesBelow wake conf1 flight (now («gone_at» .entry)) r ⌝ }
+{
+    let which = line::next::below_threshold(conf1, flight.count);
+    let below = below_threshold_at(gone_at, flight, which);
+    deadline::arm(wake, below)
 }

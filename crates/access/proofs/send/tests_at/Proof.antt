@@ -1,9 +1,9 @@
--- `write::tests_at` meets its contract. Assumes nothing.
+-- `send::tests_at` meets its contract. Assumes nothing.
 use mathlib.Core.Path.{sym, ap, _∙_}
 use mathlib.Core.Bool.{Bool}
 use Rattle.access.specs.ByPlace.{testsAt}
-use Rattle.access.proofs.write.tests_at.Statement.{statement}
-use Rattle.access.proofs.write.tests_at.Tie as tie
+use Rattle.access.proofs.send.tests_at.Statement.{statement}
+use Rattle.access.proofs.send.tests_at.Tie as tie
 
 send-refusal-requires : tie.Need-send-refusal-requires
 send-refusal-requires c κs = tt
