@@ -66,6 +66,11 @@ static void answers(void)
     FIELD(reply, number);
     FIELD(reply, holds);
     FIELD(reply, value);
+    SIZE(row);
+    FIELD(row, number);
+    FIELD(row, made);
+    FIELD(row, first);
+    FIELD(row, second);
     SIZE(notice);
     FIELD(notice, what);
     FIELD(notice, which);
@@ -80,6 +85,10 @@ static void answers(void)
     FIELD(answer, core);
     FIELD(answer, reply);
     FIELD(answer, report);
+    SIZE(row_answer);
+    FIELD(row_answer, core);
+    FIELD(row_answer, reply);
+    FIELD(row_answer, report);
     SIZE(sixteen);
     FIELD(sixteen, words);
     SIZE(set_up);

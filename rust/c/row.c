@@ -176,7 +176,7 @@ static void refused(void)
 
 int main(void)
 {
-    expect("wondraxu_abi_2", "version", wondraxu_abi_2(), 2);
+    expect("wondraxu_abi_3", "version", wondraxu_abi_3(), 3);
     send_a_row();
     receive_a_row();
     overflow();

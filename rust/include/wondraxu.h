@@ -1,7 +1,7 @@
 /*
  * The UART of an emulated ESP32-C3, proved: the calls of libwondraxu.a, which rust/build-lib makes, for C99 and C++.
  *
- * Names and meaning are those of inkemu's uart.rs. The first part declares the library's structs and its thirteen calls.
+ * Names and meaning are those of inkemu's uart.rs. The first part declares the library's structs and its fourteen calls.
  * The second part, at the end, is struct wondraxu_uart, which holds what the calls require between them: use that one.
  *
  * No call allocates, and none keeps a pointer. A refused call answers its number and changes nothing.
@@ -18,10 +18,10 @@ extern "C" {
 #endif
 
 /*
- * The version of the structs and calls below; answers 2. The number goes up whenever one of them changes. Every file that
+ * The version of the structs and calls below; answers 3. The number goes up whenever one of them changes. Every file that
  * has this header needs the symbol, so that an archive of another version, whose structs may differ, does not link.
  */
-uint32_t wondraxu_abi_2(void);
+uint32_t wondraxu_abi_3(void);
 #ifdef __GNUC__
 __attribute__((used))
 #endif
@@ -30,7 +30,7 @@ __attribute__((used))
 __attribute__((retain)) /* the linker keeps it too, where it drops what nothing reads */
 #endif
 #endif
-static uint32_t (*const wondraxu_abi)(void) = wondraxu_abi_2;
+static uint32_t (*const wondraxu_abi)(void) = wondraxu_abi_3;
 
 /* How many slots each array has. */
 #define WONDRAXU_FLIGHT 129   /* gone_at, flight: the bytes in flight and their dates */
@@ -147,6 +147,14 @@ struct wondraxu_reply {
                       * refusal: 0. */
 };
 
+/* The reply of a row. */
+struct wondraxu_row {
+    uint32_t number; /* an enum wondraxu_number */
+    uint64_t made;   /* how many of the bytes were written, those among them that a full FIFO dropped. 0 of a refusal. */
+    uint64_t first;  /* how many of the writes noted the report's first notice, */
+    uint64_t second; /* and how many the second; 0 where there is none */
+};
+
 struct wondraxu_notice {
     uint32_t what;  /* an enum wondraxu_what */
     uint32_t which;
@@ -166,6 +174,13 @@ struct wondraxu_report {
 struct wondraxu_answer {
     struct wondraxu_core core;
     struct wondraxu_reply reply;
+    struct wondraxu_report report;
+};
+
+/* The same of a row: its report is that of the writes together, with each notice once. */
+struct wondraxu_row_answer {
+    struct wondraxu_core core;
+    struct wondraxu_row reply;
     struct wondraxu_report report;
 };
 
@@ -221,6 +236,12 @@ struct wondraxu_answer wondraxu_read(struct wondraxu_core core, const uint64_t *
 struct wondraxu_answer wondraxu_write(struct wondraxu_core core, uint64_t *gone_at, uint8_t *flight, uint8_t *tx,
                                       const uint8_t *host, const uint64_t *run_at, uint64_t *run_len, uint8_t *rx,
                                       uint64_t cycle, uint32_t offset, uint32_t value);
+
+/* count bytes written to FIFO one after another: as so many writes at this cycle, up to the first one that would be refused, and
+ * 1,152 at most. Requires the state, the pointers and the buffer bytes, which is only read. Number 4, of a byte or more. */
+struct wondraxu_row_answer wondraxu_write_row(struct wondraxu_core core, uint64_t *gone_at, uint8_t *flight, uint8_t *tx,
+                                              const uint8_t *host, const uint64_t *run_at, uint64_t *run_len, uint8_t *rx,
+                                              uint64_t cycle, const uint8_t *bytes, size_t count);
 
 /* The cycle of the wake that was armed has come. Requires the state and the pointers. */
 struct wondraxu_answer wondraxu_wake(struct wondraxu_core core, const uint64_t *gone_at, const uint8_t *flight, uint8_t *tx,
@@ -312,6 +333,17 @@ static inline struct wondraxu_answer wondraxu_uart_write(struct wondraxu_uart *u
     struct wondraxu_slots *s = &u->slots;
     return wondraxu_uart_kept(u, wondraxu_write(u->core, s->gone_at, s->flight, s->tx, s->host, s->run_at, s->run_len,
                                                 s->rx, now, offset, value));
+}
+
+static inline struct wondraxu_row_answer wondraxu_uart_write_row(struct wondraxu_uart *u, uint64_t now, const uint8_t *bytes,
+                                                                 size_t count)
+{
+    struct wondraxu_slots *s = &u->slots;
+    struct wondraxu_row_answer answer = wondraxu_write_row(u->core, s->gone_at, s->flight, s->tx, s->host, s->run_at,
+                                                           s->run_len, s->rx, now, bytes, count);
+    if (answer.reply.number == WONDRAXU_DONE)
+        u->core = answer.core;
+    return answer;
 }
 
 static inline struct wondraxu_answer wondraxu_uart_wake(struct wondraxu_uart *u, uint64_t now)

@@ -9,7 +9,8 @@
 //!   only set-up and these functions write them.
 //! - that the pointers are to as many slots as the call reads: the types of the arrays say it.
 //! - that the `bool`s in what comes back are 0 or 1: the library writes them so.
-use crate::plain::{PlainAnswer, PlainCore, PlainNew, PlainReply, Sixteen, Slots, FLIGHT, HOST, LEFT, RECEIVED, RUNS};
+use crate::plain::{PlainAnswer, PlainCore, PlainNew, PlainReply, PlainRowAnswer, Sixteen, Slots};
+use crate::plain::{FLIGHT, HOST, LEFT, RECEIVED, RUNS};
 
 type GoneAt = [u64; FLIGHT];
 type Flight = [u8; FLIGHT];
@@ -23,6 +24,7 @@ extern "C" {
     fn wondraxu_new(offsets: Sixteen, resets: Sixteen) -> PlainNew;
     fn wondraxu_read(core: PlainCore, gone_at: &GoneAt, flight: &Flight, tx: &mut Left, host: &Host, run_at: &Runs, run_len: &mut Runs, rx: &mut Received, cycle: u64, offset: u32) -> PlainAnswer;
     fn wondraxu_write(core: PlainCore, gone_at: &mut GoneAt, flight: &mut Flight, tx: &mut Left, host: &Host, run_at: &Runs, run_len: &mut Runs, rx: &mut Received, cycle: u64, offset: u32, value: u32) -> PlainAnswer;
+    fn wondraxu_write_row(core: PlainCore, gone_at: &mut GoneAt, flight: &mut Flight, tx: &mut Left, host: &Host, run_at: &Runs, run_len: &mut Runs, rx: &mut Received, cycle: u64, bytes: *const u8, count: usize) -> PlainRowAnswer;
     fn wondraxu_wake(core: PlainCore, gone_at: &GoneAt, flight: &Flight, tx: &mut Left, host: &Host, run_at: &Runs, run_len: &mut Runs, rx: &mut Received, cycle: u64) -> PlainAnswer;
     fn wondraxu_reset(core: PlainCore, gone_at: &GoneAt, flight: &Flight, tx: &mut Left, host: &Host, run_at: &Runs, run_len: &mut Runs, rx: &mut Received, cycle: u64) -> PlainAnswer;
     fn wondraxu_clock_change(core: PlainCore, gone_at: &GoneAt, flight: &Flight, tx: &mut Left, host: &Host, run_at: &Runs, run_len: &mut Runs, rx: &mut Received, cycle: u64, period: u64) -> PlainAnswer;
@@ -33,13 +35,13 @@ extern "C" {
     fn wondraxu_power_down(core: PlainCore, gone_at: &GoneAt, flight: &Flight, tx: &Left, host: &Host, run_at: &Runs, run_len: &Runs, rx: &Received, cycle: u64) -> PlainAnswer;
     fn wondraxu_has_left(core: PlainCore) -> PlainReply;
     fn wondraxu_host_pending(core: PlainCore) -> PlainReply;
-    fn wondraxu_abi_2() -> u32;
+    fn wondraxu_abi_3() -> u32;
 }
 
 /// A program needs the library of the version that these declarations are of, or does not link: the structs of another one
 /// may have other places. The number goes up with every change of a struct or a call that crosses (`c/versions`).
 #[used]
-static VERSION: unsafe extern "C" fn() -> u32 = wondraxu_abi_2;
+static VERSION: unsafe extern "C" fn() -> u32 = wondraxu_abi_3;
 
 /// Nothing is required: a repeated offset is refused.
 #[inline]
@@ -83,6 +85,26 @@ pub(crate) fn write(core: &PlainCore, s: &mut Slots, cycle: u64, offset: u32, va
             cycle,
             offset,
             value,
+        )
+    }
+}
+
+#[inline]
+pub(crate) fn write_row(core: &PlainCore, s: &mut Slots, cycle: u64, bytes: &[u8]) -> PlainRowAnswer {
+    // SAFETY: the state is `Uart`'s own; each array is lent once; pointer and count are one slice's, which is only read.
+    unsafe {
+        wondraxu_write_row(
+            *core,
+            &mut s.gone_at,
+            &mut s.flight,
+            &mut s.tx,
+            &s.host,
+            &s.run_at,
+            &mut s.run_len,
+            &mut s.rx,
+            cycle,
+            bytes.as_ptr(),
+            bytes.len(),
         )
     }
 }

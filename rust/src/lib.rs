@@ -16,7 +16,7 @@ mod tests;
 struct Readme;
 
 pub use refusal::Refusal;
-pub use report::{Feature, Notice, Report};
+pub use report::{Feature, Notice, Report, Row};
 
 use plain::{PlainAnswer, PlainCore, PlainReply, Slots, LEFT};
 use std::fmt;
@@ -76,6 +76,19 @@ impl Uart {
     pub fn write(&mut self, now: u64, offset: u32, value: u32) -> Answered<bool> {
         let answer = calls::write(&self.core, &mut self.slots, now, offset, value);
         self.done(&answer, |reply| reply.holds)
+    }
+
+    /// Bytes written to FIFO one after another at one cycle: as so many calls of [`Uart::write`], up to the first one that would be
+    /// refused, and 1,152 bytes at most.
+    ///
+    /// # Errors
+    /// A date past the end, or before the last one; one byte or more, with the transmit side full.
+    #[inline]
+    pub fn write_row(&mut self, now: u64, bytes: &[u8]) -> Result<Row, Refusal> {
+        let answer = calls::write_row(&self.core, &mut self.slots, now, bytes);
+        Refusal::of(answer.reply.number)?;
+        self.core = answer.core;
+        Ok(Row::of(&answer.reply, answer.report))
     }
 
     /// The host hands over bytes, which start on the line at cycle `at` at the earliest.

@@ -88,6 +88,15 @@ pub(crate) struct PlainReply {
 
 #[repr(C)]
 #[derive(Clone, Copy, Debug, PartialEq, Eq)]
+pub(crate) struct PlainRow {
+    pub number: u32,
+    pub made: u64,
+    pub first: u64,
+    pub second: u64,
+}
+
+#[repr(C)]
+#[derive(Clone, Copy, Debug, PartialEq, Eq)]
 pub(crate) struct PlainNotice {
     pub what: u32,
     pub which: u32,
@@ -109,6 +118,14 @@ pub(crate) struct PlainReport {
 pub(crate) struct PlainAnswer {
     pub core: PlainCore,
     pub reply: PlainReply,
+    pub report: PlainReport,
+}
+
+#[repr(C)]
+#[derive(Clone, Copy)]
+pub(crate) struct PlainRowAnswer {
+    pub core: PlainCore,
+    pub reply: PlainRow,
     pub report: PlainReport,
 }
 

@@ -1,5 +1,5 @@
 //! What a dated call answers beside its own result.
-use crate::plain::{PlainNotice, PlainReport};
+use crate::plain::{PlainNotice, PlainReport, PlainRow};
 use std::fmt;
 
 /// The modes that the model refuses by name: diag.rs's `UartFeature`.
@@ -105,6 +105,69 @@ impl Report {
 impl fmt::Debug for Report {
     fn fmt(&self, f: &mut fmt::Formatter<'_>) -> fmt::Result {
         f.debug_struct("Report")
+            .field("level", &self.level())
+            .field("wake", &self.wake())
+            .field("overflows", &self.overflows())
+            .field("passes", &self.passes())
+            .field("notices", &self.notices().collect::<Vec<_>>())
+            .finish()
+    }
+}
+
+/// What [`crate::Uart::write_row`] answers: how many bytes were written, and the report of those writes together.
+#[derive(Clone, Copy, PartialEq, Eq)]
+pub struct Row {
+    made: usize,
+    times: [u64; 2],
+    report: Report,
+}
+
+impl Row {
+    #[inline]
+    pub(crate) fn of(reply: &PlainRow, report: PlainReport) -> Row {
+        Row { made: reply.made as usize, times: [reply.first, reply.second], report: Report(report) }
+    }
+
+    /// How many bytes of the row were written, those among them that a full FIFO dropped. The rest is to be given again.
+    #[must_use]
+    pub fn made(&self) -> usize {
+        self.made
+    }
+
+    /// The interrupt level after the last write.
+    #[must_use]
+    pub fn level(&self) -> bool {
+        self.report.level()
+    }
+
+    /// The cycle at which the UART wants [`crate::Uart::wake`] next, if one is armed. It may be past.
+    #[must_use]
+    pub fn wake(&self) -> Option<u64> {
+        self.report.wake()
+    }
+
+    /// The received bytes that were lost in this call because 128 were held.
+    #[must_use]
+    pub fn overflows(&self) -> u64 {
+        self.report.overflows()
+    }
+
+    /// The passes that settling made, over all writes.
+    #[must_use]
+    pub fn passes(&self) -> u64 {
+        self.report.passes()
+    }
+
+    /// Each notice of the writes once, with how many of them noted it: two at most.
+    pub fn notices(&self) -> impl Iterator<Item = (Notice, u64)> + '_ {
+        self.report.notices().zip(self.times)
+    }
+}
+
+impl fmt::Debug for Row {
+    fn fmt(&self, f: &mut fmt::Formatter<'_>) -> fmt::Result {
+        f.debug_struct("Row")
+            .field("made", &self.made())
             .field("level", &self.level())
             .field("wake", &self.wake())
             .field("overflows", &self.overflows())

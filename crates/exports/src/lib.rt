@@ -13,3 +13,4 @@ pub mod version;
 pub mod wake;
 pub mod watch;
 pub mod write;
+pub mod write_row;

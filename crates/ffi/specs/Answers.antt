@@ -8,8 +8,12 @@ use Rattle.device.specs.Holds.{Arrays, Ok}
 use Rattle.ffi.specs.Plain.{coreOf, plainCore}
 use Rattle.ffi.specs.declared.PlainCore.{PlainCore}
 use Rattle.ffi.specs.Replies.{plainReport}
+use Rattle.model.specs.declared.Row.{Row}
+use Rattle.ffi.specs.Replies.{plainRow}
 use Rattle.ffi.specs.declared.results.PlainReply.{PlainReply}
+use Rattle.ffi.specs.declared.results.PlainRow.{PlainRow}
 use Rattle.ffi.specs.declared.answers.PlainAnswer.{PlainAnswer}
+use Rattle.ffi.specs.declared.answers.PlainRowAnswer.{PlainRowAnswer}
 
 abbrev pub plainAnswer : Core → PlainReply → Report → PlainAnswer
 plainAnswer c reply report = record { core = plainCore c; reply = reply; report = plainReport report }
@@ -31,6 +35,28 @@ pub plainly : {R : Type 0} {plain : R → PlainReply} (Meets : Core → Core →
     {report : Report}
     {r : PlainAnswer} → c ≡ coreOf p → Meets c c′ reply report → r ≡ plainAnswer c′ (plain reply) report → Plainly plain Meets p r
 plainly {R} {plain} Meets {p} {c} {c′} {reply} {report} {r} e m s = record {
+  core = c′;
+  reply = reply;
+  report = report;
+  meets = subst (λ (x : Core). Meets x c′ reply report) e m;
+  same = s;
+}
+
+-- ---- a row, whose reply has numbers of its own
+
+abbrev pub plainRowAnswer : Core → PlainRow → Report → PlainRowAnswer
+plainRowAnswer c reply report = record { core = plainCore c; reply = reply; report = plainReport report }
+
+pub record PlainlyRow (Meets : Core → Core → Row → Report → Type 0) (p : PlainCore) (r : PlainRowAnswer) : Type 0 where
+  pub core : Core
+  pub reply : Row
+  pub report : Report
+  pub meets : Meets (coreOf p) core reply report
+  pub same : r ≡ plainRowAnswer core (plainRow reply) report
+
+pub plainly-row : (Meets : Core → Core → Row → Report → Type 0) {p : PlainCore} {c c′ : Core} {reply : Row} {report : Report}
+    {r : PlainRowAnswer} → c ≡ coreOf p → Meets c c′ reply report → r ≡ plainRowAnswer c′ (plainRow reply) report → PlainlyRow Meets p r
+plainly-row Meets {p} {c} {c′} {reply} {report} {r} e m s = record {
   core = c′;
   reply = reply;
   report = report;

@@ -9,12 +9,14 @@ use Rattle.model.specs.declared.Read.{Read}
 use Rattle.model.specs.declared.Write.{Write}
 use Rattle.model.specs.declared.Done.{Done}
 use Rattle.model.specs.declared.Taken.{Taken}
+use Rattle.model.specs.declared.Row.{Row}
 use Rattle.calls.specs.declared.queries.HasLeft.{HasLeft}
 use Rattle.calls.specs.declared.queries.HostPending.{HostPending}
 use Rattle.ffi.specs.Plain.{plainDate}
 use Rattle.ffi.specs.Notes.{plainNotices}
 use Rattle.ffi.specs.declared.results.PlainReply.{PlainReply}
 use Rattle.ffi.specs.declared.results.PlainReport.{PlainReport}
+use Rattle.ffi.specs.declared.results.PlainRow.{PlainRow}
 
 abbrev pub refusedReply : Refusal → PlainReply
 refusedReply r = record { number = number r; holds = false; value = 0 }
@@ -43,6 +45,10 @@ plainDone (Done.Refused r) = refusedReply r
 unfoldable pub plainTaken : Taken → PlainReply
 plainTaken (Taken.Bytes n) = carriedOut true n
 plainTaken (Taken.Refused r) = refusedReply r
+
+unfoldable pub plainRow : Row → PlainRow
+plainRow (Row.Made m) = record { number = 0; made = m .count; first = m .first; second = m .second }
+plainRow (Row.Refused r) = record { number = number r; made = 0; first = 0; second = 0 }
 
 -- has_left and host_pending bring their number with them
 abbrev pub plainLeft : HasLeft → PlainReply

@@ -2,20 +2,30 @@
 use crate::PlainCore;
 use crate::results::PlainReply;
 use crate::results::PlainReport;
+use crate::results::PlainRow;
 use access::read::ReadCore;
+use access::row::RowCore;
 use access::write::WriteCore;
 use calls::answers::DoneCore;
 use device::Core;
 use host::answers::TakeCore;
 use model::Report;
 ghost use mathlib.Core.Path.{_≡_};
-ghost use Rattle.ffi.specs.Replies.{plainRead, plainWrite, plainDone, plainTaken};
-ghost use Rattle.ffi.specs.Answers.{plainAnswer};
+ghost use Rattle.ffi.specs.Replies.{plainRead, plainWrite, plainDone, plainTaken, plainRow};
+ghost use Rattle.ffi.specs.Answers.{plainAnswer, plainRowAnswer};
 
 #[repr(C)]
 pub struct PlainAnswer {
     pub core: PlainCore,
     pub reply: PlainReply,
+    pub report: PlainReport,
+}
+
+// That of a row.
+#[repr(C)]
+pub struct PlainRowAnswer {
+    pub core: PlainCore,
+    pub reply: PlainRow,
     pub report: PlainReport,
 }
 
@@ -61,4 +71,18 @@ pub fn taken_answer(done: TakeCore) -> PlainAnswer
     let reply = done.reply;
     let plain_reply = crate::results::taken_reply(reply);
     answer(done.core, plain_reply, done.report)
+}
+
+pub fn row_answer(done: RowCore) -> PlainRowAnswer
+    ensures { λ r. ⌜ r ≡ plainRowAnswer (done .core) (plainRow (done .reply)) (done .report) ⌝ }
+{
+    let row = done.reply;
+    let plain_row = crate::results::row_reply(row);
+    let core = crate::plain_core(done.core);
+    let report = crate::results::plain_report(done.report);
+    PlainRowAnswer {
+        core,
+        reply: plain_row,
+        report,
+    }
 }

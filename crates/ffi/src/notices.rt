@@ -3,7 +3,8 @@ use model::Feature;
 use model::Notice;
 use model::Unsupported;
 ghost use mathlib.Core.Path.{_≡_};
-ghost use Rattle.ffi.specs.Notes.{modeNumber, plainUnsupported, plainNotices, plainAll};
+ghost use Rattle.model.specs.Replies.{modeNumber};
+ghost use Rattle.ffi.specs.Notes.{plainUnsupported, plainNotices, plainAll};
 
 #[repr(C)]
 pub struct PlainNotice {

@@ -8,12 +8,13 @@ use model::Done;
 use model::Read;
 use model::Refusal;
 use model::Report;
+use model::Row;
 use model::SetUp;
 use model::Taken;
 use model::Write;
 use replies::refusals::number_of;
 ghost use mathlib.Core.Path.{_≡_};
-ghost use Rattle.ffi.specs.Replies.{plainSetUp, plainRead, plainWrite, plainDone, plainTaken, plainLeft, plainPending};
+ghost use Rattle.ffi.specs.Replies.{plainSetUp, plainRead, plainWrite, plainDone, plainTaken, plainLeft, plainPending, plainRow};
 ghost use Rattle.ffi.specs.Replies.{refusedReply, carriedOut, plainReport};
 
 #[repr(C)]
@@ -24,6 +25,18 @@ pub struct PlainReply {
     pub holds: bool,
     // read: the value. take_tx, take_written and host_pending: how many bytes. Every other call: 0.
     pub value: u64,
+}
+
+// The reply of a row.
+#[repr(C)]
+pub struct PlainRow {
+    // 0 for done, or document 01's number of a refusal.
+    pub number: u32,
+    // How many of the bytes were written.
+    pub made: u64,
+    // How often the first notice of the report came, and the second.
+    pub first: u64,
+    pub second: u64,
 }
 
 // The report of a dated call; that of a refused or an undated one is fixed, with nothing in it.
@@ -103,6 +116,25 @@ pub fn taken_reply(reply: Taken) -> PlainReply
     match reply {
         Taken::Bytes(count) => carried_out(true, count as u64),
         Taken::Refused(refusal) => refusal_reply(refusal),
+    }
+}
+
+pub fn row_reply(reply: Row) -> PlainRow
+    ensures { λ r. ⌜ r ≡ plainRow reply ⌝ }
+{
+    match reply {
+        Row::Made(made) => PlainRow {
+            number: 0,
+            made: made.count as u64,
+            first: made.first,
+            second: made.second,
+        },
+        Row::Refused(refusal) => PlainRow {
+            number: number_of(refusal),
+            made: 0,
+            first: 0,
+            second: 0,
+        },
     }
 }
 

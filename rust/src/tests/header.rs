@@ -14,6 +14,7 @@ fn in_c(name: &str, of: &str) -> String {
         "bool" => "bool ",
         "PlainCore" => "struct wondraxu_core ",
         "PlainAnswer" => "struct wondraxu_answer ",
+        "PlainRowAnswer" => "struct wondraxu_row_answer ",
         "PlainReply" => "struct wondraxu_reply ",
         "PlainNew" => "struct wondraxu_set_up ",
         "Sixteen" => "struct wondraxu_sixteen ",

@@ -1,7 +1,7 @@
 //! Sizes and offsets as Rust has them, in the form of rust/c/layout.c: both are held to rust/c/layout.out.
 use crate::plain::{
-    Cursor, PlainAnswer, PlainCore, PlainDate, PlainNew, PlainNotice, PlainReply, PlainReport, RegisterMap, Sixteen,
-    Slots, Words,
+    Cursor, PlainAnswer, PlainCore, PlainDate, PlainNew, PlainNotice, PlainReply, PlainReport, PlainRow,
+    PlainRowAnswer, RegisterMap, Sixteen, Slots, Words,
 };
 use crate::Uart;
 use core::mem::{offset_of, size_of};
@@ -27,9 +27,11 @@ fn placed() -> String {
         lines!("date", PlainDate { set, at }),
         core(),
         lines!("reply", PlainReply { number, holds, value }),
+        lines!("row", PlainRow { number, made, first, second }),
         lines!("notice", PlainNotice { what, which }),
         lines!("report", PlainReport { level, wake, overflows, passes, noted, notices }),
         lines!("answer", PlainAnswer { core, reply, report }),
+        lines!("row_answer", PlainRowAnswer { core, reply, report }),
         lines!("sixteen", Sixteen { words }),
         lines!("set_up", PlainNew { core, reply }),
         lines!("slots", Slots { gone_at, flight, tx, host, run_at, run_len, rx }),

@@ -5,6 +5,7 @@ mod header;
 mod layout;
 mod notices;
 mod refusals;
+mod rows;
 
 use crate::plain::{Cursor, PlainCore};
 use crate::{Answered, Report, Uart};
@@ -12,6 +13,7 @@ use crate::{Answered, Report, Uart};
 pub(crate) const FIFO: u32 = 0;
 pub(crate) const INT_RAW: u32 = 4;
 pub(crate) const INT_ENA: u32 = 12;
+pub(crate) const CLKDIV: u32 = 20;
 pub(crate) const STATUS: u32 = 24;
 pub(crate) const CONF0: u32 = 32;
 pub(crate) const CONF1: u32 = 36;

@@ -16,9 +16,10 @@ const LATER: u64 = 1_000_000;
 
 type Method = fn(&mut Uart, &mut [u8], u64);
 
-const METHODS: [(&str, Method); 12] = [
+const METHODS: [(&str, Method); 13] = [
     ("read", |uart, _, now| every_offset(|offset| made(uart.read(now, offset)))),
     ("write", |uart, _, now| every_offset(|offset| made(uart.write(now, offset, 0x0849_C10C)))),
+    ("write_row", |uart, out, now| made(uart.write_row(now, &out[..96]))),
     ("receive", |uart, out, now| made(uart.receive(now, now, &out[..16]))),
     ("wake", |uart, _, now| made(uart.wake(now))),
     ("watch", |uart, _, now| made(uart.watch(now, true))),
