@@ -1,4 +1,4 @@
--- A call as a caller makes it, and its whole answer. Assumes nothing.
+-- A call as a caller makes it, a row, and the whole answer. Assumes nothing.
 use Prim.Native.Nat.{ℕ}
 use mathlib.Core.Bool.{Bool}
 use mathlib.Core.Option.{Option, none, some}
@@ -7,6 +7,7 @@ use Rattle.model.specs.Replies.{ReadOf, Take}
 use Rattle.model.specs.declared.Write.{Write}
 use Rattle.model.specs.declared.Done.{Done}
 use Rattle.model.specs.declared.Report.{Report}
+use Rattle.model.specs.declared.Row.{Row}
 
 -- what the machine around the UART does
 pub data Machine : Type 0 where
@@ -57,6 +58,18 @@ pub record Written : Type 0 where
 abbrev pub Request : Type 0
 Request = Call ℕ Written ℕ ℕ
 
+-- what is asked of a UART: a call C, or a row of bytes W, written to FIFO at a cycle now
+pub data Asked (C W : Type 0) : Type 0 where
+  call : C → Asked C W
+  row : ℕ → List W → Asked C W
+
+abbrev pub Ask : Type 0
+Ask = Asked Request ℕ
+
+unfoldable pub askedDate : Ask → Option ℕ
+askedDate (Asked.call c) = dateOf c
+askedDate (Asked.row now bs) = some now
+
 -- the own result of a call
 pub data Reply (H W L : Type 0) : Type 0 where
   reads : ReadOf H → Reply H W L
@@ -65,6 +78,7 @@ pub data Reply (H W L : Type 0) : Type 0 where
   takes : Take W L → Reply H W L
   left : Bool → Reply H W L
   pends : ℕ → Reply H W L
+  rows : Row → Reply H W L
 
 pub record Answer (H W L : Type 0) : Type 0 where
   pub reply : Reply H W L

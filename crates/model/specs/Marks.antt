@@ -31,8 +31,8 @@ use Rattle.model.specs.Calls.{dated, refusing, unless, afterSettling, ca
 use Rattle.model.specs.Calls.{writePlaced, send, handOver, writeAt}
 use Rattle.model.specs.Calls
 use Rattle.model.specs.SetUp.{wordsAmong, mapOf, newControl, new}
-use Rattle.model.specs.Call.{wake, Dated, receive, machine, at, dateOf, Request, Reply, reads, writes, does}
-use Rattle.model.specs.Run.{numberOf, stepped, replying, planBy, writing, plan, step, run}
+use Rattle.model.specs.Call.{wake, Dated, receive, machine, Call, dateOf, Written, Asked, Ask, Reply, reads, writes, does}
+use Rattle.model.specs.Run.{numberOf, stepped, replying, planBy, writing, plan, step, askedBy, runBy, asked, run}
 use Rattle.model.specs.declared.Date.{Date}
 use Rattle.model.specs.declared.Date.the-variants.{At}
 use Rattle.model.specs.declared.Unsupported.{Unsupported}
@@ -53,23 +53,26 @@ bench = new (map offset registers) benchWords
 
 -- ---- what calls on the bench answer, call by call
 
-abbrev pub read : ℕ → Register → Request
+abbrev pub at : ℕ → Dated ℕ Written ℕ ℕ → Ask
+at now c = Asked.call (Call.at now c)
+
+abbrev pub read : ℕ → Register → Ask
 read now r = at now (Dated.read (offset r))
 
-abbrev pub write : ℕ → Register → ℕ → Request
+abbrev pub write : ℕ → Register → ℕ → Ask
 write now r v = at now (Dated.write (record { offset = offset r; value = v }))
 
 abbrev pub value : ℕ → Reply ℕ ℕ ℕ
 value n = reads (word n)
 
-abbrev pub replies : List Request → List (Reply ℕ ℕ ℕ)
+abbrev pub replies : List Ask → List (Reply ℕ ℕ ℕ)
 replies cs = map (λ a. a .reply) (run cs bench)
 
 -- with the notices of each, and with the wake that it leaves
-abbrev pub noted : List Request → List (Reply ℕ ℕ ℕ × List Unsupported)
+abbrev pub noted : List Ask → List (Reply ℕ ℕ ℕ × List Unsupported)
 noted cs = map (λ a. (a .reply, map (λ n. n .what) (take (a .report .noted) (a .report .notices)))) (run cs bench)
 
-abbrev pub wakes : List Request → List (Reply ℕ ℕ ℕ × Date)
+abbrev pub wakes : List Ask → List (Reply ℕ ℕ ℕ × Date)
 wakes cs = map (λ a. (a .reply, a .report .wake)) (run cs bench)
 
 -- ---- the rows
@@ -80,7 +83,7 @@ Hold [] = Unit {0}
 Hold (row ∷ rows) = row × Hold rows
 
 -- P7's calls: the timeout enabled, and a byte received at 100
-unfoldable pub p7 : List Request
+unfoldable pub p7 : List Ask
 p7 = write 0 (stored conf1) 0x20C060 ∷ at 100 (receive 100 (0x55 ∷ [])) ∷ []
 
 unfoldable pub marks : List (Type 0)
@@ -114,7 +117,7 @@ marks =
     ∷ read 40740 (shown intRaw) ∷ []) ≡ does Done ∷ value 96 ∷ value 2 ∷ value 97 ∷ value 3 ∷ [])
     ∷ (map (λ a. a .report .passes) (run (at 0 (receive 0 (replicate 97 7)) ∷ read 40740 (shown status) ∷ []) bench) ≡ 1 ∷ 98 ∷ [])
     -- P10: the host queue's last free byte
-    ∷ (map (λ n. numberOf (step (at 0 (receive 0 (replicate n 7))) bench .answer .reply)) (1024 ∷ 1025 ∷ []) ≡ 0 ∷ 5 ∷ [])
+    ∷ (map (λ n. numberOf (asked (at 0 (receive 0 (replicate n 7))) bench .answer .reply)) (1024 ∷ 1025 ∷ []) ≡ 0 ∷ 5 ∷ [])
     ∷ []
 
 pub marks-hold : Hold marks
@@ -129,5 +132,5 @@ unfolding benchWords bench Hold p7 marks choose dueBy instantOf onlyIf earliest 
     writeRegister concluded among repeated transmitFull hostFull runsFull refuseIf refuseDate
     refusing unless afterSettling carried outcome joined lastDate hostDate dated quiet readPlaced writePlaced send handOver Calls.receive
     Calls.machine writeAt Calls.read Calls.write wordsAmong mapOf newControl new numberOf dateOf stepped replying planBy writing plan step
-    run
+    askedBy runBy
 marks-hold = (refl, (refl, (refl, (refl, (refl, (refl, (refl, (refl, (refl, (refl, (refl, (refl, (refl, tt)))))))))))))

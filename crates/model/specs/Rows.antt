@@ -6,4 +6,6 @@ pub mod First
 pub mod Within
 pub mod Calls
 pub mod Counts
+pub mod Notices
+pub mod Settlings
 pub mod Marks

@@ -1,4 +1,4 @@
--- One call, and a whole list of calls, each with the state as the one before left it. Assumes nothing.
+-- One call or row, and a whole list of them, each with the state as the one before left it. Assumes nothing.
 use Prim.Native.Nat.{ℕ}
 use mathlib.Core.List.{List, [], _∷_, _++_}
 use Rattle.model.specs.State.{Uart}
@@ -7,8 +7,9 @@ use Rattle.model.specs.Replies.{ReadOf, readNumber, writeNumber, doneNum
 use Rattle.model.specs.Calls
 use Rattle.model.specs.Registers.{gives}
 use Rattle.model.specs.Calls.{Outcome, Plan, outcome}
-use Rattle.model.specs.Call.{Dated, Undated, Call, dateOf, Written, Request, Reply, reads, writes, does, takes, left, pends}
-use Rattle.model.specs.Call.{Answer}
+use Rattle.model.specs.Call.{Dated, Undated, Call, dateOf, Written, Request, Reply, reads, writes, does, takes, left, pends, rows}
+use Rattle.model.specs.Call.{Asked, Ask, Answer}
+use Rattle.model.specs.Row.{rowNumber, row}
 use Rattle.model.specs.declared.Write.{Write}
 
 -- document 01's number of an answer, 0 for done; no test refuses has_left or host_pending
@@ -19,6 +20,7 @@ numberOf (does r) = doneNumber r
 numberOf (takes t) = takenNumber (t .taken)
 numberOf (left b) = 0
 numberOf (pends n) = 0
+numberOf (rows r) = rowNumber r
 
 pub record Step (H W L : Type 0) : Type 0 where
   pub answer : Answer H W L
@@ -27,6 +29,11 @@ pub record Step (H W L : Type 0) : Type 0 where
 
 unfoldable pub stepped : {H W L : Type 0} → Outcome (Reply H W L) H W → Step H W L
 stepped o = record { answer = record { reply = o .reply; report = o .report }; state = o .state; events = o .events }
+
+-- the same, of an outcome whose own result is turned into a reply
+unfoldable pub answering : {R H W L : Type 0} → (R → Reply H W L) → Outcome R H W → Step H W L
+answering as-reply o =
+    record { answer = record { reply = as-reply (o .reply); report = o .report }; state = o .state; events = o .events }
 
 -- the same call, its own result as a reply
 unfoldable pub replying : {R H W L : Type 0} → (R → Reply H W L) → Plan R H W → Plan (Reply H W L) H W
@@ -59,12 +66,23 @@ plan c u = planBy Calls.read writing c u
 unfoldable pub step : Request → Uart ℕ ℕ → Step ℕ ℕ ℕ
 step c u = stepped (outcome (dateOf c) (plan c u) u)
 
--- all answers of a list of calls
-unfoldable pub run : List Request → Uart ℕ ℕ → List (Answer ℕ ℕ ℕ)
-run [] u = []
-run (c ∷ cs) u = step c u .answer ∷ run cs (step c u .state)
+-- what is asked for, given what a call does
+unfoldable pub askedBy : {C H W L : Type 0} → (C → Uart H W → Step H W L) → Asked C W → Uart H W → Step H W L
+askedBy does-call (Asked.call c) u = does-call c u
+askedBy does-call (Asked.row now bs) u = answering rows (row now bs u)
 
--- what was found in a run, in order, call by call
-unfoldable pub history : List Request → Uart ℕ ℕ → List (Event ℕ ℕ)
+-- all answers of a list of it
+unfoldable pub runBy : {C H W L : Type 0} → (C → Uart H W → Step H W L) → List (Asked C W) → Uart H W → List (Answer H W L)
+runBy does-call [] u = []
+runBy does-call (a ∷ cs) u = askedBy does-call a u .answer ∷ runBy does-call cs (askedBy does-call a u .state)
+
+abbrev pub asked : Ask → Uart ℕ ℕ → Step ℕ ℕ ℕ
+asked a u = askedBy step a u
+
+abbrev pub run : List Ask → Uart ℕ ℕ → List (Answer ℕ ℕ ℕ)
+run cs u = runBy step cs u
+
+-- what was found in a run, in order
+unfoldable pub history : List Ask → Uart ℕ ℕ → List (Event ℕ ℕ)
 history [] u = []
-history (c ∷ cs) u = step c u .events ++ history cs (step c u .state)
+history (a ∷ cs) u = asked a u .events ++ history cs (asked a u .state)

@@ -7,6 +7,7 @@ pub mod Natural
 pub mod Placed
 pub mod MapKept
 pub mod NaturalCalls
+pub mod NaturalRuns
 pub mod Numbering
 pub mod Bounds
 pub mod Shapes

@@ -5,7 +5,7 @@ use mathlib.Core.List.{List, map}
 use Rattle.dates.specs.Dates
 use Rattle.model.specs.State.{Uart, lineOf, lineBytes}
 use Rattle.model.specs.Map.{Word, valueOf}
-use Rattle.model.specs.Call.{given, Request}
+use Rattle.model.specs.Call.{given, Request, Asked, Ask}
 use Rattle.model.specs.Limits.{All, NoLater}
 
 abbrev pub Word32 : ℕ → Type 0
@@ -31,3 +31,8 @@ pub record Widths (u : Uart ℕ ℕ) : Type 0 where
 -- the same of what a call gives: words written, and host bytes
 abbrev pub Given : Request → Type 0
 Given c = All (λ x. Word32 (x .value)) (given c .1) × Bytes (given c .0)
+
+-- and of a row, its bytes
+abbrev pub AskedGiven : Ask → Type 0
+AskedGiven (Asked.call c) = Given c
+AskedGiven (Asked.row now bs) = Bytes bs

@@ -12,7 +12,7 @@ use Rattle.model.specs.SetUp.{new}
 use Rattle.model.specs.Call.{Undated, Call, Request, Reply}
 use Rattle.model.specs.Calls.{Outcome, unless, carried, outcome, quiet, hasLeft, hostPending}
 use Rattle.model.specs.Run.{Step, step}
-use Rattle.model.specs.Laws.Plans.{answering}
+use Rattle.model.specs.Run.{answering}
 use Rattle.model.specs.Laws.StepCases.{step-cases}
 use Rattle.model.specs.declared.Refusal.{Refusal}
 use Rattle.model.specs.declared.Report.{Report}

@@ -1,4 +1,4 @@
--- Set-up gives a state within the limits, one call keeps it so, and so does every list of calls. Assumes nothing.
+-- Set-up gives a state within the limits, one call or row keeps it so, and so does every list of them. Assumes nothing.
 use mathlib.Core.Path.{_≡_, refl, sym, ap, subst, _∙_}
 use Prim.Native.Nat.{ℕ, zero, suc, _/_, _^_, _<_}
 use native.Mathlib.Omega.{arith}
@@ -16,14 +16,15 @@ use Rattle.model.specs.Tests.{repeated}
 use Rattle.model.specs.Calls
 use Rattle.model.specs.Calls.{Plan, outcome}
 use Rattle.model.specs.SetUp.{fifoCounts, mapOf, newControl, new}
-use Rattle.model.specs.Call.{Machine, Dated, Undated, Call, dateOf, Request, Reply}
-use Rattle.model.specs.Run.{Step, stepped, replying, planBy, writing, plan, step}
+use Rattle.model.specs.Call.{Machine, Dated, Undated, Call, dateOf, Request, Asked, Ask, Reply}
+use Rattle.model.specs.Run.{Step, stepped, answering, replying, planBy, writing, plan, step, askedBy, asked}
 use Rattle.model.specs.Limits.{Chain, All, Within}
-use Rattle.model.specs.Laws.Plans.{answering, replied}
+use Rattle.model.specs.Laws.Plans.{replied}
 use Rattle.model.specs.Keeps.Parts.{together}
 use Rattle.model.specs.Keeps.EachCall.{read-within, write-within, receive-within, wake-within, reset-within, powerDown-within}
 use Rattle.model.specs.Keeps.EachCall.{watch-within, clockChange-within, takeTx-within, takeWritten-within, hasLeft-within}
 use Rattle.model.specs.Keeps.EachCall.{hostPending-within}
+use Rattle.model.specs.Rows.Within.{row-within}
 
 -- ---- set-up
 
@@ -83,20 +84,26 @@ step-within (Call.undated (Undated.takeWritten lent)) u w = replying-within _ _ 
 step-within (Call.undated Undated.hasLeft) u w = replying-within _ _ _ u (hasLeft-within u w)
 step-within (Call.undated Undated.hostPending) u w = replying-within _ _ _ u (hostPending-within u w)
 
--- ---- a list of calls
+-- and so does every row
+pub asked-within : (a : Ask) (u : Uart ℕ ℕ) → Within u → Within (asked a u .state)
+unfolding askedBy answering
+asked-within (Asked.call c) u w = step-within c u w
+asked-within (Asked.row now bs) u w = row-within now bs u w
 
--- the state that a list of calls leaves
-unfoldable pub stateAfter : List Request → Uart ℕ ℕ → Uart ℕ ℕ
+-- ---- a list of them
+
+-- the state that a list leaves
+unfoldable pub stateAfter : List Ask → Uart ℕ ℕ → Uart ℕ ℕ
 stateAfter [] u = u
-stateAfter (c ∷ cs) u = stateAfter cs (step c u .state)
+stateAfter (a ∷ cs) u = stateAfter cs (asked a u .state)
 
--- every state along a list of calls is within the limits
-pub calls-within : (cs : List Request) (u : Uart ℕ ℕ) → Within u → Within (stateAfter cs u)
+-- every state along a list is within the limits
+pub calls-within : (cs : List Ask) (u : Uart ℕ ℕ) → Within u → Within (stateAfter cs u)
 unfolding stateAfter
 calls-within [] u w = w
-calls-within (c ∷ cs) u w = calls-within cs (step c u .state) (step-within c u w)
+calls-within (a ∷ cs) u w = calls-within cs (asked a u .state) (asked-within a u w)
 
 -- from set-up on
-pub reached-within : (offsets ws : List ℕ) (cs : List Request) → length offsets ≡ 16 → repeated offsets ≡ false
+pub reached-within : (offsets ws : List ℕ) (cs : List Ask) → length offsets ≡ 16 → repeated offsets ≡ false
     → Within (stateAfter cs (new offsets ws))
 reached-within offsets ws cs sixteen different = calls-within cs (new offsets ws) (new-within offsets ws sixteen different)

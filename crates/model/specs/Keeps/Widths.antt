@@ -1,4 +1,4 @@
--- Every call keeps the widths of a state. Assumes nothing.
+-- Every call and every row keeps the widths of a state. Assumes nothing.
 use mathlib.Core.Path.{_≡_, refl, sym, ap, ap₂, subst, _∙_}
 use Prim.Native.Nat.{ℕ, zero, suc, _-_, _%_, _^_, _<_}
 use native.Mathlib.Omega.{arith}
@@ -6,7 +6,7 @@ use native.Mathlib.Nat.{min-le-right}
 use mathlib.Core.Bool.{Bool, true, false, decide}
 use mathlib.Core.Option.{Option, none, some}
 use mathlib.Core.List.{List, [], _∷_, map, map-id}
-use lib.ListN.{getD}
+use lib.ListN.{take, getD}
 use lib.Bits.{or-lt, and-le-l}
 use Rattle.dates.specs.Dates
 use Rattle.model.specs.Laws.Lists.{all-head}
@@ -23,24 +23,27 @@ use Rattle.model.specs.Map.{Word, Register, isFifo, registerOf, placeAmo
 use Rattle.model.specs.Registers.{Access, pop, readRegister, readLooking, readAt, sendByte, sent, dropped, resetFifos, storing}
 use Rattle.model.specs.Registers.{clearing, writeRegister, concluded}
 use Rattle.model.specs.Calls
-use Rattle.model.specs.Calls.{afterSettling, carried, quiet, dated, clocked, cleared, clearedLine}
+use Rattle.model.specs.Calls.{Outcome, refusing, afterSettling, carried, outcome, quiet, dated, clocked, cleared, clearedLine}
 use Rattle.model.specs.Calls.{handOver, readPlaced, send, writePlaced}
-use Rattle.model.specs.Call.{Machine, Dated, Undated, Call, dateOf, Written, Request, given}
-use Rattle.model.specs.Run.{Step, stepped, replying, planBy, writing, plan, step}
+use Rattle.model.specs.Call.{Machine, Dated, Undated, Call, dateOf, Written, Request, given, Asked, Ask}
+use Rattle.model.specs.Row.{rowLimit, fifoWrite, writes, leftBy, summed}
+use Rattle.model.specs.Run.{Step, stepped, answering, replying, planBy, writing, plan, askedBy, asked}
 use Rattle.model.specs.SetUp.{wordsAmong, fifoCounts, mapOf, newControl, new}
 use Rattle.model.specs.Limits.{All, nil, cons, NoLater}
-use Rattle.model.specs.Widths.{Word32, Bytes, Given, Widths}
+use Rattle.model.specs.Widths.{Word32, Bytes, Given, AskedGiven, Widths}
 use Rattle.model.specs.Laws.Choose.{choose-ind}
 use Rattle.model.specs.Laws.Cases.{KeptOnLine, passes-ind}
-use Rattle.model.specs.Laws.AccessCases.{write-ind, readRegister-ind, writeRegister-ind}
-use Rattle.model.specs.Refuses.Conditions.{Result, refusal, done}
-use Rattle.model.specs.Refuses.Refusals.{step-result}
+use Rattle.model.specs.Laws.AccessCases.{write-ind, unless-ind, readRegister-ind, writeRegister-ind}
+use Rattle.model.specs.Refuses.Conditions.{carriedOut, Result, refusal, done}
+use Rattle.model.specs.Refuses.Refusals.{asked-result}
 use Rattle.model.specs.Ends.Settlings.{call-changes, settled-all}
 use Rattle.model.specs.TwoRuns.Renamed.{itself}
 use Rattle.model.specs.TwoRuns.Natural.{bytes-nat}
-use Rattle.model.specs.TwoRuns.NaturalCalls.{mapPut, mapPlaced, mapStep, stepPlaced-nat}
-use Rattle.model.specs.TwoRuns.Placed.{Put, changedDated, changedUndated, changed, putAt, placed, stepPlaced, step-placed}
-use Rattle.model.specs.TwoRuns.MapKept.{step-kept}
+use Rattle.model.specs.TwoRuns.NaturalCalls.{mapPut, mapPlaced, mapStep}
+use Rattle.model.specs.TwoRuns.NaturalRuns.{mapAsked, asked-nat}
+use Rattle.model.specs.TwoRuns.Placed.{Put, changedDated, changedUndated, changed, changedAsked, putAt, placed, placedAsked}
+use Rattle.model.specs.TwoRuns.Placed.{stepPlaced}
+use Rattle.model.specs.TwoRuns.MapKept.{asked-kept, asked-placed}
 use Rattle.model.specs.declared.Line.{Line}
 use Rattle.model.specs.declared.Frame.{Frame}
 use Rattle.model.specs.declared.Settings.{Settings}
@@ -48,6 +51,7 @@ use Rattle.model.specs.declared.Fate.{Fate}
 use Rattle.model.specs.declared.Fate.the-variants.{Stored, Overflowed, Cleared, ClockOff, Unheard}
 use Rattle.model.specs.declared.Unsupported.{Unsupported}
 use Rattle.model.specs.declared.Words.{Words}
+use Rattle.model.specs.declared.Write.{Write}
 
 abbrev Words32 : Words → Type 0
 Words32 w = (x : Word) → Word32 (valueOf w x)
@@ -210,13 +214,28 @@ carried-numbers (Call.at now c) u g n =
     (settled-all Numbers now (settle-numbers now) _ _ (withRaw refl refl refl (n .raw) n) (changes-numbers now c u))
 carried-numbers (Call.undated c) u g n = worked-numbers (Call.undated c) u u g n
 
-result-numbers : (c : Request) (u : Uart ℕ ℕ) {s : Step ℕ ℕ ℕ} → Given c → Numbers u → Result c u s → Numbers (s .state)
-unfolding stepped
-result-numbers c u g n (refusal f) = n
-result-numbers c u g n (done all) = carried-numbers c u g n
+-- one write to FIFO, and those of a row
+fifo-numbers : (now b : ℕ) (u : Uart ℕ ℕ) → Numbers u → Numbers (fifoWrite now u b .state)
+unfolding outcome refusing carried afterSettling send concluded dated
+fifo-numbers now b u n =
+    unless-ind (λ (o : Outcome Write ℕ ℕ). Numbers (o .state)) _ _ _ u (λ r. n)
+    (arm-numbers _ (levels-numbers _ (send-numbers now b _ (settle-numbers now _ (withRaw refl refl refl (n .raw) n)))))
 
-step-numbers : (c : Request) (u : Uart ℕ ℕ) → Given c → Numbers u → Numbers (step c u .state)
-step-numbers c u g n = result-numbers c u g n (step-result c u)
+made-numbers : (now : ℕ) (bs : List ℕ) (u : Uart ℕ ℕ) → Numbers u → Numbers (leftBy u (writes now u bs))
+unfolding writes leftBy
+made-numbers now [] u n = n
+made-numbers now (b ∷ bs) u n =
+    choose-ind (λ (os : List (Outcome Write ℕ ℕ)). Numbers (leftBy u os)) _
+    (λ _. made-numbers now bs (fifoWrite now u b .state) (fifo-numbers now b u n)) (λ _. n)
+
+result-numbers : (c : Ask) (u : Uart ℕ ℕ) {s : Step ℕ ℕ ℕ} → AskedGiven c → Numbers u → Result c u s → Numbers (s .state)
+unfolding stepped answering carriedOut summed
+result-numbers c u g n (refusal f) = n
+result-numbers (Asked.call c) u g n (done all) = carried-numbers c u g n
+result-numbers (Asked.row now bs) u g n (done all) = made-numbers now (take rowLimit bs) u n
+
+asked-numbers : (c : Ask) (u : Uart ℕ ℕ) → AskedGiven c → Numbers u → Numbers (asked c u .state)
+asked-numbers c u g n = result-numbers c u g n (asked-result c u)
 
 -- ---- the bytes: a state has bytes alone where cutting each to its low 8 bits changes nothing, and a call looks into none
 
@@ -298,24 +317,29 @@ given-cut offsets (Call.undated (Undated.takeWritten lent)) g = ap (λ l. Call.u
 given-cut offsets (Call.undated Undated.hasLeft) g = refl
 given-cut offsets (Call.undated Undated.hostPending) g = refl
 
-step-cut : (c : Request) (u : Uart ℕ ℕ) → Given c → Cut u → Cut (step c u .state)
+asked-given-cut : (offsets : List ℕ) (c : Ask) → AskedGiven c → mapAsked low low itself (placedAsked offsets c) ≡ placedAsked offsets c
+unfolding changedAsked
+asked-given-cut offsets (Asked.call c) g = ap Asked.call (given-cut offsets c g)
+asked-given-cut offsets (Asked.row now bs) g = ap (Asked.row now) (low-same bs g)
+
+asked-cut : (c : Ask) (u : Uart ℕ ℕ) → AskedGiven c → Cut u → Cut (asked c u .state)
 unfolding mapStep
-step-cut c u g e =
-    let pc = placed (u .map .offsets) c in
-    let same : step c u ≡ stepPlaced pc u = step-placed c u in
-    let fixed : mapStep low low itself (stepPlaced pc u) ≡ stepPlaced pc u =
-    sym (stepPlaced-nat low low itself pc u) ∙ ap₂ stepPlaced (given-cut (u .map .offsets) c g) e in
+asked-cut c u g e =
+    let pc = placedAsked (u .map .offsets) c in
+    let same : asked c u ≡ askedBy stepPlaced pc u = asked-placed c u in
+    let fixed : mapStep low low itself (askedBy stepPlaced pc u) ≡ askedBy stepPlaced pc u =
+    sym (asked-nat low low itself pc u) ∙ ap₂ (askedBy stepPlaced) (asked-given-cut (u .map .offsets) c g) e in
     subst (λ s. Cut (s .state)) (sym same) (ap (λ s. s .state) fixed)
 
 -- ---- the whole
 
--- every call keeps the widths, refused or not
-pub step-widths : (c : Request) (u : Uart ℕ ℕ) → Given c → Widths u → Widths (step c u .state)
-step-widths c u g w =
-    let n = step-numbers c u g (record { reset = w .reset; words = w .words; raw = w .intRaw; down = w .poweredDownAt }) in
-    let v : Uart ℕ ℕ = step c u .state in
-    let cut : Cut v = step-cut c u g (widths-cut u w) in
-    let map-kept = step-kept c u in
+-- every call and every row keeps the widths, refused or not
+pub asked-widths : (c : Ask) (u : Uart ℕ ℕ) → AskedGiven c → Widths u → Widths (asked c u .state)
+asked-widths c u g w =
+    let n = asked-numbers c u g (record { reset = w .reset; words = w .words; raw = w .intRaw; down = w .poweredDownAt }) in
+    let v : Uart ℕ ℕ = asked c u .state in
+    let cut : Cut v = asked-cut c u g (widths-cut u w) in
+    let map-kept = asked-kept c u in
     record {
       offsets = subst (λ m. All Word32 (m .offsets)) (sym map-kept) (w .offsets);
       reset = n .reset;

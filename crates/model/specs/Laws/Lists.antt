@@ -1,9 +1,9 @@
 -- Laws of chains and of facts about every element, for lists that lose elements at an end or gain one behind.
 -- Assumes nothing.
-use mathlib.Core.Path.{_≡_, refl, ap, subst, _∙_}
+use mathlib.Core.Path.{_≡_, refl, ap, ap₂, subst, _∙_}
 use Prim.Native.Nat.{ℕ, zero, suc, _+_, _≤_}
 use native.Mathlib.Omega.{arith}
-use mathlib.Core.List.{List, [], _∷_, _++_, map}
+use mathlib.Core.List.{List, [], _∷_, _++_, map, flatMap}
 use lib.ListN.{length, take, drop, length-drop}
 use lib.Seq.{drop-drop}
 use Rattle.model.specs.Limits.{Chain, empty, single, link, All, nil, cons}
@@ -61,6 +61,10 @@ module _ {A : Type 0} {P : A → Type 0} where
   all-snoc x [] p a = cons p nil
   all-snoc x (y ∷ l) p (cons q a) = cons q (all-snoc x l p a)
 
+pub all-append : {A : Type 0} {P : A → Type 0} (k l : List A) → All P k → All P l → All P (k ++ l)
+all-append [] l nil a = a
+all-append (x ∷ k) l (cons p ps) a = cons p (all-append k l ps a)
+
 pub all-last : {P : ℕ → Type 0} (ns : List ℕ) → P 0 → All P ns → P (lastOf ns)
 unfolding lastOf
 all-last [] z a = z
@@ -84,6 +88,12 @@ module _ {A B : Type 0} (f : A → B) where
   map-split zero l = refl
   map-split (suc k) [] = refl
   map-split (suc k) (x ∷ l) = ap {B = List B} (λ r. f x ∷ r) (map-split k l)
+
+pub flatMap-map : {A B C : Type 0} (k : B → List C) (x : A → B) (k′ : A → List C) → ((a : A) → k (x a) ≡ k′ a) → (l : List A)
+    → flatMap k (map x l) ≡ flatMap k′ l
+unfolding flatMap
+flatMap-map k x k′ p [] = refl
+flatMap-map k x k′ p (a ∷ l) = ap₂ _++_ (p a) (flatMap-map k x k′ p l)
 
 -- ---- less some from the front
 

@@ -8,7 +8,8 @@ use Rattle.model.specs.Calls
 use Rattle.model.specs.Calls.{outcome}
 use Rattle.model.specs.Call.{Machine, Dated, Undated, Call, dateOf, Written, reads, writes, does, takes, left, pends}
 use Rattle.model.specs.Run.{planBy, writing, plan, step}
-use Rattle.model.specs.Laws.Plans.{answering, replied}
+use Rattle.model.specs.Run.{answering}
+use Rattle.model.specs.Laws.Plans.{replied}
 
 pub record StepCases (u : Uart ℕ ℕ) : Type 0 where
   pub read : (now offset : ℕ) → step (Call.at now (Dated.read offset)) u ≡ answering reads (outcome (some now) (Calls.read now offset u) u)

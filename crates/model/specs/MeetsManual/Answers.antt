@@ -16,7 +16,8 @@ use Rattle.model.specs.Calls
 use Rattle.model.specs.Calls.{Outcome, Plan, unless, carried, outcome, readPlaced, writePlaced, send, writeAt, dated}
 use Rattle.model.specs.Call.{Dated, Call, dateOf, Written, Reply, reads, writes}
 use Rattle.model.specs.Run.{stepped, replying, planBy, writing, plan, step}
-use Rattle.model.specs.Laws.Plans.{answering, replied}
+use Rattle.model.specs.Run.{answering}
+use Rattle.model.specs.Laws.Plans.{replied}
 use Rattle.model.specs.declared.Refusal.{Refusal}
 use Rattle.model.specs.declared.Refusal.the-variants.{DatePastEnd, DateWentBack, TransmitFull}
 

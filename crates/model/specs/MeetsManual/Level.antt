@@ -19,7 +19,7 @@ use Rattle.model.specs.Run.{numberOf, stepped, replying, planBy, writing
 use Rattle.model.specs.SetUp.{newControl, new}
 use Rattle.model.specs.Laws.AccessCases.{write-ind, readRegister-ind}
 use Rattle.model.specs.Ends.Passes.{apart}
-use Rattle.model.specs.Refuses.Exactly.{done-carried}
+use Rattle.model.specs.Refuses.Exactly.{call-carried}
 use Rattle.model.specs.Ends.Settlings.{Settling, settlingsBy, settlings}
 use Rattle.model.specs.declared.Unsupported.{Unsupported}
 
@@ -125,11 +125,11 @@ module _ (c : Request) (u : Uart ℕ ℕ) (done : numberOf (step c u .answer .re
   pub call-drives : (s : Settling) (ss : List Settling) → settlings c u ≡ s ∷ ss
       → step c u .state .control .level ≡ not (eqb (intStatus (step c u .state .control)) 0)
   unfolding asserted
-  call-drives s ss e = subst (λ x. Driven (x .state)) (sym (done-carried c u done)) (carried-drives c u s ss e)
+  call-drives s ss e = subst (λ x. Driven (x .state)) (sym (call-carried c u done)) (carried-drives c u s ss e)
 
   -- one that does not settle leaves it
   pub call-leaves-level : settlings c u ≡ [] → step c u .state .control .level ≡ u .control .level
-  call-leaves-level e = ap (λ x. x .state .control .level) (done-carried c u done) ∙ carried-leaves c u e
+  call-leaves-level e = ap (λ x. x .state .control .level) (call-carried c u done) ∙ carried-leaves c u e
 
 -- it is low from set-up on
 pub new-level : (offsets ws : List ℕ) → new {H = ℕ} {W = ℕ} offsets ws .control .level ≡ false

@@ -15,7 +15,7 @@ use Rattle.model.specs.Timing.{byteTime, timeoutTime, settings}
 use Rattle.model.specs.Settle.{settingsOf, settlingDate, settle}
 use Rattle.model.specs.Tests.{dateEnd, periodLimit}
 use Rattle.model.specs.Calls
-use Rattle.model.specs.Call.{Machine, Dated, Call, dateOf, Written, Request}
+use Rattle.model.specs.Call.{Machine, Dated, Call, dateOf, Written, Request, Asked, askedDate}
 use Rattle.model.specs.Run.{numberOf, plan, step}
 use Rattle.model.specs.Limits.{All, nil, Within}
 use Rattle.model.specs.Laws.Lists.{all-head, all-drop}
@@ -25,7 +25,7 @@ use Rattle.model.specs.Keeps.Settling.{settle-parts}
 use Rattle.model.specs.Keeps.Dated.{moved-parts}
 use Rattle.model.specs.Keeps.EachCall.{clocked-parts}
 use Rattle.model.specs.Refuses.Conditions.{Condition, number2, number7}
-use Rattle.model.specs.Refuses.Exactly.{done-exactly}
+use Rattle.model.specs.Refuses.Exactly.{call-done}
 use Rattle.model.specs.Ends.Settlings.{Settling, settles, settlings, call-changes, begins-all, all-map}
 use Rattle.model.specs.MeetsManual.Timing.{Meant, FrameTime, TimeoutTime, byte-lasts, timeout-lasts}
 use Rattle.model.specs.MeetsManual.Reception.{comes, arrivalsIn, settling-receives}
@@ -45,15 +45,16 @@ below n m not = by-test (leb m n) refl
 -- of a call that is carried out
 module _ (c : Request) (u : Uart ℕ ℕ) (done : numberOf (step c u .answer .reply) ≡ 0) where
   early : (now : ℕ) → dateOf c ≡ some now → now < dateEnd
-  early now e = below now dateEnd (λ h. all-head (done-exactly c u .0 done) (number2 e h))
+  unfolding askedDate
+  early now e = below now dateEnd (λ h. all-head (call-done c u done) (number2 e h))
 
 clock-low : (now period : ℕ) (c : Dated ℕ Written ℕ ℕ) (u : Uart ℕ ℕ) → c ≡ Dated.machine (Machine.clockChange period)
     → numberOf (step (Call.at now c) u .answer .reply) ≡ 0 → period ≤ periodLimit
 clock-low now period c u is done =
     let h : period < periodLimit + 1 =
     below period (periodLimit + 1)
-    (λ h. all-head (all-drop 2 _ (done-exactly (Call.at now c) u .0 done))
-    (subst (λ x. Condition u PeriodTooLong (Call.at now x)) (sym is) (number7 (omega arith))))
+    (λ h. all-head (all-drop 2 _ (call-done (Call.at now c) u done))
+    (subst (λ x. Condition u PeriodTooLong (Asked.call (Call.at now x))) (sym is) (number7 (omega arith))))
     in omega arith
 
 changes-within : (now : ℕ) (c : Dated ℕ Written ℕ ℕ) (u : Uart ℕ ℕ) → numberOf (step (Call.at now c) u .answer .reply) ≡ 0

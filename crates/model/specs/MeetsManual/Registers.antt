@@ -25,7 +25,7 @@ use Rattle.model.specs.Calls.{afterSettling, dated, readPlaced, writePla
 use Rattle.model.specs.Laws.Plans.{settleAt}
 use Rattle.model.specs.Call.{Dated, Call, Written, reads}
 use Rattle.model.specs.Run.{Step, step}
-use Rattle.model.specs.Laws.Plans.{answering}
+use Rattle.model.specs.Run.{answering}
 use Rattle.model.specs.Limits.{Within}
 use Rattle.model.specs.Laws.AccessCases.{readRegister-ind}
 use Rattle.model.specs.Laws.Bits.{bit-and, bit-without}

@@ -20,7 +20,7 @@ use Rattle.model.specs.Tests.{sentLimit}
 use Rattle.model.specs.Calls.{afterSettling, dated, send, carried}
 use Rattle.model.specs.Call.{Dated, Call, Written}
 use Rattle.model.specs.Run.{Step, step}
-use Rattle.model.specs.Laws.Plans.{answering}
+use Rattle.model.specs.Run.{answering}
 use Rattle.model.specs.Laws.Choose.{choose-true}
 use Rattle.model.specs.Keeps.Rest.{settleTo-words, settleTo-period}
 use Rattle.model.specs.MeetsManual.Answers.{settled, InTime, fifo-answer, byte-taken}

@@ -1,4 +1,4 @@
--- A call that is carried out answers number 0 and at most 8 notices besides overflows. Assumes nothing.
+-- A call or a row that is carried out answers number 0 and at most 8 notices besides overflows. Assumes nothing.
 use mathlib.Core.Path.{_≡_, refl}
 use Prim.Native.Nat.{ℕ, zero, suc, _%_, _≤_}
 use native.Mathlib.Nat.{le-trans}
@@ -7,7 +7,7 @@ use mathlib.Core.Bool.{Bool, true, false}
 use mathlib.Core.Option.{Option, none, some}
 use mathlib.Core.List.{List, [], _∷_}
 use lib.Dec.{lit≤}
-use lib.ListN.{length, length-append, length-map, length-replicate}
+use lib.ListN.{length, take, length-append, length-map, length-replicate}
 use Rattle.model.specs.State.{Uart}
 use Rattle.model.specs.Replies.{notices, noReport, report, ReadOf, readNumber, writeNumber, doneNumber, takenNumber}
 use Rattle.model.specs.Map.{Word, Register, registerOf}
@@ -16,8 +16,11 @@ use Rattle.model.specs.Registers.{storedNotes, sent, dropped, sendByte}
 use Rattle.model.specs.Registers.{storing, clearing, writeRegister, concluded}
 use Rattle.model.specs.Calls
 use Rattle.model.specs.Calls.{afterSettling, carried, filled, quiet, readPlaced, send, writePlaced}
-use Rattle.model.specs.Call.{Machine, Dated, Undated, Call, dateOf, Request, writes, Answer}
-use Rattle.model.specs.Run.{numberOf, stepped, replying, planBy, writing, plan}
+use Rattle.model.specs.Row.{rowLimit, rowNumber, summed}
+use Rattle.model.specs.Call.{Machine, Dated, Undated, Call, dateOf, Request, Asked, Ask, writes, Answer}
+use Rattle.model.specs.Run.{numberOf, stepped, answering, replying, planBy, writing, plan}
+use Rattle.model.specs.Refuses.Conditions.{carriedOut}
+use Rattle.model.specs.Rows.Notices.{made-few}
 use Rattle.model.specs.Laws.Choose.{choose-ind}
 use Rattle.model.specs.Laws.AccessCases.{write-ind, writeRegister-ind}
 use Rattle.model.specs.declared.Source.{Source}
@@ -137,11 +140,17 @@ pub record Fine (a : Answer ℕ ℕ ℕ) : Type 0 where
   pub zero : numberOf (a .reply) ≡ 0
   pub few : Few (a .report)
 
--- a call that is carried out answers number 0 and at most 8 notices
-pub carried-fine : (c : Request) (u : Uart ℕ ℕ) → Fine (stepped (carried (dateOf c) (plan c u) u) .answer)
+call-fine : (c : Request) (u : Uart ℕ ℕ) → Fine (stepped (carried (dateOf c) (plan c u) u) .answer)
 unfolding stepped carried afterSettling
-carried-fine c u = by-date (dateOf c)
+call-fine c u = by-date (dateOf c)
   where
     by-date : (d : Option ℕ) → Fine (stepped (carried d (plan c u) u) .answer)
     by-date none = record { zero = work-proper c u u .zero; few = no-report-few }
     by-date (some now) = record { zero = work-proper c u _ .zero; few = report-few _ _ _ _ (work-proper c u _ .few) }
+
+-- a call or a row that is carried out answers number 0 and at most 8 notices
+pub carried-fine : (c : Ask) (u : Uart ℕ ℕ) → Fine (carriedOut c u .answer)
+unfolding carriedOut answering summed numberOf rowNumber
+carried-fine (Asked.call c) u = call-fine c u
+carried-fine (Asked.row now bs) u =
+    record { zero = refl; few = report-few _ _ _ _ (le-trans (made-few now (take rowLimit bs) u) (lit≤ tt)) }

@@ -1,5 +1,5 @@
--- Demand 1 of every call: its number exactly when document 01 says, a refusal that keeps everything, every other call
--- carried out, its passes, and at most 8 notices. Assumes nothing but, for what is due, that dates in flight never fall.
+-- Demand 1 of every call and of every row: its number exactly when document 01 says, a refusal that keeps everything, every other
+-- one carried out, its passes, and at most 8 notices. Assumes nothing but, for what is due, that dates in flight never fall.
 use mathlib.Core.Path.{_≡_, refl, sym, ap, subst, _∙_}
 use mathlib.Core.Logic.{_↔_}
 use Prim.Native.Nat.{ℕ, zero, suc, _≤_}
@@ -9,11 +9,11 @@ use lib.ListN.{length}
 use Rattle.model.specs.State.{Uart}
 use Rattle.model.specs.Replies.{noReport, number}
 use Rattle.model.specs.Calls.{carried}
-use Rattle.model.specs.Call.{dateOf, Request}
-use Rattle.model.specs.Run.{numberOf, Step, stepped, plan, step}
+use Rattle.model.specs.Call.{dateOf, Request, Asked, Ask}
+use Rattle.model.specs.Run.{numberOf, Step, stepped, plan, step, askedBy, asked}
 use Rattle.model.specs.Limits.{All}
-use Rattle.model.specs.Refuses.Conditions.{Condition, order, First, Result, refusal, done}
-use Rattle.model.specs.Refuses.Refusals.{first-one, first-none, step-result, refuses-number}
+use Rattle.model.specs.Refuses.Conditions.{Condition, order, First, refusedWith, carriedOut, Result, refusal, done}
+use Rattle.model.specs.Refuses.Refusals.{first-one, first-none, asked-result, refuses-number}
 use Rattle.model.specs.Refuses.Carried.{Few, no-report-few, carried-fine}
 use Rattle.model.specs.declared.Refusal.{Refusal}
 use Rattle.model.specs.declared.Refusal.the-variants.{RepeatedOffset, DatePastEnd, DateWentBack, TransmitFull, HostFull, RunsFull}
@@ -61,7 +61,7 @@ number-positive BufferTooShort = omega arith
 
 -- ---- each number exactly when document 01 says
 
-module _ {c : Request} {u : Uart ℕ ℕ} where
+module _ {c : Ask} {u : Uart ℕ ℕ} where
   refused-yes : {s : Step ℕ ℕ ℕ} (r : Refusal) → Result c u s → numberOf (s .answer .reply) ≡ number r
       → First (λ q. Condition u q c) order r
   refused-yes r (refusal {r = q} f) e = subst (First (λ q. Condition u q c) order) (one-number q r (sym (refuses-number c u q f) ∙ e)) f
@@ -76,43 +76,59 @@ module _ {c : Request} {u : Uart ℕ ℕ} where
   done-yes (refusal {r = q} f) e = absurd (omega (arith, number-positive q, refuses-number c u q f))
   done-yes (done v) e = v
 
-  yes-done : {s : Step ℕ ℕ ℕ} → Result c u s → All (λ q. ¬ Condition u q c) order → s ≡ stepped (carried (dateOf c) (plan c u) u)
+  yes-done : {s : Step ℕ ℕ ℕ} → Result c u s → All (λ q. ¬ Condition u q c) order → s ≡ carriedOut c u
   yes-done (refusal f) n = absurd (first-none f n)
   yes-done (done v) n = refl
 
--- a call answers a number exactly where that number's condition is the first in the order to hold
-pub refused-exactly : (c : Request) (u : Uart ℕ ℕ) (r : Refusal)
-    → numberOf (step c u .answer .reply) ≡ number r ↔ First (λ q. Condition u q c) order r
-refused-exactly c u r = (refused-yes r (step-result c u), yes-refused r (step-result c u))
+-- a call or a row answers a number exactly where that number's condition is the first in the order to hold
+pub refused-exactly : (c : Ask) (u : Uart ℕ ℕ) (r : Refusal)
+    → numberOf (asked c u .answer .reply) ≡ number r ↔ First (λ q. Condition u q c) order r
+refused-exactly c u r = (refused-yes r (asked-result c u), yes-refused r (asked-result c u))
 
 -- it answers 0 exactly where no condition holds
-pub done-exactly : (c : Request) (u : Uart ℕ ℕ) → numberOf (step c u .answer .reply) ≡ 0 ↔ All (λ q. ¬ Condition u q c) order
+pub done-exactly : (c : Ask) (u : Uart ℕ ℕ) → numberOf (asked c u .answer .reply) ≡ 0 ↔ All (λ q. ¬ Condition u q c) order
 done-exactly c u =
-    (done-yes (step-result c u), λ n. ap (λ s. numberOf (s .answer .reply)) (yes-done (step-result c u) n) ∙ carried-fine c u .zero)
+    (done-yes (asked-result c u), λ n. ap (λ s. numberOf (s .answer .reply)) (yes-done (asked-result c u) n) ∙ carried-fine c u .zero)
 
--- every call with number 0 is carried out
-pub done-carried : (c : Request) (u : Uart ℕ ℕ) → numberOf (step c u .answer .reply) ≡ 0 → step c u
-    ≡ stepped (carried (dateOf c) (plan c u) u)
-done-carried c u e = yes-done (step-result c u) (done-exactly c u .0 e)
+-- every one with number 0 is carried out
+pub done-carried : (c : Ask) (u : Uart ℕ ℕ) → numberOf (asked c u .answer .reply) ≡ 0 → asked c u
+    ≡ carriedOut c u
+done-carried c u e = yes-done (asked-result c u) (done-exactly c u .0 e)
 
 -- ---- a refusal keeps everything
 
--- a refused call returns its refusal alone: the state stays, and the report is fixed
-pub refused-untouched : (c : Request) (u : Uart ℕ ℕ) → 1 ≤ numberOf (step c u .answer .reply)
-    → (r : Refusal) × (step c u ≡ record { answer = record { reply = plan c u .refuses r; report = noReport }; state = u; events = [] })
-refused-untouched c u = go (step-result c u)
+-- a refused one returns its refusal alone: the state stays, and the report is fixed
+pub refused-untouched : (c : Ask) (u : Uart ℕ ℕ) → 1 ≤ numberOf (asked c u .answer .reply)
+    → (r : Refusal) × (asked c u ≡ record { answer = record { reply = refusedWith c u r; report = noReport }; state = u; events = [] })
+refused-untouched c u = go (asked-result c u)
   where
     go : {s : Step ℕ ℕ ℕ} → Result c u s → 1 ≤ numberOf (s .answer .reply)
-        → (r : Refusal) × (s ≡ record { answer = record { reply = plan c u .refuses r; report = noReport }; state = u; events = [] })
+        → (r : Refusal) × (s ≡ record { answer = record { reply = refusedWith c u r; report = noReport }; state = u; events = [] })
     go (refusal {r = r} f) le = (r, refl)
     go (done v) le = absurd (omega (arith, carried-fine c u .zero))
 
 -- ---- notices
 
 -- at most 8 notices besides overflows, in 8 places, in every answer
-pub notices-few : (c : Request) (u : Uart ℕ ℕ) → (step c u .answer .report .noted ≤ 8) × (length (step c u .answer .report .notices) ≡ 8)
-notices-few c u = let few = go (step-result c u) in (few .noted, few .places)
+pub notices-few : (c : Ask) (u : Uart ℕ ℕ) → (asked c u .answer .report .noted ≤ 8) × (length (asked c u .answer .report .notices) ≡ 8)
+notices-few c u = let few = go (asked-result c u) in (few .noted, few .places)
   where
     go : {s : Step ℕ ℕ ℕ} → Result c u s → Few (s .answer .report)
     go (refusal f) = no-report-few
     go (done v) = carried-fine c u .few
+
+-- ---- the same of a call alone
+
+module _ (c : Request) (u : Uart ℕ ℕ) where
+  pub call-done : numberOf (step c u .answer .reply) ≡ 0 → All (λ q. ¬ Condition u q (Asked.call c)) order
+  unfolding askedBy
+  call-done e = done-exactly (Asked.call c) u .0 e
+
+  pub call-carried : numberOf (step c u .answer .reply) ≡ 0 → step c u ≡ stepped (carried (dateOf c) (plan c u) u)
+  unfolding askedBy carriedOut
+  call-carried e = done-carried (Asked.call c) u e
+
+  pub call-untouched : 1 ≤ numberOf (step c u .answer .reply)
+      → (r : Refusal) × (step c u ≡ record { answer = record { reply = plan c u .refuses r; report = noReport }; state = u; events = [] })
+  unfolding askedBy refusedWith
+  call-untouched h = refused-untouched (Asked.call c) u h

@@ -97,7 +97,3 @@ fourth-armed w a b c d e p q r s =
     ∙ ap (λ x. armAll (c ∷ d ∷ e ∷ []) x) (in-time-armed w b q)
     ∙ ap (λ x. armAll (d ∷ e ∷ []) x) (in-time-armed w c r)
     ∙ in-time-armed (earliest w (inCycles d)) e (still-in-time w d e s)
-
-nth-first : {W : Type 0} (s : Sent W) (l m : List (Sent W)) → nthGone 0 ((s ∷ l) ++ m) ≡ nthGone 0 (s ∷ l)
-unfolding nthGone
-nth-first s l m = refl

@@ -33,7 +33,7 @@ use Rattle.model.specs.Row
 use Rattle.model.specs.Row.{leftBy, summed, firstTest, row, counted, countedAll, timesOf}
 use Rattle.model.specs.SetUp.{wordsAmong, mapOf, newControl, new}
 use Rattle.model.specs.Call.{wake, Dated, receive, machine, at, dateOf, Request, Reply, reads, writes, does}
-use Rattle.model.specs.Run.{numberOf, stepped, replying, planBy, writing, plan, step, run}
+use Rattle.model.specs.Run.{numberOf, stepped, replying, planBy, writing, plan, step}
 use Rattle.model.specs.declared.Date.{Date}
 use Rattle.model.specs.declared.Date.the-variants.{At}
 use Rattle.model.specs.declared.Unsupported.{Unsupported}
@@ -90,5 +90,4 @@ unfolding rowMarks sourceless undivided Row.writes leftBy summed firstTest row c
     writeRegister concluded among repeated transmitFull hostFull runsFull refuseIf refuseDate
     refusing unless afterSettling carried outcome joined lastDate hostDate dated quiet readPlaced writePlaced send handOver Calls.receive
     Calls.machine writeAt Calls.read Calls.write wordsAmong mapOf newControl new numberOf dateOf stepped replying planBy writing plan step
-    run
 row-marks-hold = (refl, (refl, (refl, (refl, (refl, tt)))))

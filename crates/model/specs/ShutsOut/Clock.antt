@@ -23,7 +23,7 @@ use Rattle.model.specs.Run.{Step, numberOf, stepped, replying, planBy, p
 use Rattle.model.specs.Laws.Choose.{choose-true, choose-false}
 use Rattle.model.specs.Laws.Events.{passes-append, overflows-append}
 use Rattle.model.specs.Keeps.Kept.{settle-keeps}
-use Rattle.model.specs.Refuses.Exactly.{done-carried}
+use Rattle.model.specs.Refuses.Exactly.{call-carried}
 use Rattle.model.specs.declared.Words.{Words}
 use Rattle.model.specs.declared.Unsupported.{Unsupported}
 use Rattle.model.specs.declared.Unsupported.the-variants.{UartClock}
@@ -35,7 +35,7 @@ module _ (now period : ℕ) (u : Uart ℕ ℕ)
   change-is : step (Call.at now (Dated.machine (Machine.clockChange period))) u
       ≡ stepped (carried (some now) (plan (Call.at now (Dated.machine (Machine.clockChange period))) u) u)
   unfolding dateOf
-  change-is = done-carried (Call.at now (Dated.machine (Machine.clockChange period))) u done
+  change-is = call-carried (Call.at now (Dated.machine (Machine.clockChange period))) u done
 
   -- settled with the old period; then, with the new one, of which 0 counts as 1, settled again; and armed
   pub clock-change-leaves : let v : Uart ℕ ℕ = settle now (dated now u) .state in

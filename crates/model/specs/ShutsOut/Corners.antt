@@ -24,10 +24,10 @@ use Rattle.model.specs.Calls
 use Rattle.model.specs.Calls.{afterSettling, quiet, dated, handOver, cleared, clearedLine, writePlaced, carried}
 use Rattle.model.specs.Call.{Machine, Dated, Call, dateOf, Written}
 use Rattle.model.specs.Run.{Step, numberOf, stepped, replying, planBy, plan, step}
-use Rattle.model.specs.Laws.Plans.{answering}
+use Rattle.model.specs.Run.{answering}
 use Rattle.model.specs.Laws.Choose.{choose-true}
 use Rattle.model.specs.Keeps.Kept.{settle-keeps}
-use Rattle.model.specs.Refuses.Exactly.{done-carried}
+use Rattle.model.specs.Refuses.Exactly.{call-carried}
 use Rattle.model.specs.MeetsManual.Answers.{InTime, settled}
 use Rattle.model.specs.MeetsManual.Rises.{rawBit, levels-raise}
 use Rattle.model.specs.ShutsOut.Notices.{conf0-answer}
@@ -50,7 +50,7 @@ module _ (now : ℕ) (u : Uart ℕ ℕ) (done : numberOf (step (Call.at now (Dat
 
   reset-is : step (Call.at now (Dated.machine Machine.reset)) u .state ≡ arm (levels (cleared found))
   unfolding stepped carried afterSettling dated dateOf plan Calls.machine planBy replying quiet
-  reset-is = ap (λ (s : Step ℕ ℕ ℕ). s .state) (done-carried (Call.at now (Dated.machine Machine.reset)) u done)
+  reset-is = ap (λ (s : Step ℕ ℕ ℕ). s .state) (call-carried (Call.at now (Dated.machine Machine.reset)) u done)
 
   found-map : found .map ≡ u .map
   unfolding dated
@@ -109,13 +109,13 @@ module _ (now : ℕ) (u : Uart ℕ ℕ) (done : numberOf (step (Call.at now (Dat
 pub empty-receive-arms-nothing : (now date : ℕ) (u : Uart ℕ ℕ) → numberOf (step (Call.at now (Dated.receive date [])) u .answer .reply) ≡ 0
     → step (Call.at now (Dated.receive date [])) u .state ≡ settled now u
 unfolding stepped carried afterSettling dateOf plan planBy replying quiet handOver Calls.receive
-empty-receive-arms-nothing now date u done = ap (λ (s : Step ℕ ℕ ℕ). s .state) (done-carried (Call.at now (Dated.receive date [])) u done)
+empty-receive-arms-nothing now date u done = ap (λ (s : Step ℕ ℕ ℕ). s .state) (call-carried (Call.at now (Dated.receive date [])) u done)
 
 -- so does taking what left
 pub take-arms-nothing : (now : ℕ) (lent : List ℕ) (u : Uart ℕ ℕ) → numberOf (step (Call.at now (Dated.takeTx lent)) u .answer .reply) ≡ 0
     → step (Call.at now (Dated.takeTx lent)) u .state .control ≡ settled now u .control
 unfolding stepped carried afterSettling dateOf plan planBy replying quiet Calls.takeTx
-take-arms-nothing now lent u done = ap (λ (s : Step ℕ ℕ ℕ). s .state .control) (done-carried (Call.at now (Dated.takeTx lent)) u done)
+take-arms-nothing now lent u done = ap (λ (s : Step ℕ ℕ ℕ). s .state .control) (call-carried (Call.at now (Dated.takeTx lent)) u done)
 
 -- ---- CONF0 with TXFIFO_RST
 

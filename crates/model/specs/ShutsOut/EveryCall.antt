@@ -6,6 +6,7 @@ use native.Mathlib.Omega.{arith}
 use mathlib.Core.Bool.{Bool, true, false}
 use mathlib.Core.Option.{Option, some}
 use mathlib.Core.List.{List, [], _∷_}
+use lib.ListN.{take}
 use Rattle.dates.specs.Dates.{subcycles}
 use Rattle.model.specs.declared.Date.the-variants.{At}
 use Rattle.model.specs.Numbers.{earliest, instantOf}
@@ -23,11 +24,13 @@ use Rattle.model.specs.Calls.{Outcome, Plan, refusing, carried, outcome,
 use Rattle.model.specs.Laws.Plans.{settleAt}
 use Rattle.model.specs.Calls.{cleared, handOver, afterSettling, writePlaced, send}
 use Rattle.model.specs.Call.{Machine, Dated, Undated, Call, dateOf, Written, Request, Reply}
+use Rattle.model.specs.Row.{rowLimit, fifoWrite, writes, leftBy, summed, row}
 use Rattle.model.specs.Run.{stepped, replying, planBy, writing, plan, step}
 use Rattle.model.specs.Laws.Choose.{choose-ind}
 use Rattle.model.specs.Laws.AccessCases.{write-ind, unless-ind, writeRegister-ind, readRegister-ind}
 use Rattle.model.specs.declared.Date.{Date}
 use Rattle.model.specs.declared.RegisterMap.{RegisterMap}
+use Rattle.model.specs.declared.Row.{Row}
 use Rattle.model.specs.declared.Source.{Source}
 use Rattle.model.specs.declared.Unsupported.{Unsupported}
 use Rattle.model.specs.declared.Write.{Write}
@@ -94,6 +97,10 @@ module _ (now : ℕ) (R : Uart ℕ ℕ → Uart ℕ ℕ → Type 0) (k : Walk (s
   unfolding sendByte sent dropped
   walk-send b u = choose-ind (λ (a : Access Write ℕ ℕ). R u (a .state)) _ (λ _. k .alike u u refl) (λ _. k .alike u _ refl)
 
+  walk-fifo : (b : ℕ) (u : Uart ℕ ℕ) → R u (carried (some now) (send now b u) u .state)
+  unfolding carried send
+  walk-fifo b u = walk-after u (λ s. concluded (sendByte now b s)) (λ v. walk-concluded v _ (walk-send b v))
+
   walk-write-register : (v : ℕ) (u : Uart ℕ ℕ) (p : Register) → (p ≡ Register.intClr → R u (clearing v u .state))
       → R u (writeRegister p v u .state)
   unfolding storing resetFifos
@@ -108,7 +115,7 @@ module _ (now : ℕ) (R : Uart ℕ ℕ → Uart ℕ ℕ → Type 0) (k : Walk (s
   walk-write x u clr =
       let p : Register = registerOf (u .map .offsets) (x .offset) in
       write-ind (λ (q : Plan Write ℕ ℕ). R u (carried (some now) q u .state)) now p (x .value) u
-      (λ _. walk-after u (λ s. concluded (sendByte now (x .value % 256) s)) (λ v. walk-concluded v _ (walk-send (x .value % 256) v)))
+      (λ _. walk-fifo (x .value % 256) u)
       (λ _. walk-after u (λ s. concluded (writeRegister p (x .value) s))
       (λ v. walk-concluded v _ (walk-write-register (x .value) v p (λ e. clr e (x .value) v))))
 
@@ -187,3 +194,18 @@ unfolding step stepped outcome refusing
 every-call c u R k clr rst =
     unless-ind (λ (o : Outcome (Reply ℕ ℕ ℕ) ℕ ℕ). R u (o .state)) _ (plan c u .refuses) (carried (dateOf c) (plan c u)) u
     (λ r. k .alike u u refl) (carried-walk c u R k clr rst)
+
+-- and so does every row
+pub every-row : (now : ℕ) (bs : List ℕ) (u : Uart ℕ ℕ) (R : Uart ℕ ℕ → Uart ℕ ℕ → Type 0) → Walk (some now) R → R u (row now bs u .state)
+unfolding row refusing summed writes leftBy outcome send
+every-row now bs u R k =
+    unless-ind (λ (o : Outcome Row ℕ ℕ). R u (o .state)) _ Row.Refused _ u (λ r. k .alike u u refl) (made (take rowLimit bs) u)
+  where
+    one : (b : ℕ) (v : Uart ℕ ℕ) → R v (fifoWrite now v b .state)
+    one b v =
+        unless-ind (λ (o : Outcome Write ℕ ℕ). R v (o .state)) _ Write.Refused _ v (λ r. k .alike v v refl) (walk-fifo now R k b v)
+
+    made : (cs : List ℕ) (v : Uart ℕ ℕ) → R v (leftBy v (writes now v cs))
+    made [] v = k .alike v v refl
+    made (b ∷ cs) v =
+        choose-ind (λ os. R v (leftBy v os)) _ (λ _. k .on v _ _ (one b v) (made cs (fifoWrite now v b .state))) (λ _. k .alike v v refl)

@@ -16,8 +16,8 @@ use Rattle.model.specs.Calls.{afterSettling, carried, quiet, filled, not
 use Rattle.model.specs.Call.{Dated, Undated, Call, dateOf, takes}
 use Rattle.model.specs.Run.{Step, numberOf, stepped, replying, planBy, plan, step}
 use Rattle.model.specs.Laws.Choose.{choose-true, choose-false}
-use Rattle.model.specs.Laws.Plans.{answering}
-use Rattle.model.specs.Refuses.Exactly.{done-carried, refused-untouched}
+use Rattle.model.specs.Run.{answering}
+use Rattle.model.specs.Refuses.Exactly.{call-carried, call-untouched}
 use Rattle.model.specs.MeetsManual.Answers.{InTime, settled, carried-answer}
 use Rattle.model.specs.declared.Refusal.{Refusal}
 use Rattle.model.specs.declared.Refusal.the-variants.{BufferTooShort}
@@ -54,7 +54,7 @@ pub handed-over : (now at : ℕ) (u : Uart ℕ ℕ) (b : ℕ) (bs : List ℕ)
     step (Call.at now (Dated.receive at (b ∷ bs))) u .state
     ≡ arm (withHost (v .host ++ (b ∷ bs)) (joined (min (max at now * 32) (2 ^ 64 - 1)) (length (b ∷ bs)) (v .hostRuns)) v)
 unfolding stepped carried afterSettling dateOf plan planBy replying quiet handOver hostDate Calls.receive
-handed-over now at u b bs done = ap (λ (s : Step ℕ ℕ ℕ). s .state) (done-carried (Call.at now (Dated.receive at (b ∷ bs))) u done)
+handed-over now at u b bs done = ap (λ (s : Step ℕ ℕ ℕ). s .state) (call-carried (Call.at now (Dated.receive at (b ∷ bs))) u done)
 
 -- ---- a lent buffer
 
@@ -77,7 +77,7 @@ pub refused-take-tx : (now : ℕ) (u : Uart ℕ ℕ) (lent : List ℕ) → 1 ≤
     × (step (Call.at now (Dated.takeTx lent)) u .answer .reply ≡ takes (record { taken = Taken.Refused r; front = []; rest = lent }))
 unfolding plan planBy replying Calls.takeTx notTaken
 refused-take-tx now u lent h =
-    let (r, e) = refused-untouched (Call.at now (Dated.takeTx lent)) u h in (r, ap (λ (s : Step ℕ ℕ ℕ). s .answer .reply) e)
+    let (r, e) = call-untouched (Call.at now (Dated.takeTx lent)) u h in (r, ap (λ (s : Step ℕ ℕ ℕ). s .answer .reply) e)
 
 pub refused-take-written : (u : Uart ℕ ℕ) (lent : List ℕ) → 1 ≤ numberOf (step (Call.undated (Undated.takeWritten lent)) u .answer .reply)
     → (r : Refusal)
@@ -85,4 +85,4 @@ pub refused-take-written : (u : Uart ℕ ℕ) (lent : List ℕ) → 1 ≤ number
     ≡ takes (record { taken = Taken.Refused r; front = []; rest = lent }))
 unfolding plan planBy replying Calls.takeWritten notTaken
 refused-take-written u lent h =
-    let (r, e) = refused-untouched (Call.undated (Undated.takeWritten lent)) u h in (r, ap (λ (s : Step ℕ ℕ ℕ). s .answer .reply) e)
+    let (r, e) = call-untouched (Call.undated (Undated.takeWritten lent)) u h in (r, ap (λ (s : Step ℕ ℕ ℕ). s .answer .reply) e)

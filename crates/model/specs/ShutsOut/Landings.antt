@@ -22,7 +22,7 @@ use Rattle.model.specs.Registers.{pop, looks, readRegister, readLooking,
 use Rattle.model.specs.Calls.{dated, afterSettling, readPlaced, carried}
 use Rattle.model.specs.Call.{Dated, Call, reads}
 use Rattle.model.specs.Run.{Step, step}
-use Rattle.model.specs.Laws.Plans.{answering}
+use Rattle.model.specs.Run.{answering}
 use Rattle.model.specs.Limits.{Within}
 use Rattle.model.specs.Laws.Cases.{pass-cases, passes-on}
 use Rattle.model.specs.MeetsManual.Answers.{InTime, read-answer}

@@ -25,7 +25,7 @@ use Rattle.model.specs.Laws.Cases.{passes-on}
 use Rattle.model.specs.MeetsManual.Rises.{rawBit, settleTo-raises, levels-raise}
 use Rattle.model.specs.Laws.AccessCases.{write-ind, writeRegister-ind}
 use Rattle.model.specs.Refuses.Refusals.{same-some}
-use Rattle.model.specs.Refuses.Exactly.{done-carried}
+use Rattle.model.specs.Refuses.Exactly.{call-carried}
 use Rattle.model.specs.ShutsOut.EveryCall.{Walk, every-call}
 use Rattle.model.specs.declared.Line.{Line}
 use Rattle.model.specs.declared.Settings.{Settings}
@@ -58,7 +58,7 @@ unfolding stepped plan planBy replying carried dateOf writing Calls.write send w
 write-leaves-line now x u done =
     let p : Register = registerOf (u .map .offsets) (x .offset) in
     let v : Uart ℕ ℕ = settleAt now u .state in
-    ap (λ (s : Step ℕ ℕ ℕ). onLine (s .state)) (done-carried (Call.at now (Dated.write x)) u done)
+    ap (λ (s : Step ℕ ℕ ℕ). onLine (s .state)) (call-carried (Call.at now (Dated.write x)) u done)
     ∙ write-ind (λ q. onLine (carried (some now) (replying {L = ℕ} writes q) u .state) ≡ onLine v) now p (x .value) u
     (λ _. concluded-line (sendByte now (x .value % 256) v) ∙ send-line now (x .value % 256) v)
     (λ _. concluded-line (writeRegister p (x .value) v) ∙ register-line (x .value) v p)

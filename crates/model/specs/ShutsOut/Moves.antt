@@ -23,7 +23,7 @@ use Rattle.model.specs.Calls.{afterSettling, quiet, dated, filled, hostD
 use Rattle.model.specs.Laws.Plans.{settleAt}
 use Rattle.model.specs.Call.{Dated, Call, dateOf, Written, writes, does, takes}
 use Rattle.model.specs.Run.{Step, planBy, plan, step}
-use Rattle.model.specs.Laws.Plans.{answering}
+use Rattle.model.specs.Run.{answering}
 use Rattle.model.specs.SetUp.{mapOf, newControl, new}
 use Rattle.model.specs.Keeps.Rest.{settleTo-inFlight, settleTo-tx}
 use Rattle.model.specs.MeetsManual.Answers.{settled, InTime, carried-answer, fifo-answer, byte-taken, byte-dropped}

@@ -19,7 +19,7 @@ use Rattle.model.specs.Calls
 use Rattle.model.specs.Calls.{afterSettling, writeAt, writePlaced, carried}
 use Rattle.model.specs.Call.{Dated, Call, Written, writes}
 use Rattle.model.specs.Run.{Step, step}
-use Rattle.model.specs.Laws.Plans.{answering}
+use Rattle.model.specs.Run.{answering}
 use Rattle.model.specs.Limits.{Chain, single, link}
 use Rattle.model.specs.MeetsManual.Answers.{InTime, write-answer}
 use Rattle.model.specs.declared.Feature.{Feature}

@@ -18,7 +18,7 @@ use Rattle.model.specs.Calls.{afterSettling, carried, dated, readPlaced,
 use Rattle.model.specs.Call.{Dated, Call, Written, reads, writes}
 use Rattle.model.specs.Run.{Step, step}
 use Rattle.model.specs.Laws.Choose.{choose-ind}
-use Rattle.model.specs.Laws.Plans.{answering}
+use Rattle.model.specs.Run.{answering}
 use Rattle.model.specs.Keeps.Kept.{settle-keeps}
 use Rattle.model.specs.Keeps.Rest.{settleTo-words}
 use Rattle.model.specs.MeetsManual.Answers.{InTime, settled, read-answer, write-answer}

@@ -22,7 +22,7 @@ use Rattle.model.specs.Calls.{dated, afterSettling, readPlaced, carried}
 use Rattle.model.specs.Laws.Plans.{settleAt}
 use Rattle.model.specs.Call.{Dated, Call}
 use Rattle.model.specs.Run.{Step, step}
-use Rattle.model.specs.Laws.Plans.{answering}
+use Rattle.model.specs.Run.{answering}
 use Rattle.model.specs.Laws.Cases.{passes-on}
 use Rattle.model.specs.Ends.Passes.{TakesTimeout, Takes, pass-law, timeOut-closes}
 use Rattle.model.specs.MeetsManual.Rises.{rawBit}

@@ -21,7 +21,7 @@ use Rattle.model.specs.Calls.{Outcome, refusing, unless, afterSettling, 
 use Rattle.model.specs.Call.{Machine, Dated, Undated, Call, dateOf, Request, Reply, does, takes, left, pends}
 use Rattle.model.specs.Run.{Step, numberOf, stepped, replying, planBy, plan, step}
 use Rattle.model.specs.Laws.AccessCases.{unless-ind}
-use Rattle.model.specs.Refuses.Exactly.{done-carried}
+use Rattle.model.specs.Refuses.Exactly.{call-carried}
 use Rattle.model.specs.declared.Date.{Date}
 use Rattle.model.specs.declared.Refusal.the-variants.{BufferTooShort}
 use Rattle.model.specs.declared.Done.{Done}
@@ -46,7 +46,7 @@ unfolding stepped carried afterSettling report
 dated-report c now u e done =
     subst (λ (s : Step ℕ ℕ ℕ). (s .answer .report .level ≡ s .state .control .level) × (s .answer .report .wake ≡ s .state .control .wake)
     × (s .answer .report .passes ≡ passesIn (s .events)) × (s .answer .report .overflows ≡ overflowsIn (s .events)))
-    (sym (done-carried c u done ∙ ap (λ (d : Option ℕ). stepped (carried d (plan c u) u)) e)) (refl, refl, refl, refl)
+    (sym (call-carried c u done ∙ ap (λ (d : Option ℕ). stepped (carried d (plan c u) u)) e)) (refl, refl, refl, refl)
 
 -- ---- undated calls
 
@@ -87,11 +87,11 @@ module _ (now : ℕ) (u : Uart ℕ ℕ) where
       → step (Call.at now (Dated.machine (Machine.watch b))) u
       ≡ unsettled (arm (withControl (withWatched b (dated now u .control)) (dated now u)))
   unfolding stepped carried afterSettling dateOf plan planBy replying quiet Calls.machine passesIn overflowsIn total
-  watch-arms b done = done-carried (Call.at now (Dated.machine (Machine.watch b))) u done
+  watch-arms b done = call-carried (Call.at now (Dated.machine (Machine.watch b))) u done
 
   -- power-down moves the last date and sets its own to now
   pub power-down-alone : numberOf (step (Call.at now (Dated.machine Machine.powerDown)) u .answer .reply) ≡ 0
       → step (Call.at now (Dated.machine Machine.powerDown)) u
       ≡ unsettled (withControl (withPoweredDownAt (Date.At (subcycles now)) (dated now u .control)) (dated now u))
   unfolding stepped carried afterSettling dateOf plan planBy replying quiet Calls.machine passesIn overflowsIn total
-  power-down-alone done = done-carried (Call.at now (Dated.machine Machine.powerDown)) u done
+  power-down-alone done = call-carried (Call.at now (Dated.machine Machine.powerDown)) u done

@@ -6,11 +6,11 @@ use lib.ListN.{length}
 use Rattle.model.specs.Limits.{All}
 use Rattle.model.specs.Replies.{word, byte, refused, Take, notices}
 use Rattle.model.specs.Registers.{sourceNotes}
-use Rattle.model.specs.Call.{Dated, Call, Request, Reply, reads, takes, Answer}
+use Rattle.model.specs.Call.{Dated, Call, Request, hostOf, Asked, Ask, Reply, reads, takes, rows, Answer}
 use Rattle.model.specs.TwoRuns.Alike.{fifoBytesOf, hostByte, writeByte}
-use Rattle.model.specs.Call.{hostOf}
 use Rattle.model.specs.declared.Refusal.{Refusal}
 use Rattle.model.specs.declared.Report.{Report}
+use Rattle.model.specs.declared.Row.{Row}
 use Rattle.model.specs.declared.Source.{Source}
 use Rattle.model.specs.declared.Taken.{Taken}
 use Rattle.model.specs.declared.Unsupported.{Unsupported}
@@ -20,8 +20,8 @@ use Rattle.model.specs.declared.Unsupported.the-variants.{UartEmptyRead,
 abbrev pub Notes : Report → List Unsupported → Type 0
 Notes r ns = (r .notices ≡ notices ns) × (r .noted ≡ length ns)
 
-module _ (fifo : ℕ) (cs ds : List Request) where
-  -- the replies of two lists of calls, cs and ds, to a call with which h host bytes and w FIFO writes have been given; their report is
+module _ (fifo : ℕ) (cs ds : List Ask) where
+  -- the replies of two lists, cs and ds, to a call with which h host bytes and w FIFO writes have been given; their report is
   -- one and the same. They differ at most in the byte that a read of FIFO gives and in the bytes handed out as sent, which have the same
   -- numbers in both, and in what was lent. A read of FIFO notes a mistimed reception where there was one, and then UartEmptyRead where it
   -- gives 0
@@ -38,10 +38,13 @@ module _ (fifo : ℕ) (cs ds : List Request) where
     noByte : {c : Request} {x : Reply ℕ ℕ ℕ} → ((now : ℕ) → ¬ (c ≡ Call.at now (Dated.read fifo))) → ((b : ℕ) → ¬ (x ≡ reads (byte b)))
         → ((t : Take ℕ ℕ) → ¬ (x ≡ takes t)) → Agree h w r c x x
 
-  -- call by call, h host bytes and w FIFO writes having been given before
-  pub data Agreeing : ℕ → ℕ → List Request → List (Answer ℕ ℕ ℕ) → List (Answer ℕ ℕ ℕ) → Type 0 where
+  -- one by one, h host bytes and w FIFO writes having been given before; a row is as many writes as it has bytes, and is answered alike
+  pub data Agreeing : ℕ → ℕ → List Ask → List (Answer ℕ ℕ ℕ) → List (Answer ℕ ℕ ℕ) → Type 0 where
     nil : {h w : ℕ} → Agreeing h w [] [] []
-    cons : {h w : ℕ} {c : Request} {rest : List Request} {r : Report} {x y : Reply ℕ ℕ ℕ} {s t : List (Answer ℕ ℕ ℕ)}
+    call : {h w : ℕ} {c : Request} {rest : List Ask} {r : Report} {x y : Reply ℕ ℕ ℕ} {s t : List (Answer ℕ ℕ ℕ)}
         → Agree (h + length (hostOf c)) (w + length (fifoBytesOf fifo c)) r c x y
         → Agreeing (h + length (hostOf c)) (w + length (fifoBytesOf fifo c)) rest s t
-        → Agreeing h w (c ∷ rest) (record { reply = x; report = r } ∷ s) (record { reply = y; report = r } ∷ t)
+        → Agreeing h w (Asked.call c ∷ rest) (record { reply = x; report = r } ∷ s) (record { reply = y; report = r } ∷ t)
+    row : {h w now : ℕ} {bs : List ℕ} {rest : List Ask} {r : Report} {x : Row} {s t : List (Answer ℕ ℕ ℕ)}
+        → Agreeing h (w + length bs) rest s t
+        → Agreeing h w (Asked.row now bs ∷ rest) (record { reply = rows x; report = r } ∷ s) (record { reply = rows x; report = r } ∷ t)

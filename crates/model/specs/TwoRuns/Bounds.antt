@@ -13,15 +13,17 @@ use Rattle.model.specs.State.{Uart}
 use Rattle.model.specs.TwoRuns.Renamed.{mapUart}
 use Rattle.model.specs.Limits.{All}
 use Rattle.model.specs.Replies.{ReadOf, word, byte, noValue, refused}
-use Rattle.model.specs.Call.{Request, Reply, reads, writes, does, takes, left, pends}
-use Rattle.model.specs.Run.{Step}
-use Rattle.model.specs.Call.{hostOf}
+use Rattle.model.specs.Call.{Reply, reads, writes, does, takes, left, pends, rows, hostOf, Asked, Ask}
+use Rattle.model.specs.Run.{Step, askedBy, runBy}
 use Rattle.model.specs.TwoRuns.Renamed.{itself, mapReadOf, mapTake, mapReply}
 use Rattle.model.specs.TwoRuns.Renamed.{mapAnswer}
-use Rattle.model.specs.TwoRuns.Placed.{Put, Placed, placed, stepPlaced, runPlaced}
-use Rattle.model.specs.TwoRuns.NaturalCalls.{mapPut, mapPlaced, mapStep, stepPlaced-nat}
-use Rattle.model.specs.TwoRuns.Numbering.{writesOf, changed-twice, putOf, writtenOf, upFrom, numbered, number, host-of-placed}
-use Rattle.model.specs.TwoRuns.Numbering.{written-of-placed}
+use Rattle.model.specs.TwoRuns.Alike.{givenBy}
+use Rattle.model.specs.TwoRuns.Placed.{Put, Placed, changedAsked, placedAsked, stepPlaced, runPlaced}
+use Rattle.model.specs.TwoRuns.NaturalCalls.{mapPut, mapPlaced, mapStep}
+use Rattle.model.specs.TwoRuns.NaturalRuns.{mapAsked, asked-nat}
+use Rattle.model.specs.TwoRuns.Numbering.{writesOf, changed-twice, putOf, writtenOf, upFrom, numbered, numberedAsked, hostIn}
+use Rattle.model.specs.TwoRuns.Numbering.{writtenIn}
+use Rattle.model.specs.TwoRuns.Numbering.{number, host-of-placed, written-of-placed}
 use Rattle.model.specs.TwoRuns.Numbered.{Bare, byteRead, bytesRead, bytesSent, Below, EachBelow}
 
 -- ---- the bytes in an answer with other bytes
@@ -42,6 +44,7 @@ module _ {H H′ W W′ L L′ : Type 0} (f : H → H′) (g : W → W′) (h : 
   bytesRead-nat (takes t) = refl
   bytesRead-nat (left b) = refl
   bytesRead-nat (pends n) = refl
+  bytesRead-nat (rows r) = refl
 
   bytesSent-nat : (r : Reply H W L) → bytesSent (mapReply f g h r) ≡ map g (bytesSent r)
   unfolding bytesSent mapReply mapTake
@@ -51,6 +54,7 @@ module _ {H H′ W W′ L L′ : Type 0} (f : H → H′) (g : W → W′) (h : 
   bytesSent-nat (takes t) = refl
   bytesSent-nat (left b) = refl
   bytesSent-nat (pends n) = refl
+  bytesSent-nat (rows r) = refl
 
 -- ---- renamings that keep the numbers below a count
 
@@ -104,24 +108,33 @@ module _ {H W L : Type 0} (h w : ℕ) (c : Placed H W L) where
       ap-le : {x : Put W} → writesOf c ≡ x ∷ [] → w + length (flatMap putOf (x ∷ [])) ≤ w + length (flatMap putOf (writesOf c))
       ap-le {x} r = rw r (omega arith)
 
--- ---- a list of numbered calls
+module _ {H W L : Type 0} (h w : ℕ) where
+  asked-fixed : (a : Asked (Placed H W L) W) (f g : ℕ → ℕ) → Keeps (h + length (hostIn a)) f → Keeps (w + length (writtenIn a)) g
+      → mapAsked f g itself (numberedAsked h w a) ≡ numberedAsked h w a
+  unfolding givenBy changedAsked
+  asked-fixed (Asked.call c) f g p q = ap Asked.call (call-fixed h w c f g p q)
+  asked-fixed (Asked.row now bs) f g p q = ap (Asked.row now) (upFrom-fixed _ g q w (length bs) (omega arith))
+
+-- ---- a numbered list
 
 -- a state that holds no number from the counts on
 abbrev pub Fixed : ℕ → ℕ → Uart ℕ ℕ → Type 0
 Fixed h w u = (f g : ℕ → ℕ) → Keeps h f → Keeps w g → mapUart f g u ≡ u
 
-module _ {H W L : Type 0} (h w : ℕ) (c : Placed H W L) (u : Uart ℕ ℕ) (k : Fixed h w u) where
-  step-fixed : (f g : ℕ → ℕ) → Keeps (h + length (hostOf c)) f → Keeps (w + length (writtenOf c)) g
-      → mapStep f g itself (stepPlaced (numbered h w c) u) ≡ stepPlaced (numbered h w c) u
-  step-fixed f g p q =
-      sym (stepPlaced-nat f g itself (numbered h w c) u)
-      ∙ ap₂ stepPlaced (call-fixed h w c f g p q) (k f g (λ n l. p n (omega arith)) (λ n l. q n (omega arith)))
+module _ {H W L : Type 0} (h w : ℕ) (a : Asked (Placed H W L) W) (u : Uart ℕ ℕ) (k : Fixed h w u) where
+  abbrev next : Step ℕ ℕ (Unit {0})
+  next = askedBy stepPlaced (numberedAsked h w a) u
 
-  state-fixed : Fixed (h + length (hostOf c)) (w + length (writtenOf c)) (stepPlaced (numbered h w c) u .state)
+  step-fixed : (f g : ℕ → ℕ) → Keeps (h + length (hostIn a)) f → Keeps (w + length (writtenIn a)) g → mapStep f g itself next ≡ next
+  step-fixed f g p q =
+      sym (asked-nat f g itself (numberedAsked h w a) u)
+      ∙ ap₂ (askedBy stepPlaced) (asked-fixed h w a f g p q) (k f g (λ n l. p n (omega arith)) (λ n l. q n (omega arith)))
+
+  state-fixed : Fixed (h + length (hostIn a)) (w + length (writtenIn a)) (next .state)
   unfolding mapStep
   state-fixed f g p q = ap (λ s. s .state) (step-fixed f g p q)
 
-  answer-below : Below (h + length (hostOf c)) (w + length (writtenOf c)) (stepPlaced (numbered h w c) u .answer)
+  answer-below : Below (h + length (hostIn a)) (w + length (writtenIn a)) (next .answer)
   unfolding mapStep mapAnswer
   answer-below =
       record {
@@ -129,29 +142,28 @@ module _ {H W L : Type 0} (h w : ℕ) (c : Placed H W L) (u : Uart ℕ ℕ) (k :
         sent = all-below _ _ (sym (bytesSent-nat _ _ itself _) ∙ ap (λ s. bytesSent (s .answer .reply)) fixed);
       }
     where
-      fixed : mapStep (shifted (h + length (hostOf c))) (shifted (w + length (writtenOf c))) itself (stepPlaced (numbered h w c) u)
-          ≡ stepPlaced (numbered h w c) u
+      fixed : mapStep (shifted (h + length (hostIn a))) (shifted (w + length (writtenIn a))) itself next ≡ next
       fixed = step-fixed _ _ (shifted-keeps _) (shifted-keeps _)
 
 module _ (fifo : ℕ) (others : List ℕ) where
-  pub run-below : (h w : ℕ) (cs : List Request) (u : Uart ℕ ℕ) → Fixed h w u
-      → EachBelow fifo h w cs (runPlaced (number h w (map (placed (fifo ∷ others)) cs)) u)
-  unfolding runPlaced number
+  pub run-below : (h w : ℕ) (cs : List Ask) (u : Uart ℕ ℕ) → Fixed h w u
+      → EachBelow fifo h w cs (runPlaced (number h w (map (placedAsked (fifo ∷ others)) cs)) u)
+  unfolding runBy number
   run-below h w [] u k = EachBelow.nil
-  run-below h w (c ∷ cs) u k =
+  run-below h w (a ∷ cs) u k =
       EachBelow.cons
-      (subst₂ (λ i j. Below (h + length i) (w + length j) (next .answer)) (host-of-placed (fifo ∷ others) c)
-      (written-of-placed fifo others c) (answer-below h w pc u k))
-      (subst₂ (λ i j. EachBelow fifo (h + length i) (w + length j) cs further) (host-of-placed (fifo ∷ others) c)
-      (written-of-placed fifo others c)
-      (run-below (h + length (hostOf pc)) (w + length (writtenOf pc)) cs (next .state) (state-fixed h w pc u k)))
+      (subst₂ (λ i j. Below (h + length i) (w + length j) (after .answer)) (host-of-placed (fifo ∷ others) a)
+      (written-of-placed fifo others a) (answer-below h w pa u k))
+      (subst₂ (λ i j. EachBelow fifo (h + length i) (w + length j) cs further) (host-of-placed (fifo ∷ others) a)
+      (written-of-placed fifo others a)
+      (run-below (h + length (hostIn pa)) (w + length (writtenIn pa)) cs (after .state) (state-fixed h w pa u k)))
     where
-      pc : Placed ℕ ℕ ℕ
-      pc = placed (fifo ∷ others) c
+      pa : Asked (Placed ℕ ℕ ℕ) ℕ
+      pa = placedAsked (fifo ∷ others) a
 
-      next : Step ℕ ℕ (Unit {0})
-      next = stepPlaced (numbered h w pc) u
+      after : Step ℕ ℕ (Unit {0})
+      after = askedBy stepPlaced (numberedAsked h w pa) u
 
       further : List Bare
       further =
-          runPlaced (number (h + length (hostOf pc)) (w + length (writtenOf pc)) (map (placed (fifo ∷ others)) cs)) (next .state)
+          runPlaced (number (h + length (hostIn pa)) (w + length (writtenIn pa)) (map (placedAsked (fifo ∷ others)) cs)) (after .state)

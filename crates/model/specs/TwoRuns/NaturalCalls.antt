@@ -1,4 +1,4 @@
--- Each call, and a whole list of calls, looks into no byte: it commutes with a change of bytes. Assumes nothing.
+-- Each call looks into no byte: it commutes with a change of bytes. Assumes nothing.
 use mathlib.Core.Path.{_≡_, refl, sym, ap, ap₂, _∙_}
 use Prim.Native.Nat.{ℕ}
 use mathlib.Core.Bool.{Bool, true, false}
@@ -25,7 +25,7 @@ use Rattle.model.specs.Run.{Step, stepped, replying, planBy}
 use Rattle.model.specs.TwoRuns.Natural.{mapEvent, mapSettled, found-nat, passes-in-nat, overflows-in-nat, bytes-nat}
 use Rattle.model.specs.TwoRuns.Natural.{lastGone-nat, pending-nat, levels-nat, settle-nat, arm-nat}
 use Rattle.model.specs.TwoRuns.Alike.{Each}
-use Rattle.model.specs.TwoRuns.Placed.{Put, Placed, changedDated, changedUndated, changed, putting, stepPlaced, stepBy, runPlaced}
+use Rattle.model.specs.TwoRuns.Placed.{Put, Placed, changedDated, changedUndated, changed, putting, stepPlaced, stepBy}
 use Rattle.model.specs.TwoRuns.Renamed.{mapReadOf, mapTake, mapReply, mapAnswer, itself}
 use Rattle.model.specs.declared.Refusal.{Refusal}
 use Rattle.model.specs.declared.Unsupported.{Unsupported}
@@ -48,7 +48,7 @@ module _ {R R′ H H′ W W′ : Type 0} (m : R → R′) (f : H → H′) (g : 
   unfoldable mapAccess : Access R H W → Access R′ H′ W′
   mapAccess a = record { reply = m (a .reply); notes = a .notes; state = mapUart f g (a .state) }
 
-  unfoldable mapOutcome : Outcome R H W → Outcome R′ H′ W′
+  unfoldable pub mapOutcome : Outcome R H W → Outcome R′ H′ W′
   mapOutcome o = record {
     reply = m (o .reply);
     report = o .report;
@@ -58,13 +58,13 @@ module _ {R R′ H H′ W W′ : Type 0} (m : R → R′) (f : H → H′) (g : 
   }
 
   -- the second plan is the first with other bytes
-  record Natural (p : Plan R H W) (p′ : Plan R′ H′ W′) : Type 0 where
-    test : p′ .test ≡ p .test
+  pub record Natural (p : Plan R H W) (p′ : Plan R′ H′ W′) : Type 0 where
+    pub test : p′ .test ≡ p .test
     refuses : (r : Refusal) → p′ .refuses r ≡ m (p .refuses r)
     changes : Each (λ k k′. (v : Uart H W) → k′ (mapUart f g v) ≡ mapUart f g (k v)) (p .changes) (p′ .changes)
     work : (v : Uart H W) → p′ .work (mapUart f g v) ≡ mapAccess (p .work v)
 
-  unless-nat : (o : Option Refusal) (reply : Refusal → R) (reply′ : Refusal → R′) (work : Uart H W → Outcome R H W)
+  pub unless-nat : (o : Option Refusal) (reply : Refusal → R) (reply′ : Refusal → R′) (work : Uart H W → Outcome R H W)
       (work′ : Uart H′ W′ → Outcome R′ H′ W′) (u : Uart H W)
       → ((r : Refusal) → reply′ r ≡ m (reply r)) → work′ (mapUart f g u) ≡ mapOutcome (work u)
       → unless o reply′ work′ (mapUart f g u) ≡ mapOutcome (unless o reply work u)
@@ -105,7 +105,7 @@ module _ {R R′ H H′ W W′ : Type 0} (m : R → R′) (f : H → H′) (g : 
         ap (λ t. afterSettling t (p′ .work)) (settledBy-nat now (n .changes) (ended (dated now u)))
         ∙ after-nat _ (p .work) (p′ .work) (n .work)
 
-    outcome-nat : (d : Option ℕ) → outcome d p′ (mapUart f g u) ≡ mapOutcome (outcome d p u)
+    pub outcome-nat : (d : Option ℕ) → outcome d p′ (mapUart f g u) ≡ mapOutcome (outcome d p u)
     unfolding outcome
     outcome-nat d =
         ap (λ t. unless (refusalBy d t (u .control)) (p′ .refuses) (carried d p′) (mapUart f g u)) (n .test)
@@ -195,7 +195,7 @@ module _ {H H′ W W′ : Type 0} (f : H → H′) (g : W → W′) where
   unfolding sendByte
   sendByte-nat now b u = rw (length-map (u .inFlight) (mapSent g)) (choose-nat (mapAccess itself f g) _ (dropped-nat u) (sent-nat now b u))
 
-  putting-nat : (now : ℕ) (x : Put W) (u : Uart H W) → Natural itself f g (putting now x u) (putting now (mapPut g x) (mapUart f g u))
+  pub putting-nat : (now : ℕ) (x : Put W) (u : Uart H W) → Natural itself f g (putting now x u) (putting now (mapPut g x) (mapUart f g u))
   unfolding putting mapPut send writePlaced dated
   putting-nat now (Put.byte b) u = record {
     test = rw (length-map (u .tx) g, length-map (u .inFlight) (mapSent g));
@@ -379,12 +379,3 @@ module _ {H H′ W W′ : Type 0} (f : H → H′) (g : W → W′) where
     pub stepPlaced-nat : (c : Placed H W L) (u : Uart H W) → stepPlaced (mapPlaced f g h c) (mapUart f g u) ≡ mapStep f g h (stepPlaced c u)
     unfolding stepPlaced mapPlaced
     stepPlaced-nat c u = stepBy-nat itself (mapPut g) _ _ _ _ readPlaced-nat putting-nat c u
-
-    -- and so does a whole list of them
-    pub runPlaced-nat : (cs : List (Placed H W L)) (u : Uart H W)
-        → runPlaced (map (mapPlaced f g h) cs) (mapUart f g u) ≡ map (mapAnswer f g h) (runPlaced cs u)
-    unfolding runPlaced mapStep
-    runPlaced-nat [] u = refl
-    runPlaced-nat (c ∷ cs) u =
-        ap (λ s. s .answer ∷ runPlaced (map (mapPlaced f g h) cs) (s .state)) (stepPlaced-nat c u)
-        ∙ ap (λ r. mapAnswer f g h (stepPlaced c u .answer) ∷ r) (runPlaced-nat cs (stepPlaced c u .state))

@@ -7,12 +7,12 @@ use lib.ListN.{length}
 use Rattle.model.specs.Limits.{All}
 use Rattle.model.specs.Replies.{ReadOf, word, byte, noValue, refused, Take}
 use Rattle.model.specs.Registers.{sourceNotes}
-use Rattle.model.specs.Call.{Dated, Call, Request, Reply, reads, writes, does, takes, left, pends, Answer}
-use Rattle.model.specs.TwoRuns.Alike.{fifoBytesOf}
-use Rattle.model.specs.Call.{hostOf}
+use Rattle.model.specs.Call.{Dated, Call, Request, Asked, Ask, Reply, reads, writes, does, takes, left, pends, rows, Answer}
+use Rattle.model.specs.TwoRuns.Alike.{hostGiven, fifoGiven}
 use Rattle.model.specs.TwoRuns.Agree.{Notes}
 use Rattle.model.specs.declared.Refusal.{Refusal}
 use Rattle.model.specs.declared.Report.{Report}
+use Rattle.model.specs.declared.Row.{Row}
 use Rattle.model.specs.declared.Source.{Source}
 use Rattle.model.specs.declared.Unsupported.the-variants.{UartEmptyRead, UartReceiveClock}
 
@@ -29,6 +29,7 @@ bareReply (does r) = does r
 bareReply (takes t) = takes (record { taken = t .taken; front = t .front; rest = map (λ b. tt) (t .rest) })
 bareReply (left b) = left b
 bareReply (pends n) = pends n
+bareReply (rows r) = rows r
 
 unfoldable pub withoutRest : Answer ℕ ℕ ℕ → Bare
 withoutRest a = record { reply = bareReply (a .reply); report = a .report }
@@ -48,6 +49,7 @@ module _ {H W L : Type 0} where
   bytesRead (takes t) = []
   bytesRead (left b) = []
   bytesRead (pends n) = []
+  bytesRead (rows r) = []
 
   -- the bytes handed out as sent
   unfoldable pub bytesSent : Reply H W L → List W
@@ -57,6 +59,7 @@ module _ {H W L : Type 0} where
   bytesSent (takes t) = t .front
   bytesSent (left b) = []
   bytesSent (pends n) = []
+  bytesSent (rows r) = []
 
 -- ---- numbers for bytes
 
@@ -65,13 +68,13 @@ pub record Below (h w : ℕ) (a : Bare) : Type 0 where
   pub read : All (λ n. n < h) (bytesRead (a .reply))
   pub sent : All (λ n. n < w) (bytesSent (a .reply))
 
--- before the calls, h host bytes and w FIFO writes were given: each answer's numbers are below what is given once its own
--- call is made
-pub data EachBelow (fifo : ℕ) : ℕ → ℕ → List Request → List Bare → Type 0 where
+-- before the list, h host bytes and w FIFO writes were given: each answer's numbers are below what is given once its own
+-- call or row is made
+pub data EachBelow (fifo : ℕ) : ℕ → ℕ → List Ask → List Bare → Type 0 where
   nil : {h w : ℕ} → EachBelow fifo h w [] []
-  cons : {h w : ℕ} {c : Request} {cs : List Request} {a : Bare} {t : List Bare}
-      → Below (h + length (hostOf c)) (w + length (fifoBytesOf fifo c)) a
-      → EachBelow fifo (h + length (hostOf c)) (w + length (fifoBytesOf fifo c)) cs t
+  cons : {h w : ℕ} {c : Ask} {cs : List Ask} {a : Bare} {t : List Bare}
+      → Below (h + length (hostGiven c)) (w + length (fifoGiven fifo c)) a
+      → EachBelow fifo (h + length (hostGiven c)) (w + length (fifoGiven fifo c)) cs t
       → EachBelow fifo h w (c ∷ cs) (a ∷ t)
 
 -- ---- reads of FIFO
@@ -91,3 +94,8 @@ pub data Shape (fifo : ℕ) : Request → Bare → Type 0 where
   handedOut : {c : Request} {t : Take ℕ (Unit {0})} {r : Report} → NotFifo fifo c → Shape fifo c (record { reply = takes t; report = r })
   noByte : {c : Request} {a : Bare} → NotFifo fifo c → ((b : ℕ) → ¬ (a .reply ≡ reads (byte b)))
       → ((t : Take ℕ (Unit {0})) → ¬ (a .reply ≡ takes t)) → Shape fifo c a
+
+-- and a row a row's reply
+pub data AskedShape (fifo : ℕ) : Ask → Bare → Type 0 where
+  call : {c : Request} {a : Bare} → Shape fifo c a → AskedShape fifo (Asked.call c) a
+  row : {now : ℕ} {bs : List ℕ} {x : Row} {r : Report} → AskedShape fifo (Asked.row now bs) (record { reply = rows x; report = r })

@@ -1,5 +1,5 @@
--- A list of calls with the numbers of its bytes in their place: the bytes looked up give the list back, and alike lists
--- have one numbering. Assumes nothing.
+-- A list with the numbers of its bytes in their place: the bytes looked up give the list back, and alike lists have one
+-- numbering. Assumes nothing.
 use mathlib.Core.Path.{_≡_, refl, sym, ap, ap₂, _∙_}
 use Prim.Native.Nat.{ℕ, zero, suc, _+_, _%_}
 use native.Mathlib.Nat.{add-zero, suc-ne-zero, suc-inj}
@@ -12,14 +12,15 @@ use borrow.Author.Tests.{eq-eqb}
 use Rattle.model.specs.Numbers.{choose}
 use Rattle.model.specs.Map.{Register, isFifo, registerAmong, registerOf}
 use Rattle.model.specs.Laws.Choose.{choose-true, choose-false}
+use Rattle.model.specs.Laws.Lists.{flatMap-map}
 use Rattle.model.specs.Refuses.FifoPlace.{after-first}
-use Rattle.model.specs.Call.{Dated, Undated, Call, Written, Request}
-use Rattle.model.specs.TwoRuns.Placed.{Put, Placed, changedDated, changedUndated, changed, putAt, placed}
-use Rattle.model.specs.TwoRuns.Alike.{Each, Alike, same, hostBytes, fifoWord, lentToTakeTx, lentToTakeWritten}
-use Rattle.model.specs.Call.{given, hostOf}
-use Rattle.model.specs.TwoRuns.Alike.{fifoBytesOf}
+use Rattle.model.specs.Call.{Dated, Undated, Call, Written, Request, given, hostOf, Asked, Ask}
+use Rattle.model.specs.TwoRuns.Placed.{Put, Placed, changedDated, changedUndated, changed, changedAsked, putAt, placed, placedAsked}
+use Rattle.model.specs.TwoRuns.Alike.{Each, Alike, same, hostBytes, fifoWord, lentToTakeTx, lentToTakeWritten, AskedAlike}
+use Rattle.model.specs.TwoRuns.Alike.{fifoBytesOf, givenBy, hostGiven, fifoGiven}
 use Rattle.model.specs.TwoRuns.Renamed.{itself, forget}
 use Rattle.model.specs.TwoRuns.NaturalCalls.{mapPut, mapPlaced}
+use Rattle.model.specs.TwoRuns.NaturalRuns.{mapAsked}
 
 abbrev pub writesOf : {R X H L : Type 0} → Call R X H L → List X
 writesOf c = given c .1
@@ -90,24 +91,30 @@ upFrom n (suc k) = n ∷ upFrom (n + 1) k
 unfoldable pub numbered : {H W L : Type 0} → ℕ → ℕ → Placed H W L → Placed ℕ ℕ (Unit {0})
 numbered h w c = changed itself (mapPut (λ b. w)) (λ bs. upFrom h (length bs)) (map forget) c
 
-unfoldable pub number : {H W L : Type 0} → ℕ → ℕ → List (Placed H W L) → List (Placed ℕ ℕ (Unit {0}))
+-- so many numbers for a row
+abbrev pub numberedAsked : {H W L : Type 0} → ℕ → ℕ → Asked (Placed H W L) W → Asked (Placed ℕ ℕ (Unit {0})) ℕ
+numberedAsked h w a = changedAsked (numbered h w) (λ bs. upFrom w (length bs)) a
+
+-- the bytes that are given
+abbrev pub hostIn : {H W L : Type 0} → Asked (Placed H W L) W → List H
+hostIn a = givenBy hostOf (λ bs. []) a
+
+abbrev pub writtenIn : {H W L : Type 0} → Asked (Placed H W L) W → List W
+writtenIn a = givenBy writtenOf (λ bs. bs) a
+
+unfoldable pub number : {H W L : Type 0} → ℕ → ℕ → List (Asked (Placed H W L) W) → List (Asked (Placed ℕ ℕ (Unit {0})) ℕ)
 number h w [] = []
-number h w (c ∷ cs) = numbered h w c ∷ number (h + length (hostOf c)) (w + length (writtenOf c)) cs
+number h w (a ∷ cs) = numberedAsked h w a ∷ number (h + length (hostIn a)) (w + length (writtenIn a)) cs
 
 -- ---- the bytes of a caller's list are those of the placed one
 
-flatMap-map : {A B C : Type 0} (k : B → List C) (x : A → B) (k′ : A → List C) → ((a : A) → k (x a) ≡ k′ a) → (l : List A)
-    → flatMap k (map x l) ≡ flatMap k′ l
-unfolding flatMap
-flatMap-map k x k′ p [] = refl
-flatMap-map k x k′ p (a ∷ l) = ap₂ _++_ (p a) (flatMap-map k x k′ p l)
+pub host-of-placed : (offsets : List ℕ) (a : Ask) → hostIn (placedAsked offsets a) ≡ hostGiven a
+unfolding placed givenBy changedAsked
+host-of-placed offsets (Asked.call c) = host-kept _ _ c
+host-of-placed offsets (Asked.row now bs) = refl
 
-pub host-of-placed : (offsets : List ℕ) (c : Request) → hostOf (placed offsets c) ≡ hostOf c
-unfolding placed
-host-of-placed offsets c = host-kept _ _ c
-
-pub host-placed : (offsets : List ℕ) (cs : List Request) → flatMap hostOf (map (placed offsets) cs) ≡ flatMap hostOf cs
-host-placed offsets cs = flatMap-map hostOf (placed offsets) hostOf (host-of-placed offsets) cs
+pub host-placed : (offsets : List ℕ) (cs : List Ask) → flatMap hostIn (map (placedAsked offsets) cs) ≡ flatMap hostGiven cs
+host-placed offsets cs = flatMap-map hostIn (placedAsked offsets) hostGiven (host-of-placed offsets) cs
 
 module _ (fifo : ℕ) (others : List ℕ) where
   put-placed : (x : Written) → putOf (putAt (registerOf (fifo ∷ others) (x .offset)) (x .value))
@@ -120,12 +127,13 @@ module _ (fifo : ℕ) (others : List ℕ) where
       go true e = ap (λ p. putOf (putAt p (x .value))) (fifo-place fifo others (x .offset) e)
       go false e = ap putOf (choose-false _ _ (other-place fifo others (x .offset) e))
 
-  pub written-of-placed : (c : Request) → writtenOf (placed (fifo ∷ others) c) ≡ fifoBytesOf fifo c
-  unfolding writtenOf placed
-  written-of-placed c = ap (flatMap putOf) (writes-changed _ _ c) ∙ flatMap-map putOf _ _ put-placed (writesOf c)
+  pub written-of-placed : (a : Ask) → writtenIn (placedAsked (fifo ∷ others) a) ≡ fifoGiven fifo a
+  unfolding writtenOf placed givenBy changedAsked
+  written-of-placed (Asked.call c) = ap (flatMap putOf) (writes-changed _ _ c) ∙ flatMap-map putOf _ _ put-placed (writesOf c)
+  written-of-placed (Asked.row now bs) = refl
 
-  pub written-placed : (cs : List Request) → flatMap writtenOf (map (placed (fifo ∷ others)) cs) ≡ flatMap (fifoBytesOf fifo) cs
-  written-placed cs = flatMap-map writtenOf (placed (fifo ∷ others)) _ written-of-placed cs
+  pub written-placed : (cs : List Ask) → flatMap writtenIn (map (placedAsked (fifo ∷ others)) cs) ≡ flatMap (fifoGiven fifo) cs
+  written-placed cs = flatMap-map writtenIn (placedAsked (fifo ∷ others)) _ written-of-placed cs
 
 -- ---- the bytes looked up by their numbers give the list back
 
@@ -159,14 +167,20 @@ module _ {H W L : Type 0} (d : H) (e : W) (hs : List H) (ws : List W) where
       (upFrom-back d hs n (hostOf c) h p ∙ sym (map-id (hostOf c)))
       (λ l. map-id (map forget l))
 
-  pub calls-back : (n m : ℕ) (cs : List (Placed H W L)) → drop n hs ≡ flatMap hostOf cs → drop m ws ≡ flatMap writtenOf cs
-      → map (mapPlaced (λ k. getD hs k d) (λ k. getD ws k e) itself) (number n m cs) ≡ map (mapPlaced itself itself forget) cs
+  asked-back : (n m : ℕ) (a : Asked (Placed H W L) W) (h : List H) (w : List W) → drop n hs ≡ hostIn a ++ h → drop m ws ≡ writtenIn a ++ w
+      → mapAsked (λ k. getD hs k d) (λ k. getD ws k e) itself (numberedAsked n m a) ≡ mapAsked itself itself forget a
+  unfolding givenBy changedAsked
+  asked-back n m (Asked.call c) h w p q = ap Asked.call (call-back n m c h w p q)
+  asked-back n m (Asked.row now bs) h w p q = ap (Asked.row now) (upFrom-back e ws m bs w q ∙ sym (map-id bs))
+
+  pub asks-back : (n m : ℕ) (cs : List (Asked (Placed H W L) W)) → drop n hs ≡ flatMap hostIn cs → drop m ws ≡ flatMap writtenIn cs
+      → map (mapAsked (λ k. getD hs k d) (λ k. getD ws k e) itself) (number n m cs) ≡ map (mapAsked itself itself forget) cs
   unfolding number flatMap
-  calls-back n m [] p q = refl
-  calls-back n m (c ∷ cs) p q =
-      ap₂ (λ x t. x ∷ t) (call-back n m c (flatMap hostOf cs) (flatMap writtenOf cs) p q)
-      (calls-back (n + length (hostOf c)) (m + length (writtenOf c)) cs (past d hs n (hostOf c) (flatMap hostOf cs) p)
-      (past e ws m (writtenOf c) (flatMap writtenOf cs) q))
+  asks-back n m [] p q = refl
+  asks-back n m (a ∷ cs) p q =
+      ap₂ (λ x t. x ∷ t) (asked-back n m a (flatMap hostIn cs) (flatMap writtenIn cs) p q)
+      (asks-back (n + length (hostIn a)) (m + length (writtenIn a)) cs (past d hs n (hostIn a) (flatMap hostIn cs) p)
+      (past e ws m (writtenIn a) (flatMap writtenIn cs) q))
 
 -- ---- alike lists have one numbering
 
@@ -212,11 +226,25 @@ module _ (fifo : ℕ) (others : List ℕ) where
   written-alike (lentToTakeTx e) = refl
   written-alike (lentToTakeWritten e) = refl
 
-  -- lists of calls that are alike are one list of numbered calls
-  pub calls-alike : (h w : ℕ) {cs ds : List Request} → Each (Alike fifo) cs ds
-      → number h w (map (placed (fifo ∷ others)) cs) ≡ number h w (map (placed (fifo ∷ others)) ds)
+  module _ (h w : ℕ) where
+    asked-alike : {a b : Ask} → AskedAlike (Alike fifo) a b
+        → numberedAsked h w (placedAsked (fifo ∷ others) a) ≡ numberedAsked h w (placedAsked (fifo ∷ others) b)
+    unfolding changedAsked
+    asked-alike (AskedAlike.call e) = ap Asked.call (call-alike h w e)
+    asked-alike (AskedAlike.row {now = now} e) = ap (λ (k : ℕ). Asked.row now (upFrom w k)) e
+
+  given-alike : {a b : Ask} → AskedAlike (Alike fifo) a b
+      → (length (hostIn (placedAsked (fifo ∷ others) a)) ≡ length (hostIn (placedAsked (fifo ∷ others) b)))
+      × (length (writtenIn (placedAsked (fifo ∷ others) a)) ≡ length (writtenIn (placedAsked (fifo ∷ others) b)))
+  unfolding changedAsked givenBy
+  given-alike (AskedAlike.call e) = (host-alike e, written-alike e)
+  given-alike (AskedAlike.row e) = (refl, e)
+
+  -- lists that are alike are one list with numbers
+  pub asks-alike : (h w : ℕ) {cs bs : List Ask} → Each (AskedAlike (Alike fifo)) cs bs
+      → number h w (map (placedAsked (fifo ∷ others)) cs) ≡ number h w (map (placedAsked (fifo ∷ others)) bs)
   unfolding number
-  calls-alike h w Each.nil = refl
-  calls-alike h w (Each.cons {a = c} {b = d} {m = ds} e es) =
-      ap₂ (λ x t. x ∷ t) (call-alike h w e)
-      (calls-alike _ _ es ∙ ap₂ (λ k l. number (h + k) (w + l) (map (placed (fifo ∷ others)) ds)) (host-alike e) (written-alike e))
+  asks-alike h w Each.nil = refl
+  asks-alike h w (Each.cons {m = bs} e es) =
+      ap₂ (λ x t. x ∷ t) (asked-alike h w e)
+      (asks-alike _ _ es ∙ ap₂ (λ k l. number (h + k) (w + l) (map (placedAsked (fifo ∷ others)) bs)) (given-alike e .0) (given-alike e .1))

@@ -9,8 +9,8 @@ use Rattle.model.specs.State.{Uart}
 use Rattle.model.specs.Map.{Register, isFifo, registerOf}
 use Rattle.model.specs.Calls
 use Rattle.model.specs.Calls.{Plan, outcome, readPlaced, writePlaced, send, writeAt}
-use Rattle.model.specs.Call.{Dated, Undated, Call, dateOf, Request, writes, Answer}
-use Rattle.model.specs.Run.{Step, stepped, replying, planBy, writing, plan, step}
+use Rattle.model.specs.Call.{Dated, Undated, Call, dateOf, Request, Asked, writes, Answer}
+use Rattle.model.specs.Run.{Step, stepped, replying, planBy, writing, plan, step, runBy}
 use Rattle.model.specs.Replies.{ReadOf}
 use Rattle.model.specs.Laws.Choose.{choose-nat}
 use Rattle.model.specs.declared.Write.{Write}
@@ -43,6 +43,11 @@ unfoldable pub changed : {R R′ X X′ H H′ L L′ : Type 0} → (R → R′)
 changed r x h l (Call.at now c) = Call.at now (changedDated r x h l c)
 changed r x h l (Call.undated c) = Call.undated (changedUndated l c)
 
+-- what is asked for, with another call, or other bytes of a row
+unfoldable pub changedAsked : {C C′ W W′ : Type 0} → (C → C′) → (List W → List W′) → Asked C W → Asked C′ W′
+changedAsked k w (Asked.call c) = Asked.call (k c)
+changedAsked k w (Asked.row now bs) = Asked.row now (w bs)
+
 -- a FIFO write's byte is its word's low 8 bits
 unfoldable pub putAt : Register → ℕ → Put ℕ
 putAt p v = choose (isFifo p) (Put.byte (v % 256)) (Put.word p v)
@@ -50,6 +55,9 @@ putAt p v = choose (isFifo p) (Put.byte (v % 256)) (Put.word p v)
 -- a caller's call with registers for its offsets
 unfoldable pub placed : List ℕ → Request → Placed ℕ ℕ ℕ
 placed offsets c = changed (registerOf offsets) (λ x. putAt (registerOf offsets (x .offset)) (x .value)) (λ bs. bs) (λ lent. lent) c
+
+abbrev pub placedAsked : List ℕ → Asked Request ℕ → Asked (Placed ℕ ℕ ℕ) ℕ
+placedAsked offsets a = changedAsked (placed offsets) (λ bs. bs) a
 
 module _ {H W : Type 0} where
   unfoldable pub putting : ℕ → Put W → Uart H W → Plan Write H W
@@ -63,9 +71,8 @@ module _ {H W : Type 0} where
   unfoldable pub stepPlaced : {L : Type 0} → Placed H W L → Uart H W → Step H W L
   stepPlaced c u = stepBy readPlaced putting c u
 
-  unfoldable pub runPlaced : {L : Type 0} → List (Placed H W L) → Uart H W → List (Answer H W L)
-  runPlaced [] u = []
-  runPlaced (c ∷ cs) u = stepPlaced c u .answer ∷ runPlaced cs (stepPlaced c u .state)
+  abbrev pub runPlaced : {L : Type 0} → List (Asked (Placed H W L) W) → Uart H W → List (Answer H W L)
+  runPlaced cs u = runBy stepPlaced cs u
 
 writeAt-placed : (now : ℕ) (p : Register) (v : ℕ) (u : Uart ℕ ℕ) → writeAt now p v u ≡ putting now (putAt p v) u
 unfolding writeAt putting putAt

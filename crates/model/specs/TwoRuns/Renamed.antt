@@ -4,7 +4,7 @@ use Prim.Native.Nat.{ℕ}
 use mathlib.Core.List.{List, map}
 use Rattle.model.specs.State.{Sent, OnTheLine, Uart}
 use Rattle.model.specs.Replies.{ReadOf, word, byte, noValue, refused, Take}
-use Rattle.model.specs.Call.{Request, Reply, reads, writes, does, takes, left, pends, Answer}
+use Rattle.model.specs.Call.{Ask, Reply, reads, writes, does, takes, left, pends, rows, Answer}
 use Rattle.model.specs.TwoRuns.Alike.{hostByte, writeByte}
 
 abbrev pub mapSent : {W W′ : Type 0} → (W → W′) → Sent W → Sent W′
@@ -47,6 +47,7 @@ mapReply f g h (does r) = does r
 mapReply f g h (takes t) = takes (mapTake g h t)
 mapReply f g h (left b) = left b
 mapReply f g h (pends n) = pends n
+mapReply f g h (rows r) = rows r
 
 unfoldable pub mapAnswer : {H H′ W W′ L L′ : Type 0} → (H → H′) → (W → W′) → (L → L′) → Answer H W L → Answer H′ W′ L′
 mapAnswer f g h a = record { reply = mapReply f g h (a .reply); report = a .report }
@@ -58,6 +59,6 @@ itself a = a
 unfoldable pub forget : {A : Type 0} → A → Unit {0}
 forget a = tt
 
--- each number replaced by the byte that has it in a list of calls
-unfoldable pub withBytesOf : ℕ → List Request → Answer ℕ ℕ (Unit {0}) → Answer ℕ ℕ (Unit {0})
+-- each number replaced by the byte that has it in a list
+unfoldable pub withBytesOf : ℕ → List Ask → Answer ℕ ℕ (Unit {0}) → Answer ℕ ℕ (Unit {0})
 withBytesOf fifo cs a = mapAnswer (hostByte cs) (writeByte fifo cs) itself a

@@ -1,4 +1,4 @@
--- What each call's answer holds: a read of FIFO a byte or, from an empty FIFO, 0 with UartEmptyRead; no other call a byte of
+-- What each answer holds: a read of FIFO a byte or, from an empty FIFO, 0 with UartEmptyRead; no other call, and no row, a byte of
 -- the host. Assumes nothing.
 use mathlib.Core.Path.{_≡_, refl, sym, subst}
 use Prim.Native.Nat.{ℕ}
@@ -14,14 +14,16 @@ use Rattle.model.specs.Registers.{sourceNotes, looks, pop, readRegister,
 use Rattle.model.specs.Tests.{refuseDate}
 use Rattle.model.specs.Calls.{Plan, refusing, unless, afterSettling, carried, outcome, readPlaced}
 use Rattle.model.specs.Laws.Plans.{settleAt}
-use Rattle.model.specs.Call.{Dated, Undated, Call, dateOf, Request, Reply, reads, writes, does, takes, left, pends}
-use Rattle.model.specs.Run.{Step, stepped, replying, planBy}
-use Rattle.model.specs.Laws.Plans.{answering, replied}
+use Rattle.model.specs.Call.{Dated, Undated, Call, dateOf, Request, Asked, Ask, Reply, reads, writes, does, takes, left, pends}
+use Rattle.model.specs.Run.{Step, stepped, replying, planBy, askedBy, runBy}
+use Rattle.model.specs.Run.{answering}
+use Rattle.model.specs.Laws.Plans.{replied}
 use Rattle.model.specs.Ends.Passes.{apart}
-use Rattle.model.specs.TwoRuns.Placed.{changedDated, changedUndated, changed, placed, stepPlaced, stepBy, runPlaced}
+use Rattle.model.specs.TwoRuns.Placed.{changedDated, changedUndated, changed, changedAsked, placed, placedAsked, stepPlaced, stepBy}
+use Rattle.model.specs.TwoRuns.Placed.{runPlaced}
 use Rattle.model.specs.TwoRuns.Alike.{Each}
-use Rattle.model.specs.TwoRuns.Numbering.{other-place, fifo-place, numbered, number}
-use Rattle.model.specs.TwoRuns.Numbered.{NotFifo, Shape}
+use Rattle.model.specs.TwoRuns.Numbering.{other-place, fifo-place, numbered, numberedAsked, number}
+use Rattle.model.specs.TwoRuns.Numbered.{NotFifo, Shape, AskedShape}
 use Rattle.model.specs.declared.Refusal.{Refusal}
 use Rattle.model.specs.declared.Report.{Report}
 use Rattle.model.specs.declared.Source.{Source}
@@ -133,9 +135,15 @@ module _ (fifo : ℕ) (others : List ℕ) where
   step-shape h w (Call.undated Undated.hostPending) u =
       shaped pends _ _ _ u (no-byte _ (pends _) (λ n e. apart (cc)) (λ b e. apart (cc)) (λ t e. apart (cc)))
 
-  -- every answer of a numbered list has its call's shape
-  pub run-shape : (h w : ℕ) (cs : List Request) (u : Uart ℕ ℕ)
-      → Each (Shape fifo) cs (runPlaced (number h w (map (placed (fifo ∷ others)) cs)) u)
-  unfolding runPlaced number
+  asked-shape : (h w : ℕ) (a : Ask) (u : Uart ℕ ℕ)
+      → AskedShape fifo a (askedBy stepPlaced (numberedAsked h w (placedAsked (fifo ∷ others) a)) u .answer)
+  unfolding changedAsked askedBy answering
+  asked-shape h w (Asked.call c) u = AskedShape.call (step-shape h w c u)
+  asked-shape h w (Asked.row now bs) u = AskedShape.row
+
+  -- every answer of a numbered list has its shape
+  pub run-shape : (h w : ℕ) (cs : List Ask) (u : Uart ℕ ℕ)
+      → Each (AskedShape fifo) cs (runPlaced (number h w (map (placedAsked (fifo ∷ others)) cs)) u)
+  unfolding runBy number
   run-shape h w [] u = Each.nil
-  run-shape h w (c ∷ cs) u = Each.cons (step-shape h w c u) (run-shape _ _ cs _)
+  run-shape h w (a ∷ cs) u = Each.cons (asked-shape h w a u) (run-shape _ _ cs _)

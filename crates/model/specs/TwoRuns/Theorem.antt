@@ -1,32 +1,34 @@
--- Demand 3: two alike lists of calls give one list of answers with numbers for bytes. Assumes nothing.
-use mathlib.Core.Path.{_≡_, refl, sym, ap, ap₂, subst₂, _∙_}
-use Prim.Native.Nat.{ℕ}
-use native.Mathlib.Nat.{suc-ne-zero}
+-- Demand 3: two alike lists of calls and rows give one list of answers with numbers for bytes. Assumes nothing.
+use mathlib.Core.Path.{_≡_, refl, sym, ap, ap₂, subst, subst₂, _∙_}
+use Prim.Native.Nat.{ℕ, _+_}
+use native.Mathlib.Nat.{add-zero, suc-ne-zero}
 use mathlib.Core.List.{List, [], _∷_, map, flatMap, map-id}
 use lib.ListN.{length, length-map}
 use Rattle.model.specs.TwoRuns.Renamed.{mapUart, mapReceiving}
 use Rattle.model.specs.SetUp.{mapOf, new}
 use Rattle.model.specs.Limits.{All}
 use Rattle.model.specs.Replies.{word, byte, noValue, refused, Take}
-use Rattle.model.specs.Call.{Request, Reply, reads, writes, does, takes, left, pends, Answer}
+use Rattle.model.specs.Call.{Request, hostOf, Asked, Ask, Reply, reads, writes, does, takes, left, pends, rows, Answer}
 use Rattle.model.specs.Run.{run}
-use Rattle.model.specs.TwoRuns.Alike.{Each, Alike, fifoOffset, fifoBytesOf, hostByte, writeByte}
-use Rattle.model.specs.Call.{hostOf}
+use Rattle.model.specs.TwoRuns.Alike.{Each, Alike, AskedAlike, fifoOffset, givenBy, hostGiven, fifoGiven, hostByte, writeByte}
 use Rattle.model.specs.TwoRuns.Renamed.{itself, forget, mapReadOf}
 use Rattle.model.specs.TwoRuns.Renamed.{mapTake, mapReply, mapAnswer, withBytesOf}
 use Rattle.model.specs.TwoRuns.Agree.{Agree, Agreeing}
 use Rattle.model.specs.TwoRuns.Numbered.{Bare, bareReply, withoutRest, byteRead, bytesRead, bytesSent, Below, EachBelow, Shape}
-use Rattle.model.specs.TwoRuns.Placed.{Placed, placed, runPlaced}
+use Rattle.model.specs.TwoRuns.Numbered.{AskedShape}
+use Rattle.model.specs.TwoRuns.Placed.{Placed, placedAsked, runPlaced}
 use Rattle.model.specs.TwoRuns.MapKept.{run-placed}
-use Rattle.model.specs.TwoRuns.NaturalCalls.{mapPlaced, runPlaced-nat}
-use Rattle.model.specs.TwoRuns.Numbering.{number, host-placed, written-placed, calls-back, calls-alike}
+use Rattle.model.specs.TwoRuns.NaturalRuns.{mapAsked, runPlaced-nat}
+use Rattle.model.specs.TwoRuns.Numbering.{number, host-placed, written-placed, asks-back, asks-alike}
 use Rattle.model.specs.TwoRuns.Bounds.{run-below}
 use Rattle.model.specs.TwoRuns.Shapes.{run-shape}
 use Rattle.model.specs.Ends.Passes.{apart}
+use Rattle.model.specs.declared.Report.{Report}
+use Rattle.model.specs.declared.Row.{Row}
 
--- the answers of a list of calls with numbers in the place of its bytes
-unfoldable pub numberedAnswers : List ℕ → List ℕ → List Request → List Bare
-numberedAnswers offsets ws cs = runPlaced (number 0 0 (map (placed offsets) cs)) (new offsets ws)
+-- the answers of a list with numbers in the place of its bytes
+unfoldable pub numberedAnswers : List ℕ → List ℕ → List Ask → List Bare
+numberedAnswers offsets ws cs = runPlaced (number 0 0 (map (placedAsked offsets) cs)) (new offsets ws)
 
 -- a new UART holds no byte
 new-nat : {H H′ W W′ : Type 0} (f : H → H′) (g : W → W′) (offsets ws : List ℕ) → mapUart f g (new offsets ws) ≡ new offsets ws
@@ -35,10 +37,10 @@ new-nat f g offsets ws = refl
 
 module _ {H H′ W W′ L L′ : Type 0} (f : H → H′) (g : W → W′) (h : L → L′) where
   -- from set-up on, a list with other bytes answers the same with other bytes
-  runNew-nat : (offsets ws : List ℕ) (cs : List (Placed H W L))
-      → runPlaced (map (mapPlaced f g h) cs) (new offsets ws) ≡ map (mapAnswer f g h) (runPlaced cs (new offsets ws))
+  runNew-nat : (offsets ws : List ℕ) (cs : List (Asked (Placed H W L) W))
+      → runPlaced (map (mapAsked f g h) cs) (new offsets ws) ≡ map (mapAnswer f g h) (runPlaced cs (new offsets ws))
   runNew-nat offsets ws cs =
-      ap (runPlaced (map (mapPlaced f g h) cs)) (sym (new-nat f g offsets ws)) ∙ runPlaced-nat f g h cs (new offsets ws)
+      ap (runPlaced (map (mapAsked f g h) cs)) (sym (new-nat f g offsets ws)) ∙ runPlaced-nat f g h cs (new offsets ws)
 
 -- an answer without the rest of a lent buffer, by a change of bytes
 bare-mapped : (r : Reply ℕ ℕ ℕ) → bareReply r ≡ mapReply itself itself forget r
@@ -52,6 +54,7 @@ bare-mapped (does r) = refl
 bare-mapped (takes t) = rw (map-id (t .front))
 bare-mapped (left b) = refl
 bare-mapped (pends n) = refl
+bare-mapped (rows r) = refl
 
 rest-mapped : (l : List (Answer ℕ ℕ ℕ)) → map withoutRest l ≡ map (mapAnswer itself itself forget) l
 unfolding withoutRest mapAnswer
@@ -59,7 +62,7 @@ rest-mapped [] = refl
 rest-mapped (a ∷ l) = ap₂ (λ r t. record { reply = r; report = a .report } ∷ t) (bare-mapped (a .reply)) (rest-mapped l)
 
 module _ (fifo : ℕ) (others ws : List ℕ) where
-  run-numbered : (cs : List Request) → map withoutRest (run cs (new (fifo ∷ others) ws))
+  run-numbered : (cs : List Ask) → map withoutRest (run cs (new (fifo ∷ others) ws))
       ≡ map (withBytesOf fifo cs) (numberedAnswers (fifo ∷ others) ws cs)
   unfolding withBytesOf numberedAnswers new mapOf
   run-numbered cs =
@@ -69,28 +72,29 @@ module _ (fifo : ℕ) (others ws : List ℕ) where
       ∙ ap (λ l. runPlaced l (new (fifo ∷ others) ws)) (sym looked-up)
       ∙ runNew-nat (hostByte cs) (writeByte fifo cs) itself (fifo ∷ others) ws (number 0 0 placedCalls)
     where
-      placedCalls : List (Placed ℕ ℕ ℕ)
-      placedCalls = map (placed (fifo ∷ others)) cs
+      placedCalls : List (Asked (Placed ℕ ℕ ℕ) ℕ)
+      placedCalls = map (placedAsked (fifo ∷ others)) cs
 
-      looked-up : map (mapPlaced (hostByte cs) (writeByte fifo cs) itself) (number 0 0 placedCalls)
-          ≡ map (mapPlaced itself itself forget) placedCalls
+      looked-up : map (mapAsked (hostByte cs) (writeByte fifo cs) itself) (number 0 0 placedCalls)
+          ≡ map (mapAsked itself itself forget) placedCalls
       looked-up =
-          calls-back 0 0 (flatMap hostOf cs) (flatMap (fifoBytesOf fifo) cs) 0 0 placedCalls (sym (host-placed (fifo ∷ others) cs))
+          asks-back 0 0 (flatMap hostGiven cs) (flatMap (fifoGiven fifo) cs) 0 0 placedCalls (sym (host-placed (fifo ∷ others) cs))
           (sym (written-placed fifo others cs))
 
 -- ---- one list for both runs
 
 -- both runs are images of one list of answers with numbers for bytes, each under its own bytes. A number is below the count
--- of bytes that the list has given once the call is made, and a read of FIFO has a number, or 0 with UartEmptyRead, or is
+-- of bytes that the list has given once the call or row is made, and a read of FIFO has a number, or 0 with UartEmptyRead, or is
 -- refused, in both runs alike
-pub record OneList (offsets ws : List ℕ) (cs ds : List Request) : Type 0 where
+pub record OneList (offsets ws : List ℕ) (cs ds : List Ask) : Type 0 where
   pub answers : List Bare
   pub first : map withoutRest (run cs (new offsets ws)) ≡ map (withBytesOf (fifoOffset offsets) cs) answers
   pub second : map withoutRest (run ds (new offsets ws)) ≡ map (withBytesOf (fifoOffset offsets) ds) answers
   pub below : EachBelow (fifoOffset offsets) 0 0 cs answers
-  pub shape : Each (Shape (fifoOffset offsets)) cs answers
+  pub shape : Each (AskedShape (fifoOffset offsets)) cs answers
 
-pub one-list : (offsets ws : List ℕ) → length offsets ≡ 16 → (cs ds : List Request) → Each (Alike (fifoOffset offsets)) cs ds
+pub one-list : (offsets ws : List ℕ) → length offsets ≡ 16 → (cs ds : List Ask)
+    → Each (AskedAlike (Alike (fifoOffset offsets))) cs ds
     → OneList offsets ws cs ds
 unfolding numberedAnswers
 one-list [] ws e cs ds a = absurd (suc-ne-zero _ (sym e))
@@ -99,7 +103,7 @@ one-list (fifo ∷ others) ws e cs ds a = record {
   first = run-numbered fifo others ws cs;
   second =
       run-numbered fifo others ws ds ∙ ap (λ l. map (withBytesOf fifo ds) (runPlaced l (new (fifo ∷ others) ws)))
-      (sym (calls-alike fifo others 0 0 a));
+      (sym (asks-alike fifo others 0 0 a));
   below = run-below fifo others 0 0 cs (new (fifo ∷ others) ws) (λ f g p q. new-nat f g (fifo ∷ others) ws);
   shape = run-shape fifo others 0 0 cs (new (fifo ∷ others) ws);
 }
@@ -119,6 +123,7 @@ plain f g (does r) p q = refl
 plain f g (takes t) p q = absurd (q t refl)
 plain f g (left b) p q = refl
 plain f g (pends n) p q = refl
+plain f g (rows r) p q = refl
 
 all-head : {P : ℕ → Type 0} {n : ℕ} {l : List ℕ} → All P (n ∷ l) → P n
 all-head (All.cons p ps) = p
@@ -131,6 +136,7 @@ again (does r) = does r
 again (takes t) = takes (record { taken = t .taken; front = t .front; rest = [] })
 again (left b) = left b
 again (pends n) = pends n
+again (rows r) = rows r
 
 abbrev NoTake : Reply ℕ ℕ (Unit {0}) → Type 0
 NoTake r = (t : Take ℕ (Unit {0})) → ¬ (r ≡ takes t)
@@ -143,6 +149,7 @@ back (does r) n = refl
 back (takes t) n = absurd (n _ refl)
 back (left b) n = refl
 back (pends k) n = refl
+back (rows r) n = refl
 
 forth : (r : Reply ℕ ℕ (Unit {0})) → NoTake r → bareReply (again r) ≡ r
 unfolding bareReply again
@@ -152,6 +159,7 @@ forth (does r) n = refl
 forth (takes t) n = absurd (n t refl)
 forth (left b) n = refl
 forth (pends k) n = refl
+forth (rows r) n = refl
 
 known : (x : Reply ℕ ℕ ℕ) {r : Reply ℕ ℕ (Unit {0})} → bareReply x ≡ r → NoTake r → again r ≡ x
 known x e n = ap again (sym e) ∙ back x (λ t f. n t (sym e ∙ f))
@@ -177,11 +185,19 @@ took (takes u) t e =
     }
 took (left b) t e = apart (cc)
 took (pends n) t e = apart (cc)
+took (rows r) t e = apart (cc)
+
+row-known : (x : Answer ℕ ℕ ℕ) (made : Row) (r : Report) → withoutRest x ≡ record { reply = rows made; report = r }
+    → record { reply = rows made; report = r } ≡ x
+unfolding withoutRest again
+row-known x made r e =
+    ap₂ (λ p q. record { reply = p; report = q }) (known (x .reply) (ap (λ k. k .reply) e) (λ t k. apart (cc)))
+    (sym (ap (λ k. k .report) e))
 
 firsts : {A : Type 0} {x y : A} {xs ys : List A} → x ∷ xs ≡ y ∷ ys → (x ≡ y) × (xs ≡ ys)
 firsts e = (cc, cc)
 
-module _ (fifo : ℕ) (cs ds : List Request) where
+module _ (fifo : ℕ) (cs ds : List Ask) where
   agree : {h w : ℕ} {c : Request} {a : Bare} → Shape fifo c a → Below h w a → (x y : Reply ℕ ℕ ℕ)
       → bareReply x ≡ withBytesOf fifo cs a .reply → bareReply y ≡ withBytesOf fifo ds a .reply → Agree fifo cs ds h w (a .report) c x y
   unfolding withBytesOf mapAnswer mapReply mapReadOf mapTake bytesRead byteRead bytesSent again bareReply
@@ -202,31 +218,39 @@ module _ (fifo : ℕ) (cs ds : List Request) where
       subst₂ (Agree fifo cs ds _ _ _ _) (known x (e ∙ plain _ _ r p q) q) (known y (f ∙ plain _ _ r p q) q)
       (Agree.noByte n (λ k g. p k (sym same ∙ ap bareReply g)) (λ t g. q _ (sym same ∙ ap bareReply g)))
 
-  agreeing : {h w : ℕ} {rest : List Request} {t : List Bare} → Each (Shape fifo) rest t → EachBelow fifo h w rest t
+  agreeing : {h w : ℕ} {rest : List Ask} {t : List Bare} → Each (AskedShape fifo) rest t → EachBelow fifo h w rest t
       → (xs ys : List (Answer ℕ ℕ ℕ)) → map withoutRest xs ≡ map (withBytesOf fifo cs) t → map withoutRest ys ≡ map (withBytesOf fifo ds) t
       → Agreeing fifo cs ds h w rest xs ys
-  unfolding withBytesOf mapAnswer withoutRest
+  unfolding withBytesOf mapAnswer mapReply withoutRest givenBy again
   agreeing Each.nil EachBelow.nil [] [] e f = Agreeing.nil
   agreeing Each.nil EachBelow.nil [] (y ∷ ys) e f = apart (cc)
   agreeing Each.nil EachBelow.nil (x ∷ xs) ys e f = apart (cc)
   agreeing (Each.cons s ss) (EachBelow.cons b bs) [] ys e f = apart (cc)
   agreeing (Each.cons s ss) (EachBelow.cons b bs) (x ∷ xs) [] e f = apart (cc)
-  agreeing {h} {w} (Each.cons {a = c} {l = rest} s ss) (EachBelow.cons b bs) (x ∷ xs) (y ∷ ys) e f =
+  agreeing {h} {w} (Each.cons {l = rest} (AskedShape.call {c = c} s) ss) (EachBelow.cons b bs) (x ∷ xs) (y ∷ ys) e f =
       let (e₀, e₁) = firsts e in
       let (f₀, f₁) = firsts f in
-      subst₂ (λ r q. Agreeing fifo cs ds h w (c ∷ rest) (record { reply = x .reply; report = r } ∷ xs)
+      subst₂ (λ r q. Agreeing fifo cs ds h w (Asked.call c ∷ rest) (record { reply = x .reply; report = r } ∷ xs)
       (record { reply = y .reply; report = q } ∷ ys))
       (sym (ap (λ k. k .report) e₀)) (sym (ap (λ k. k .report) f₀))
-      (Agreeing.cons (agree s b (x .reply) (y .reply) (ap (λ k. k .reply) e₀) (ap (λ k. k .reply) f₀)) (agreeing ss bs xs ys e₁ f₁))
+      (Agreeing.call (agree s b (x .reply) (y .reply) (ap (λ k. k .reply) e₀) (ap (λ k. k .reply) f₀)) (agreeing ss bs xs ys e₁ f₁))
+  agreeing {h} {w} (Each.cons {l = rest} (AskedShape.row {now = now} {bs = row-bytes} {x = made} {r = r}) ss) (EachBelow.cons b bs)
+      (x ∷ xs) (y ∷ ys) e f =
+      let (e₀, e₁) = firsts e in
+      let (f₀, f₁) = firsts f in
+      subst₂ (λ p q. Agreeing fifo cs ds h w (Asked.row now row-bytes ∷ rest) (p ∷ xs) (q ∷ ys))
+      (row-known x made r e₀) (row-known y made r f₀)
+      (Agreeing.row (subst (λ (k : ℕ). Agreeing fifo cs ds k (w + length row-bytes) rest xs ys) (add-zero h) (agreeing ss bs xs ys e₁ f₁)))
 
 -- the answers of both runs, by the one list
-pub lists-agree : (offsets ws : List ℕ) (cs ds : List Request) → OneList offsets ws cs ds
+pub lists-agree : (offsets ws : List ℕ) (cs ds : List Ask) → OneList offsets ws cs ds
     → Agreeing (fifoOffset offsets) cs ds 0 0 cs (run cs (new offsets ws)) (run ds (new offsets ws))
 lists-agree offsets ws cs ds o = agreeing (fifoOffset offsets) cs ds (o .shape) (o .below) _ _ (o .first) (o .second)
 
 -- demand 3, for every register map of sixteen offsets, those that set-up refuses too, and all reset words: all answers agree,
 -- apart from the byte that a read of FIFO gives and the bytes handed out as sent; these agree in count at every call, and each is
 -- the byte of the same number in both runs
-pub runs-agree : (offsets ws : List ℕ) → length offsets ≡ 16 → (cs ds : List Request) → Each (Alike (fifoOffset offsets)) cs ds
+pub runs-agree : (offsets ws : List ℕ) → length offsets ≡ 16 → (cs ds : List Ask)
+    → Each (AskedAlike (Alike (fifoOffset offsets))) cs ds
     → Agreeing (fifoOffset offsets) cs ds 0 0 cs (run cs (new offsets ws)) (run ds (new offsets ws))
 runs-agree offsets ws e cs ds a = lists-agree offsets ws cs ds (one-list offsets ws e cs ds a)
