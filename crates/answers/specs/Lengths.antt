@@ -25,14 +25,16 @@ use Rattle.model.specs.declared.SetUp.{SetUp}
 use Rattle.model.specs.declared.Read.{Read}
 use Rattle.model.specs.declared.Write.{Write}
 use Rattle.model.specs.declared.Done.{Done}
+use Rattle.model.specs.declared.Made.{Made}
+use Rattle.model.specs.declared.Row.{Row}
 use Rattle.trace.specs.declared.faults.Reason.{Reason}
 use Rattle.trace.specs.declared.faults.Reason.the-variants.{UnknownName, MissingWord, ExtraWord, NoNumber, NoNumber32, NoBit, NoLength}
 use Rattle.trace.specs.declared.faults.Reason.the-variants.{NoBytes, NoUart}
 use Rattle.trace.specs.declared.faults.Fault.{Fault}
-use Rattle.answers.specs.Notices.{featureText, noticeText, nextTexts, noticesText}
-use Rattle.answers.specs.Reports.{levelText, wakeText, reportText}
+use Rattle.answers.specs.Notices.{featureText, noticeText, nextTexts, noticesText, countText, countsText}
+use Rattle.answers.specs.Reports.{levelText, wakeText, frontText, passesText, reportText, rowReportText}
 use Rattle.answers.specs.Replies.{refusalText, setUpText, readText, writeText, doneText, restText, handOutText, takenText}
-use Rattle.answers.specs.Replies.{writtenText, hostPendingText}
+use Rattle.answers.specs.Replies.{rowText, writtenText, hostPendingText}
 use Rattle.answers.specs.Faults.{reasonText, shown, shownText, faultText}
 
 -- ---- the parts
@@ -80,6 +82,24 @@ unfolding noticesText
 notices-short [] = omega arith
 notices-short (n ∷ ns) = simp length-append (omega (arith, notice-short (n .what), next-short ns))
 
+count-short : (n : Unsupported) (times : ℕ) → length (countText n times) ≤ 59
+count-short n times = simp length-append (omega (arith, notice-short n, decimal-short times))
+
+counts-short : (first second : ℕ) (ns : List Notice) → length (countsText first second ns) ≤ 119
+unfolding countsText
+counts-short first second [] = omega arith
+counts-short first second (n ∷ []) = omega (arith, count-short (n .what) first)
+counts-short first second (n ∷ m ∷ ns) =
+    let one = countText (n .what) first in
+    let two = countText (m .what) second in
+    omega (
+      arith,
+      length-append (one ++ ascii ",") two,
+      length-append one (ascii ","),
+      count-short (n .what) first,
+      count-short (m .what) second,
+    )
+
 level-short : (level : Bool) → length (levelText level) ≤ 8
 level-short true = omega arith
 level-short false = omega arith
@@ -118,20 +138,36 @@ shown-short word = by-test (ltb 40 (length word))
 
 -- ---- the lines
 
+front-short : (r : Report) → length (frontText r) ≤ 80
+front-short r = simp length-append (omega (arith, level-short (r .level), wake-short (r .wake), decimal-short (r .overflows)))
+
+passes-short : (passes : ℕ) → length (passesText passes) ≤ 40
+passes-short passes = simp length-append (omega (arith, decimal-short passes))
+
+-- with some notices between
+around-short : (r : Report) (list : List ℕ) → length (frontText r ++ list ++ passesText (r .passes)) ≤ 120 + length list
+around-short r list =
+    omega (
+      arith,
+      length-append (frontText r ++ list) (passesText (r .passes)),
+      length-append (frontText r) list,
+      front-short r,
+      passes-short (r .passes),
+    )
+
 -- a report has places for eight notices
 report-short : (r : Report) → length (reportText r) ≤ 600
 unfolding reportText
 report-short r =
-    simp length-append
-    (omega (
-      arith,
-      level-short (r .level),
-      wake-short (r .wake),
-      decimal-short (r .overflows),
-      notices-short (take (min (r .noted) noticePlaces) (r .notices)),
-      length-take (min (r .noted) noticePlaces) (r .notices),
-      decimal-short (r .passes),
-    ))
+    let ns = take (min (r .noted) noticePlaces) (r .notices) in
+    omega (arith, around-short r (noticesText ns), notices-short ns, length-take (min (r .noted) noticePlaces) (r .notices))
+
+-- and a row has two at most
+row-report-short : (made : Made) (r : Report) → length (rowReportText made r) ≤ 600
+unfolding rowReportText
+row-report-short made r =
+    let ns = take (min (r .noted) 2) (r .notices) in
+    omega (arith, around-short r (countsText (made .first) (made .second) ns), counts-short (made .first) (made .second) ns)
 
 pub refusal-short : (q : Refusal) → length (refusalText q) ≤ 1024
 refusal-short q = simp length-append (omega (arith, decimal-short (number q)))
@@ -154,6 +190,10 @@ module _ (r : Report) where
   pub done-short : (reply : Done) → length (doneText r reply) ≤ 1024
   done-short Done.Done = simp length-append (omega (arith, report-short r))
   done-short (Done.Refused q) = refusal-short q
+
+  pub row-short : (reply : Row) → length (rowText r reply) ≤ 1024
+  row-short (Row.Made made) = simp length-append (omega (arith, decimal-short (made .count), row-report-short made r))
+  row-short (Row.Refused q) = refusal-short q
 
 hand-out-short : (bytes : List ℕ) (kept : Bool) → length (handOutText bytes kept) ≤ 22 + 2 * length bytes
 hand-out-short bytes kept = simp length-append (omega (arith, hex-short bytes, rest-short kept))

@@ -3,3 +3,4 @@ pub mod Reports
 pub mod Replies
 pub mod Faults
 pub mod Lengths
+pub mod Examples

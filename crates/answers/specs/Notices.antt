@@ -45,6 +45,16 @@ unfoldable pub noticesText : List Notice → List ℕ
 noticesText [] = ascii "-"
 noticesText (n ∷ ns) = noticeText (n .what) ++ nextTexts ns
 
+-- a notice and how often it came
+abbrev pub countText : Unsupported → ℕ → List ℕ
+countText what times = noticeText what ++ ascii "*" ++ decimal times
+
+-- the notices of a row: how often the first came, and the second; there is no third
+unfoldable pub countsText : ℕ → ℕ → List Notice → List ℕ
+countsText first second [] = ascii "-"
+countsText first second (n ∷ []) = countText (n .what) first
+countsText first second (n ∷ m ∷ ns) = countText (n .what) first ++ ascii "," ++ countText (m .what) second
+
 -- ---- laws
 
 -- one notice more, after a first one
@@ -80,3 +90,17 @@ later-all (m ∷ ns) zero d h k = absurd (omega arith)
 later-all (m ∷ ns) (suc i) d h k =
     let e : suc i - 1 ≡ i = omega arith in
     ap (λ (j : ℕ). noticeText (m .what) ++ nextTexts (take j ns)) e
+
+-- one notice of a row, and two
+module _ (first second : ℕ) (d : Notice) where
+  pub one-count : (ns : List Notice) → 0 < length ns → countText (getD ns 0 d .what) first ≡ countsText first second (take 1 ns)
+  unfolding countsText
+  one-count [] h = absurd (omega arith)
+  one-count (n ∷ ns) h = refl
+
+  pub two-counts : (ns : List Notice) → 1 < length ns
+      → countText (getD ns 0 d .what) first ++ ascii "," ++ countText (getD ns 1 d .what) second ≡ countsText first second (take 2 ns)
+  unfolding countsText
+  two-counts [] h = absurd (omega arith)
+  two-counts (n ∷ []) h = absurd (omega arith)
+  two-counts (n ∷ m ∷ ns) h = refl

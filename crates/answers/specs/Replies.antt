@@ -12,7 +12,8 @@ use Rattle.model.specs.declared.SetUp.{SetUp}
 use Rattle.model.specs.declared.Read.{Read}
 use Rattle.model.specs.declared.Write.{Write}
 use Rattle.model.specs.declared.Done.{Done}
-use Rattle.answers.specs.Reports.{reportText}
+use Rattle.model.specs.declared.Row.{Row}
+use Rattle.answers.specs.Reports.{reportText, rowReportText}
 
 -- a refusal is its number alone
 abbrev pub refusalText : Refusal → List ℕ
@@ -35,6 +36,11 @@ writeText report (Write.Refused r) = refusalText r
 abbrev pub doneText : Report → Done → List ℕ
 doneText report Done.Done = ascii "0 done" ++ reportText report
 doneText report (Done.Refused r) = refusalText r
+
+-- how many bytes of a row were written
+abbrev pub rowText : Report → Row → List ℕ
+rowText report (Row.Made made) = ascii "0 made=" ++ decimal (made .count) ++ rowReportText made report
+rowText report (Row.Refused r) = refusalText r
 
 -- whether what was lent after the bytes is as it was
 abbrev pub restText : Bool → List ℕ

@@ -11,7 +11,7 @@ ghost use Rattle.text.specs.Ascii.{ascii};
 ghost use Rattle.text.specs.Output.{Put};
 ghost use Rattle.text.specs.Decimal.{decimal};
 ghost use Rattle.text.specs.Chains.{Room, Puts};
-ghost use Rattle.answers.specs.Notices.{featureText, noticeText, noticesText};
+ghost use Rattle.answers.specs.Notices.{featureText, noticeText, noticesText, countText, countsText};
 
 fn put_feature(out: &mut [u8], at: usize, feature: Feature) -> usize
     ensures { λ r. ⌜ Put (featureText feature) (now (out .entry)) at (now (out .exit)) r ⌝ }
@@ -87,4 +87,40 @@ pub fn put_notices(out: &mut [u8], at: usize, notices: [Notice; 8], noted: usize
         i += 1;
     }
     place
+}
+
+// A notice and how often it came.
+fn put_count(out: &mut [u8], at: usize, what: Unsupported, times: u64) -> usize
+    ensures { λ r. ⌜ Puts (countText what times) (now (out .entry)) at (now (out .exit)) r ⌝ }
+{
+    let named = put_notice(out, at, what);
+    let star = put(out, named, b"*");
+    put_decimal(out, star, times)
+}
+
+// Puts the notices of a row, of which there are at most two, each with how often it came, or `-` for none.
+pub fn put_counts(
+    out: &mut [u8],
+    at: usize,
+    notices: [Notice; 8],
+    noted: usize,
+    first: u64,
+    second: u64,
+) -> usize
+    requires { ⌜ Room (countsText first second (take (min noted 2) notices)) (now out) at ⌝ }
+    ensures { λ r. ⌜ Put (countsText first second (take (min noted 2) notices)) (now (out .entry)) at (now (out .exit)) r ⌝ }
+{
+    let one = notices[0];
+    let what = one.what;
+    if noted == 0 {
+        put(out, at, b"-")
+    } else if noted == 1 {
+        put_count(out, at, what, first)
+    } else {
+        let two = notices[1];
+        let next = two.what;
+        let place = put_count(out, at, what, first);
+        let comma = put(out, place, b",");
+        put_count(out, comma, next, second)
+    }
 }

@@ -1,9 +1,11 @@
 // The answer line of each call: its own result, and its report where it is dated. A refusal is its number alone.
 use crate::refusals::put_refusal;
 use crate::reports::put_report;
+use crate::reports::put_row_report;
 use model::Done;
 use model::Read;
 use model::Report;
+use model::Row;
 use model::SetUp;
 use model::Write;
 use text::output::put;
@@ -12,8 +14,8 @@ use text::spelling::put_decimal;
 use text::spelling::put_word;
 ghost use Rattle.text.specs.Output.{Put};
 ghost use Rattle.text.specs.Chains.{Room, Puts};
-ghost use Rattle.answers.specs.Replies.{setUpText, readText, writeText, doneText, handOutText, takenText, writtenText};
-ghost use Rattle.answers.specs.Replies.{hasLeftText, hostPendingText};
+ghost use Rattle.answers.specs.Replies.{setUpText, readText, writeText, doneText, rowText, handOutText, takenText};
+ghost use Rattle.answers.specs.Replies.{writtenText, hasLeftText, hostPendingText};
 
 pub fn put_set_up(out: &mut [u8], at: usize, reply: SetUp) -> usize
     requires { ⌜ Room (setUpText reply) (now out) at ⌝ }
@@ -69,6 +71,20 @@ pub fn put_done(out: &mut [u8], at: usize, reply: Done, report: Report) -> usize
         Done::Done => {
             let result = put(out, at, b"0 done");
             put_report(out, result, report)
+        }
+    }
+}
+
+pub fn put_row(out: &mut [u8], at: usize, reply: Row, report: Report) -> usize
+    requires { ⌜ Room (rowText report reply) (now out) at ⌝ }
+    ensures { λ r. ⌜ Put (rowText report reply) (now (out .entry)) at (now (out .exit)) r ⌝ }
+{
+    match reply {
+        Row::Refused(refusal) => put_refusal(out, at, refusal),
+        Row::Made(made) => {
+            let named = put(out, at, b"0 made=");
+            let result = put_decimal(out, named, made.count as u64);
+            put_row_report(out, result, made, report)
         }
     }
 }

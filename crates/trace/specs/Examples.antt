@@ -68,3 +68,17 @@ byte-after : bytesAfter byte (7 ∷ 8 ∷ []) ≡ 10 ∷ 8 ∷ []
 unfolding onCall wordAt seek before named sameBytes formOf numbersFrom numberAt numberOf begins0x numberIn numberAfter allDigits valueAfter
     atMost digitValue pairValue spelled pairsStored bytesKept
 byte-after = refl
+
+-- "write_row 5 0A0d": two bytes, and no second date
+abbrev row : List ℕ
+row = 119 ∷ 114 ∷ 105 ∷ 116 ∷ 101 ∷ 95 ∷ 114 ∷ 111 ∷ 119 ∷ 32 ∷ 53 ∷ 32 ∷ 48 ∷ 65 ∷ 48 ∷ 100 ∷ []
+
+row-line : lineOf 2 row ≡ Line.Call Name.WriteRow 2
+unfolding onCall wordAt seek before named sameBytes formOf numbersFrom numberAt numberOf begins0x numberIn numberAfter allDigits valueAfter
+    atMost digitValue pairValue spelled pairsRead bytesAt endAt
+row-line = refl
+
+row-after : bytesAfter row (7 ∷ 8 ∷ 9 ∷ []) ≡ 10 ∷ 13 ∷ 9 ∷ []
+unfolding onCall wordAt seek before named sameBytes formOf numbersFrom numberAt numberOf begins0x numberIn numberAfter allDigits valueAfter
+    atMost digitValue pairValue spelled pairsStored bytesKept
+row-after = refl

@@ -2,8 +2,8 @@
 use Prim.Native.Nat.{ℕ, _≤_}
 use native.Mathlib.Omega.{arith}
 use Rattle.trace.specs.declared.names.Name.{Name}
-use Rattle.trace.specs.declared.names.Name.the-variants.{Setup, Read, Write, Receive, Wake, Watch, Reset, PowerDown, Clock, TakeTx}
-use Rattle.trace.specs.declared.names.Name.the-variants.{TakeWritten, HasLeft, HostPending}
+use Rattle.trace.specs.declared.names.Name.the-variants.{Setup, Read, Write, WriteRow, Receive, Wake, Watch, Reset, PowerDown, Clock}
+use Rattle.trace.specs.declared.names.Name.the-variants.{TakeTx, TakeWritten, HasLeft, HostPending}
 use Rattle.trace.specs.declared.arguments.Last.{Last}
 use Rattle.trace.specs.declared.arguments.Last.the-variants.{None, Bit, Length, Bytes}
 use Rattle.trace.specs.declared.arguments.Form.{Form}
@@ -16,6 +16,7 @@ unfoldable pub formOf : Name → Form
 formOf Setup = takes 0 32 None
 formOf Read = takes 1 2 None
 formOf Write = takes 1 3 None
+formOf WriteRow = takes 1 1 Bytes
 formOf Receive = takes 2 2 Bytes
 formOf Wake = takes 1 1 None
 formOf Watch = takes 1 1 Bit
@@ -35,6 +36,7 @@ unfolding formOf
 count-fits Setup = omega arith
 count-fits Read = omega arith
 count-fits Write = omega arith
+count-fits WriteRow = omega arith
 count-fits Receive = omega arith
 count-fits Wake = omega arith
 count-fits Watch = omega arith

@@ -9,8 +9,8 @@ use lib.Seq.{drop-cons}
 use Rattle.text.specs.Pick.{pick}
 use Rattle.text.specs.Same.{sameBytes, same-equal}
 use Rattle.trace.specs.declared.names.Name.{Name}
-use Rattle.trace.specs.declared.names.Name.the-variants.{Setup, Read, Write, Receive, Wake, Watch, Reset, PowerDown, Clock, TakeTx}
-use Rattle.trace.specs.declared.names.Name.the-variants.{TakeWritten, HasLeft, HostPending}
+use Rattle.trace.specs.declared.names.Name.the-variants.{Setup, Read, Write, WriteRow, Receive, Wake, Watch, Reset, PowerDown, Clock}
+use Rattle.trace.specs.declared.names.Name.the-variants.{TakeTx, TakeWritten, HasLeft, HostPending}
 use Rattle.trace.specs.declared.names.Named.{Named}
 
 -- the letters of a name, in ASCII; `_` is 95
@@ -18,6 +18,7 @@ abbrev pub letters : Name → List ℕ
 letters Setup = 115 ∷ 101 ∷ 116 ∷ 117 ∷ 112 ∷ []
 letters Read = 114 ∷ 101 ∷ 97 ∷ 100 ∷ []
 letters Write = 119 ∷ 114 ∷ 105 ∷ 116 ∷ 101 ∷ []
+letters WriteRow = 119 ∷ 114 ∷ 105 ∷ 116 ∷ 101 ∷ 95 ∷ 114 ∷ 111 ∷ 119 ∷ []
 letters Receive = 114 ∷ 101 ∷ 99 ∷ 101 ∷ 105 ∷ 118 ∷ 101 ∷ []
 letters Wake = 119 ∷ 97 ∷ 107 ∷ 101 ∷ []
 letters Watch = 119 ∷ 97 ∷ 116 ∷ 99 ∷ 104 ∷ []
@@ -36,7 +37,8 @@ named (n ∷ ns) word = pick (sameBytes word (letters n)) (Named.Call n) (named 
 
 -- the call of all that a word names; the order says nothing, as no two have the same name
 abbrev pub names : List Name
-names = Read ∷ Write ∷ Receive ∷ Wake ∷ TakeTx ∷ Clock ∷ Watch ∷ Reset ∷ PowerDown ∷ HasLeft ∷ HostPending ∷ TakeWritten ∷ Setup ∷ []
+names =
+    Read ∷ Write ∷ Receive ∷ WriteRow ∷ Wake ∷ TakeTx ∷ Clock ∷ Watch ∷ Reset ∷ PowerDown ∷ HasLeft ∷ HostPending ∷ TakeWritten ∷ Setup ∷ []
 
 abbrev pub nameOf : List ℕ → Named
 nameOf word = named names word
@@ -58,7 +60,7 @@ module _ (n : Name) (ns : List Name) (word : List ℕ) where
   is-other e r q = rw e q
 
 -- of the calls from the i-th on: the i-th, and another; and none is left after the last
-module _ (word : List ℕ) (i : ℕ) (d : Name) (h : i < 13) where
+module _ (word : List ℕ) (i : ℕ) (d : Name) (h : i < 14) where
   from-on : drop i names ≡ getD names i d ∷ drop (i + 1) names
   from-on = rw add-one (drop-cons names i d h)
 
@@ -68,7 +70,7 @@ module _ (word : List ℕ) (i : ℕ) (d : Name) (h : i < 13) where
   pub is-later : sameBytes word (letters (getD names i d)) ≡ false → named (drop i names) word ≡ named (drop (i + 1) names) word
   is-later e = ap (λ (ns : List Name). named ns word) from-on ∙ sym (is-other (getD names i d) (drop (i + 1) names) word e _ refl)
 
-pub is-past : (word : List ℕ) (i : ℕ) → i ≡ 13 → Named.Unknown ≡ named (drop i names) word
+pub is-past : (word : List ℕ) (i : ℕ) → i ≡ 14 → Named.Unknown ≡ named (drop i names) word
 is-past word i e = is-none word ∙ ap (λ (k : ℕ). named (drop k names) word) (sym e)
 
 -- a word is compared with a name's letters
@@ -82,6 +84,7 @@ unfolding named sameBytes
 letters-name Setup = refl
 letters-name Read = refl
 letters-name Write = refl
+letters-name WriteRow = refl
 letters-name Receive = refl
 letters-name Wake = refl
 letters-name Watch = refl

@@ -32,6 +32,7 @@ pub fn form_of(name: Name) -> Form
         Name::Setup => takes(0, 32, Last::None),
         Name::Read => takes(1, 2, Last::None),
         Name::Write => takes(1, 3, Last::None),
+        Name::WriteRow => takes(1, 1, Last::Bytes),
         Name::Receive => takes(2, 2, Last::Bytes),
         Name::Wake => takes(1, 1, Last::None),
         Name::Watch => takes(1, 1, Last::Bit),

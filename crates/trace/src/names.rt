@@ -8,6 +8,7 @@ pub enum Name {
     Setup,
     Read,
     Write,
+    WriteRow,
     Receive,
     Wake,
     Watch,
@@ -27,10 +28,11 @@ pub enum Named {
 }
 
 // The calls of which a trace has most come first.
-const NAMES: [Name; 13] = [
+const NAMES: [Name; 14] = [
     Name::Read,
     Name::Write,
     Name::Receive,
+    Name::WriteRow,
     Name::Wake,
     Name::TakeTx,
     Name::Clock,
@@ -51,6 +53,7 @@ fn is_name(word: &[u8], name: Name) -> bool
         Name::Setup => same(word, b"setup"),
         Name::Read => same(word, b"read"),
         Name::Write => same(word, b"write"),
+        Name::WriteRow => same(word, b"write_row"),
         Name::Receive => same(word, b"receive"),
         Name::Wake => same(word, b"wake"),
         Name::Watch => same(word, b"watch"),
@@ -69,7 +72,7 @@ pub fn name_of(word: &[u8]) -> Named
     ensures { λ r. ⌜ r ≡ nameOf (now (word .entry)) ⌝ }
 {
     let mut i = 0;
-    while i < 13 {
+    while i < 14 {
         let name = NAMES[i];
         if is_name(word, name) {
             return Named::Call(name);

@@ -121,6 +121,15 @@ slice-aggregate-same-13 c = refl
 same-requires-13 : tie.Need-same-requires-13
 same-requires-13 c κs = tt
 
+enum-told-14 : tie.Need-enum-told-14
+enum-told-14 c = c .match .keys14
+
+slice-aggregate-same-14 : tie.Need-slice-aggregate-same-14
+slice-aggregate-same-14 c = refl
+
+same-requires-14 : tie.Need-same-requires-14
+same-requires-14 c κs = tt
+
 returns : tie.Need-returns
 returns c = is-spelled _ _ _ (c .before .before .enum-told .given .1) _ (c .same .ensures)
 
@@ -160,6 +169,9 @@ returns-12 c = is-spelled _ _ _ (c .before .before .enum-told12 .given .1) _ (c 
 returns-13 : tie.Need-returns-13
 returns-13 c = is-spelled _ _ _ (c .before .before .enum-told13 .given .1) _ (c .same13 .ensures)
 
+returns-14 : tie.Need-returns-14
+returns-14 c = is-spelled _ _ _ (c .before .before .enum-told14 .given .1) _ (c .same14 .ensures)
+
 pub is-name-spec : {M : Type 1} → statement M
 is-name-spec =
     tie.close (tie.spec enum-told slice-aggregate-same same-requires enum-told-2 slice-aggregate-same-2 same-requires-2
@@ -168,5 +180,6 @@ is-name-spec =
     slice-aggregate-same-7 same-requires-7 enum-told-8 slice-aggregate-same-8 same-requires-8 enum-told-9
     slice-aggregate-same-9 same-requires-9 enum-told-10 slice-aggregate-same-10 same-requires-10 enum-told-11
     slice-aggregate-same-11 same-requires-11 enum-told-12 slice-aggregate-same-12 same-requires-12 enum-told-13
-    slice-aggregate-same-13 same-requires-13 returns returns-2 returns-3 returns-4 returns-5 returns-6 returns-7
-    returns-8 returns-9 returns-10 returns-11 returns-12 returns-13)
+    slice-aggregate-same-13 same-requires-13 enum-told-14 slice-aggregate-same-14 same-requires-14 returns returns-2
+    returns-3 returns-4 returns-5 returns-6 returns-7 returns-8 returns-9 returns-10 returns-11 returns-12 returns-13
+    returns-14)
