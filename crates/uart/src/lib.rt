@@ -13,6 +13,7 @@ use host::answers::TakeCore;
 use model::Done;
 use model::Read;
 use model::Report;
+use model::Row;
 use model::SetUp;
 use model::Taken;
 use model::Write;
@@ -22,6 +23,7 @@ ghost use Rattle.model.specs.Replies.{asRead, readNumber, writeNumber, doneNumb
 ghost use Rattle.model.specs.Call.{Machine};
 ghost use Rattle.model.specs.Calls.{read as Calls·read, write as Calls·write, receive as Calls·receive, machine, takeTx, takeWritten};
 ghost use Rattle.model.specs.Calls.{hasLeft, hostPending};
+ghost use Rattle.model.specs.Row.{row, rowNumber};
 ghost use Rattle.device.specs.Settles.{Settles};
 ghost use Rattle.calls.specs.Answers.{datedCall, undatedCall};
 ghost use Rattle.calls.specs.Undated.{leftReply, pendingReply};
@@ -69,6 +71,13 @@ pub struct AfterRead {
 pub struct AfterWrite {
     pub uart: Uart,
     pub reply: Write,
+    pub report: Report,
+}
+
+#[repr(C)]
+pub struct AfterRow {
+    pub uart: Uart,
+    pub reply: Row,
     pub report: Report,
 }
 
@@ -213,6 +222,44 @@ impl Uart {
         let reply = done.reply;
         let report = done.report;
         AfterWrite {
+            uart: self,
+            reply,
+            report,
+        }
+    }
+
+    // A row: bytes written to FIFO at one cycle.
+    pub fn write_row(mut self, cycle: u64, bytes: &[u8]) -> AfterRow
+        requires { ⌜ Good self ⌝ }
+        ensures { λ r. ⌜ Answered (λ x. x) rowNumber (row cycle (now (bytes .entry))) self (r .uart) (r .reply) (r .report) ⌝ }
+    {
+        let mut gone_at = self.gone_at;
+        let mut flight = self.flight;
+        let mut tx = self.tx;
+        let mut run_len = self.run_len;
+        let mut rx = self.rx;
+        let row = access::row::write_row(
+            self.core,
+            &mut gone_at,
+            &mut flight,
+            &mut tx,
+            &self.host,
+            &self.run_at,
+            &mut run_len,
+            &mut rx,
+            cycle,
+            bytes,
+        );
+        let core = row.core;
+        self.core = core;
+        self.gone_at = gone_at;
+        self.flight = flight;
+        self.tx = tx;
+        self.run_len = run_len;
+        self.rx = rx;
+        let reply = row.reply;
+        let report = row.report;
+        AfterRow {
             uart: self,
             reply,
             report,
