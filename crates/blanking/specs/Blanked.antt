@@ -1,12 +1,12 @@
--- Calls without a client's bytes: every host byte, and every word written to a place that takes none or to FIFO, is replaced,
--- and so are the reset words that set-up does not use: what a reader of a blanked run must believe. Assumes nothing.
+-- Calls and rows without a client's bytes: every host byte, every byte of a row, and every word written to a place that takes none or
+-- to FIFO, is replaced, and so are the reset words that set-up does not use: what a reader of a blanked run must believe. Assumes nothing.
 use Prim.Native.Nat.{ℕ}
 use mathlib.Core.List.{List, [], _∷_, map}
 use lib.ListN.{getD}
 use Rattle.model.specs.Numbers.{choose, without}
 use Rattle.model.specs.Map.{registerOf}
 use Rattle.model.specs.SetUp.{fifoCounts}
-use Rattle.model.specs.Call.{Dated, Undated, Call, Written, Request}
+use Rattle.model.specs.Call.{Dated, Undated, Call, Written, Request, Asked, Ask}
 use Rattle.model.specs.TwoRuns.Unused.{takesWord}
 
 -- every byte is replaced by 0
@@ -37,6 +37,11 @@ blanked offsets (Call.undated (Undated.takeWritten lent)) = Call.undated (Undate
 blanked offsets (Call.undated Undated.hasLeft) = Call.undated Undated.hasLeft
 blanked offsets (Call.undated Undated.hostPending) = Call.undated Undated.hostPending
 
+-- of a row the count of its bytes stays
+unfoldable pub blankedAsked : List ℕ → Ask → Ask
+blankedAsked offsets (Asked.call c) = Asked.call (blanked offsets c)
+blankedAsked offsets (Asked.row now bs) = Asked.row now (map blankByte bs)
+
 -- the list that is sent out
-abbrev pub blankedList : List ℕ → List Request → List Request
-blankedList offsets cs = map (blanked offsets) cs
+abbrev pub blankedList : List ℕ → List Ask → List Ask
+blankedList offsets cs = map (blankedAsked offsets) cs

@@ -1,4 +1,4 @@
--- A line that is a call, as the call that it is, and the one text of a call. Assumes nothing.
+-- A line that is a call or a row, as what it asks for, and the one text of it. Assumes nothing.
 use Prim.Native.Nat.{ℕ}
 use mathlib.Core.Bool.{Bool, true, false}
 use mathlib.Core.List.{List, [], _∷_, _++_, map}
@@ -9,37 +9,41 @@ use Rattle.text.specs.HexText.{hexText}
 use Rattle.trace.specs.Low.{lowOf}
 use Rattle.trace.specs.Names.{letters}
 use Rattle.trace.specs.declared.names.Name.{Name}
-use Rattle.trace.specs.declared.names.Name.the-variants.{Setup, Read, Write, Receive, Wake, Watch, Reset, PowerDown, Clock, TakeTx}
-use Rattle.trace.specs.declared.names.Name.the-variants.{TakeWritten, HasLeft, HostPending}
-use Rattle.model.specs.Call.{Machine, Dated, Undated, Call, Request}
-use Rattle.blanking.specs.Blanked.{blankResets, blanked}
+use Rattle.trace.specs.declared.names.Name.the-variants.{Setup, Read, Write, WriteRow, Receive, Wake, Watch, Reset, PowerDown, Clock}
+use Rattle.trace.specs.declared.names.Name.the-variants.{TakeTx, TakeWritten, HasLeft, HostPending}
+use Rattle.model.specs.Call.{Machine, Dated, Undated, Call, Request, Asked, Ask}
+use Rattle.blanking.specs.Blanked.{blankResets, blankedAsked}
 
--- a set-up by its offsets and reset words, or a call on the UART that is set up
+-- a set-up by its offsets and reset words, or what is asked of the UART that is set up
 pub data Entry : Type 0 where
   setUp : List ℕ → List ℕ → Entry
-  call : Request → Entry
+  asks : Ask → Entry
+
+abbrev call : Request → Entry
+call c = Entry.asks (Asked.call c)
 
 -- what a line's name, numbers, last word and bytes say. A lent buffer is known by its length
 unfoldable pub entryOf : Name → List ℕ → ℕ → List ℕ → Entry
 entryOf Setup ns last bs = Entry.setUp (take 16 (map lowOf (drop 0 ns))) (take 16 (map lowOf (drop 16 ns)))
-entryOf Read ns last bs = Entry.call (Call.at (getD ns 0 0) (Dated.read (lowOf (getD ns 1 0))))
+entryOf Read ns last bs = call (Call.at (getD ns 0 0) (Dated.read (lowOf (getD ns 1 0))))
 entryOf Write ns last bs =
-    Entry.call (Call.at (getD ns 0 0) (Dated.write (record { offset = lowOf (getD ns 1 0); value = lowOf (getD ns 2 0) })))
-entryOf Receive ns last bs = Entry.call (Call.at (getD ns 0 0) (Dated.receive (getD ns 1 0) (take last bs)))
-entryOf Wake ns last bs = Entry.call (Call.at (getD ns 0 0) (Dated.machine Machine.wake))
-entryOf Watch ns last bs = Entry.call (Call.at (getD ns 0 0) (Dated.machine (Machine.watch (ltb 0 last))))
-entryOf Reset ns last bs = Entry.call (Call.at (getD ns 0 0) (Dated.machine Machine.reset))
-entryOf PowerDown ns last bs = Entry.call (Call.at (getD ns 0 0) (Dated.machine Machine.powerDown))
-entryOf Clock ns last bs = Entry.call (Call.at (getD ns 0 0) (Dated.machine (Machine.clockChange (getD ns 1 0))))
-entryOf TakeTx ns last bs = Entry.call (Call.at (getD ns 0 0) (Dated.takeTx (replicate last 0)))
-entryOf TakeWritten ns last bs = Entry.call (Call.undated (Undated.takeWritten (replicate last 0)))
-entryOf HasLeft ns last bs = Entry.call (Call.undated Undated.hasLeft)
-entryOf HostPending ns last bs = Entry.call (Call.undated Undated.hostPending)
+    call (Call.at (getD ns 0 0) (Dated.write (record { offset = lowOf (getD ns 1 0); value = lowOf (getD ns 2 0) })))
+entryOf WriteRow ns last bs = Entry.asks (Asked.row (getD ns 0 0) (take last bs))
+entryOf Receive ns last bs = call (Call.at (getD ns 0 0) (Dated.receive (getD ns 1 0) (take last bs)))
+entryOf Wake ns last bs = call (Call.at (getD ns 0 0) (Dated.machine Machine.wake))
+entryOf Watch ns last bs = call (Call.at (getD ns 0 0) (Dated.machine (Machine.watch (ltb 0 last))))
+entryOf Reset ns last bs = call (Call.at (getD ns 0 0) (Dated.machine Machine.reset))
+entryOf PowerDown ns last bs = call (Call.at (getD ns 0 0) (Dated.machine Machine.powerDown))
+entryOf Clock ns last bs = call (Call.at (getD ns 0 0) (Dated.machine (Machine.clockChange (getD ns 1 0))))
+entryOf TakeTx ns last bs = call (Call.at (getD ns 0 0) (Dated.takeTx (replicate last 0)))
+entryOf TakeWritten ns last bs = call (Call.undated (Undated.takeWritten (replicate last 0)))
+entryOf HasLeft ns last bs = call (Call.undated Undated.hasLeft)
+entryOf HostPending ns last bs = call (Call.undated Undated.hostPending)
 
 -- the same without a client's bytes, for the register map that is set up
 unfoldable pub blankedEntry : List ℕ → Entry → Entry
 blankedEntry offsets (Entry.setUp os ws) = Entry.setUp os (blankResets ws)
-blankedEntry offsets (Entry.call c) = Entry.call (blanked offsets c)
+blankedEntry offsets (Entry.asks a) = Entry.asks (blankedAsked offsets a)
 
 -- ---- its text
 
@@ -75,7 +79,8 @@ callWords (Call.undated Undated.hostPending) = []
 
 unfoldable pub entryWords : Entry → List ℕ
 entryWords (Entry.setUp os ws) = numbers os ++ numbers ws
-entryWords (Entry.call c) = callWords c
+entryWords (Entry.asks (Asked.call c)) = callWords c
+entryWords (Entry.asks (Asked.row now bs)) = number now ++ (32 ∷ hexText bs)
 
 unfoldable pub machineName : Machine → Name
 machineName Machine.wake = Wake
@@ -96,7 +101,8 @@ callName (Call.undated Undated.hostPending) = HostPending
 
 unfoldable pub entryName : Entry → Name
 entryName (Entry.setUp os ws) = Setup
-entryName (Entry.call c) = callName c
+entryName (Entry.asks (Asked.call c)) = callName c
+entryName (Entry.asks (Asked.row now bs)) = WriteRow
 
 -- the line, with its line feed, which is 10
 unfoldable pub entryText : Entry → List ℕ

@@ -14,9 +14,9 @@ use Rattle.text.specs.HexText.{hexText, pairs-length}
 use Rattle.trace.specs.Low.{lowOf}
 use Rattle.trace.specs.Names.{letters}
 use Rattle.trace.specs.declared.names.Name.{Name}
-use Rattle.trace.specs.declared.names.Name.the-variants.{Setup, Read, Write, Receive, Wake, Watch, Reset, PowerDown, Clock, TakeTx}
-use Rattle.trace.specs.declared.names.Name.the-variants.{TakeWritten, HasLeft, HostPending}
-use Rattle.blanking.specs.Blanked.{blankByte, blankWord, blankWritten, blankResets, blanked}
+use Rattle.trace.specs.declared.names.Name.the-variants.{Setup, Read, Write, WriteRow, Receive, Wake, Watch, Reset, PowerDown, Clock}
+use Rattle.trace.specs.declared.names.Name.the-variants.{TakeTx, TakeWritten, HasLeft, HostPending}
+use Rattle.blanking.specs.Blanked.{blankByte, blankWord, blankWritten, blankResets, blanked, blankedAsked}
 use Rattle.blanking.specs.Entries.{entryOf, blankedEntry, number, numbers, bitNumber, machineWords, callWords, entryWords}
 use Rattle.blanking.specs.Entries.{machineName, callName}
 use Rattle.blanking.specs.Entries.{entryName, entryText}
@@ -72,10 +72,11 @@ write-same offsets date o o′ v v′ e f =
 module _ (offsets ns : List ℕ) (last : ℕ) (bs : List ℕ) where
   -- blanking keeps the name
   pub name-kept : (n : Name) → entryName (blankedEntry offsets (entryOf n ns last bs)) ≡ n
-  unfolding entryName callName machineName blankedEntry blanked entryOf
+  unfolding entryName callName machineName blankedEntry blankedAsked blanked entryOf
   name-kept Setup = refl
   name-kept Read = refl
   name-kept Write = refl
+  name-kept WriteRow = refl
   name-kept Receive = refl
   name-kept Wake = refl
   name-kept Watch = refl
@@ -127,11 +128,17 @@ unfolding hexText
 hex-few [] = omega arith
 hex-few (b ∷ bs) = omega (arith, pairs-length (b ∷ bs))
 
+bytes-few : (last : ℕ) (bs : List ℕ) → length bs ≤ 8192 → length (32 ∷ hexText (map blankByte (take last bs))) ≤ 16386
+bytes-few last bs h =
+    let some : length (map blankByte (take last bs)) ≤ 8192 = simp (length-map, length-take) (omega arith) in
+    omega (arith, hex-few (map blankByte (take last bs)), some)
+
 received-few : (now at last : ℕ) (bs : List ℕ) → length bs ≤ 8192
     → length (number now ++ number at ++ (32 ∷ hexText (map blankByte (take last bs)))) ≤ 16428
-received-few now at last bs h =
-    let some : length (map blankByte (take last bs)) ≤ 8192 = simp (length-map, length-take) (omega arith) in
-    rw length-append (omega (arith, two-few now at, hex-few (map blankByte (take last bs)), some))
+received-few now at last bs h = rw length-append (omega (arith, two-few now at, bytes-few last bs h))
+
+row-few : (now last : ℕ) (bs : List ℕ) → length bs ≤ 8192 → length (number now ++ (32 ∷ hexText (map blankByte (take last bs)))) ≤ 16428
+row-few now last bs h = rw length-append (omega (arith, number-few now, bytes-few last bs h))
 
 sixteen-few : (ns : List ℕ) → length (take 16 ns) ≤ 16
 sixteen-few ns = rw length-take (omega arith)
@@ -145,6 +152,7 @@ letters-few : (n : Name) → length (letters n) ≤ 12
 letters-few Setup = omega arith
 letters-few Read = omega arith
 letters-few Write = omega arith
+letters-few WriteRow = omega arith
 letters-few Receive = omega arith
 letters-few Wake = omega arith
 letters-few Watch = omega arith
@@ -158,11 +166,12 @@ letters-few HostPending = omega arith
 
 module _ (offsets ns : List ℕ) (last : ℕ) (bs : List ℕ) (h : length bs ≤ 8192) where
   words-few : (n : Name) → length (entryWords (blankedEntry offsets (entryOf n ns last bs))) ≤ 16428
-  unfolding entryWords callWords machineWords blankedEntry blanked blankWritten entryOf
+  unfolding entryWords callWords machineWords blankedEntry blankedAsked blanked blankWritten entryOf
   words-few Setup = omega (arith, set-up-few (map lowOf (drop 0 ns)) (take 16 (map lowOf (drop 16 ns))))
   words-few Read = omega (arith, two-few (getD ns 0 0) (lowOf (getD ns 1 0)))
   words-few Write =
       omega (arith, three-few (getD ns 0 0) (lowOf (getD ns 1 0)) (blankWord offsets (lowOf (getD ns 1 0)) (lowOf (getD ns 2 0))))
+  words-few WriteRow = row-few (getD ns 0 0) last bs h
   words-few Receive = received-few (getD ns 0 0) (getD ns 1 0) last bs h
   words-few Wake = omega (arith, number-few (getD ns 0 0))
   words-few Watch = omega (arith, two-few (getD ns 0 0) (bitNumber (ltb 0 last)))

@@ -11,8 +11,8 @@ use Rattle.trace.specs.Stored.{stored}
 use Rattle.trace.specs.Lines.{lineOf, numbersOf, bytesAfter}
 use Rattle.trace.specs.declared.line.Line.{Line}
 use Rattle.trace.specs.declared.names.Name.{Name}
-use Rattle.trace.specs.declared.names.Name.the-variants.{Setup, Read, Write, Receive, Wake, Watch, Reset, PowerDown, Clock, TakeTx}
-use Rattle.trace.specs.declared.names.Name.the-variants.{TakeWritten, HasLeft, HostPending}
+use Rattle.trace.specs.declared.names.Name.the-variants.{Setup, Read, Write, WriteRow, Receive, Wake, Watch, Reset, PowerDown, Clock}
+use Rattle.trace.specs.declared.names.Name.the-variants.{TakeTx, TakeWritten, HasLeft, HostPending}
 use Rattle.model.specs.SetUp.{setUpReply}
 use Rattle.model.specs.declared.SetUp.{SetUp}
 use Rattle.blanking.specs.Entries.{entryOf, blankedEntry, entryText}
@@ -57,6 +57,7 @@ unfolding isSetUp carried afterEntry entryOf
 set-up-carried Setup ns last bs t e = refl
 set-up-carried Read ns last bs t e = absurd (differ e)
 set-up-carried Write ns last bs t e = absurd (differ e)
+set-up-carried WriteRow ns last bs t e = absurd (differ e)
 set-up-carried Receive ns last bs t e = absurd (differ e)
 set-up-carried Wake ns last bs t e = absurd (differ e)
 set-up-carried Watch ns last bs t e = absurd (differ e)
@@ -74,6 +75,7 @@ unfolding isSetUp carried afterEntry entryOf
 call-carried Setup ns last bs t e = absurd (differ (sym e))
 call-carried Read ns last bs t e = refl
 call-carried Write ns last bs t e = refl
+call-carried WriteRow ns last bs t e = refl
 call-carried Receive ns last bs t e = refl
 call-carried Wake ns last bs t e = refl
 call-carried Watch ns last bs t e = refl

@@ -10,8 +10,8 @@ use Rattle.trace.specs.Stored.{stored}
 use Rattle.trace.specs.Lines.{lineOf, numbersOf, bytesAfter}
 use Rattle.trace.specs.declared.line.Line.{Line}
 use Rattle.trace.specs.declared.names.Name.{Name}
-use Rattle.trace.specs.declared.names.Name.the-variants.{Setup, Read, Write, Receive, Wake, Watch, Reset, PowerDown, Clock, TakeTx}
-use Rattle.trace.specs.declared.names.Name.the-variants.{TakeWritten, HasLeft, HostPending}
+use Rattle.trace.specs.declared.names.Name.the-variants.{Setup, Read, Write, WriteRow, Receive, Wake, Watch, Reset, PowerDown, Clock}
+use Rattle.trace.specs.declared.names.Name.the-variants.{TakeTx, TakeWritten, HasLeft, HostPending}
 use Rattle.model.specs.SetUp.{setUpReply}
 use Rattle.model.specs.declared.SetUp.{SetUp}
 use Rattle.blanking.specs.Entries.{Entry, entryOf, blankedEntry, entryText}
@@ -29,6 +29,7 @@ unfoldable pub isSetUp : Name → Bool
 isSetUp Setup = true
 isSetUp Read = false
 isSetUp Write = false
+isSetUp WriteRow = false
 isSetUp Receive = false
 isSetUp Wake = false
 isSetUp Watch = false
@@ -50,7 +51,7 @@ readKind ready ns bs Line.Nothing = Kind.nothing
 readKind ready ns bs (Line.Call name last) = callKind ready name ns last bs
 readKind ready ns bs (Line.Wrong f) = Kind.leftOut
 
--- the host bytes of a line that a buffer has room for: it is no longer than 16,384 bytes
+-- the bytes of a line that a buffer has room for: it is no longer than 16,384 bytes
 abbrev pub hostRoom : ℕ
 hostRoom = 8192
 
@@ -91,7 +92,7 @@ afterSetUp (SetUp.Refused r) offsets t = t
 
 unfoldable pub afterEntry : Entry → Trace → Trace
 afterEntry (Entry.setUp os ws) t = afterSetUp (setUpReply os) os t
-afterEntry (Entry.call c) t = t
+afterEntry (Entry.asks a) t = t
 
 unfoldable pub carried : Kind → Trace → Trace
 carried Kind.nothing t = t

@@ -10,15 +10,15 @@ use lib.ListN.{length, getD}
 use Rattle.model.specs.Numbers.{choose}
 use Rattle.model.specs.Laws.Choose.{choose-false}
 use Rattle.model.specs.Map.{isFifo, registerOf, registerAmong, placeAmong, wordsBy}
-use Rattle.model.specs.Call.{Dated, Undated, Call, Written, Request}
+use Rattle.model.specs.Call.{Dated, Undated, Call, Written, Request, Asked, Ask}
 use Rattle.model.specs.SetUp.{wordsAmong, new}
 use Rattle.model.specs.Run.{run}
 use Rattle.model.specs.Refuses.FifoPlace.{first-is-fifo, fifo-is-first}
-use Rattle.model.specs.TwoRuns.Alike.{Each, Alike, fifoOffset}
+use Rattle.model.specs.TwoRuns.Alike.{Each, Alike, AskedAlike, fifoOffset}
 use Rattle.model.specs.TwoRuns.Agree.{Agreeing}
 use Rattle.model.specs.TwoRuns.Unused.{takesWord, SameInUse}
 use Rattle.model.specs.TwoRuns.InUse.{AlikeInUse, runs-agree-in-use}
-use Rattle.blanking.specs.Blanked.{blankByte, blankWord, blankWritten, blankResets, blanked, blankedList}
+use Rattle.blanking.specs.Blanked.{blankByte, blankWord, blankWritten, blankResets, blanked, blankedAsked, blankedList}
 
 length-blank : (bs : List ℕ) → length bs ≡ length (map blankByte bs)
 length-blank [] = refl
@@ -61,9 +61,14 @@ alike offsets (Call.undated (Undated.takeWritten lent)) = AlikeInUse.alike (Alik
 alike offsets (Call.undated Undated.hasLeft) = AlikeInUse.alike Alike.same
 alike offsets (Call.undated Undated.hostPending) = AlikeInUse.alike Alike.same
 
-pub blanked-alike : (offsets : List ℕ) (cs : List Request) → Each (AlikeInUse offsets) cs (blankedList offsets cs)
+asked-alike : (offsets : List ℕ) (a : Ask) → AskedAlike (AlikeInUse offsets) a (blankedAsked offsets a)
+unfolding blankedAsked
+asked-alike offsets (Asked.call c) = AskedAlike.call (alike offsets c)
+asked-alike offsets (Asked.row now bs) = AskedAlike.row (length-blank bs)
+
+pub blanked-alike : (offsets : List ℕ) (cs : List Ask) → Each (AskedAlike (AlikeInUse offsets)) cs (blankedList offsets cs)
 blanked-alike offsets [] = Each.nil
-blanked-alike offsets (c ∷ cs) = Each.cons (alike offsets c) (blanked-alike offsets cs)
+blanked-alike offsets (c ∷ cs) = Each.cons (asked-alike offsets c) (blanked-alike offsets cs)
 
 -- what a mask has cleared stays so
 and-again : (n a b : ℕ) → b < 2 ^ n → bitAnd (bitAnd a b) b ≡ bitAnd a b
@@ -83,7 +88,7 @@ blanked-resets ws = record { words = refl; status = sym (and-again 32 (getD ws 6
 
 -- so by demand 3 a blanked run times as the real one: all answers agree, apart from the byte that a read of FIFO gives and
 -- bytes handed out as sent, and these agree in count at every call
-pub blanked-times-alike : (offsets ws : List ℕ) → length offsets ≡ 16 → (cs : List Request)
+pub blanked-times-alike : (offsets ws : List ℕ) → length offsets ≡ 16 → (cs : List Ask)
     → Agreeing (fifoOffset offsets) cs (blankedList offsets cs) 0 0 cs (run cs (new offsets ws))
     (run (blankedList offsets cs) (new offsets (blankResets ws)))
 blanked-times-alike offsets ws e cs =
@@ -128,10 +133,15 @@ pub blank-same : (offsets : List ℕ) {c d : Request} → AlikeInUse offsets c d
 blank-same offsets (AlikeInUse.alike a) = alike-same offsets a
 blank-same offsets (AlikeInUse.unusedWord {now = now} {offset = o} {v = v} {v′ = v′} f e) = same-write offsets now o v v′ e
 
-pub alike-blanked : (offsets : List ℕ) {cs ds : List Request} → Each (AlikeInUse offsets) cs ds
+asked-same : (offsets : List ℕ) {a b : Ask} → AskedAlike (AlikeInUse offsets) a b → blankedAsked offsets a ≡ blankedAsked offsets b
+unfolding blankedAsked
+asked-same offsets (AskedAlike.call a) = ap Asked.call (blank-same offsets a)
+asked-same offsets (AskedAlike.row {now = now} {bs = bs} {bs′ = bs′} e) = ap (Asked.row now) (same-blank bs bs′ e)
+
+pub alike-blanked : (offsets : List ℕ) {cs ds : List Ask} → Each (AskedAlike (AlikeInUse offsets)) cs ds
     → blankedList offsets cs ≡ blankedList offsets ds
 alike-blanked offsets Each.nil = refl
-alike-blanked offsets (Each.cons a rest) = ap₂ _∷_ (blank-same offsets a) (alike-blanked offsets rest)
+alike-blanked offsets (Each.cons a rest) = ap₂ _∷_ (asked-same offsets a) (alike-blanked offsets rest)
 
 -- and so do the reset words of two set-ups
 pub resets-blanked : (ws ws′ : List ℕ) → SameInUse ws ws′ → blankResets ws ≡ blankResets ws′

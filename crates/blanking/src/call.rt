@@ -86,13 +86,23 @@ fn put_write(out: &mut [u8], at: usize, map: [u32; 16], date: u64, offset: u32, 
     put_number(out, dated, blank.value as u64)
 }
 
-// Zeros for `count` host bytes; none is `-`.
+// Zeros for `count` bytes; none is `-`.
 fn put_zeros(out: &mut [u8], at: usize, count: usize) -> usize
     requires { ⌜ count ≤ 8192 ⌝ }
     ensures { λ r. ⌜ Put (hexText (replicate count 0)) (now (out .entry)) at (now (out .exit)) r ⌝ }
 {
     let zeros = [0u8; 8192];
     put_bytes(out, at, &zeros[0..count])
+}
+
+// A space, and the bytes of a line, blanked.
+fn put_blanked(out: &mut [u8], at: usize, bytes: &[u8], count: usize) -> usize
+    requires { ⌜ length (now bytes) ≤ 8192 ⌝ }
+    ensures { λ r. ⌜ Puts (32 ∷ hexText (map blankByte (take count (now (bytes .entry))))) (now (out .entry)) at (now (out .exit)) r ⌝ }
+{
+    let n = within(count, bytes);
+    let spaced = put(out, at, b" ");
+    put_zeros(out, spaced, n)
 }
 
 // A hand-over, its host bytes blanked.
@@ -108,10 +118,18 @@ fn put_received(
     ensures { λ r. ⌜ Puts (number date ++ number start ++ (32 ∷ hexText (map blankByte (take count (now (bytes .entry))))))
         (now (out .entry)) at (now (out .exit)) r ⌝ }
 {
-    let n = within(count, bytes);
     let dated = put_two(out, at, date, start);
-    let spaced = put(out, dated, b" ");
-    put_zeros(out, spaced, n)
+    put_blanked(out, dated, bytes, count)
+}
+
+// A row, its bytes blanked.
+fn put_row(out: &mut [u8], at: usize, date: u64, bytes: &[u8], count: usize) -> usize
+    requires { ⌜ length (now bytes) ≤ 8192 ⌝ }
+    ensures { λ r. ⌜ Puts (number date ++ (32 ∷ hexText (map blankByte (take count (now (bytes .entry))))))
+        (now (out .entry)) at (now (out .exit)) r ⌝ }
+{
+    let dated = put_number(out, at, date);
+    put_blanked(out, dated, bytes, count)
 }
 
 fn bit_number(last: usize) -> u64
@@ -138,6 +156,7 @@ fn put_words(
         Name::Setup => put_set_up(out, at, all),
         Name::Read => put_two(out, at, all[0], low(all[1]) as u64),
         Name::Write => put_write(out, at, map, all[0], low(all[1]), low(all[2])),
+        Name::WriteRow => put_row(out, at, all[0], bytes, last),
         Name::Receive => put_received(out, at, all[0], all[1], bytes, last),
         Name::Wake => put_number(out, at, all[0]),
         Name::Watch => put_two(out, at, all[0], bit_number(last)),
@@ -159,6 +178,7 @@ fn put_name(out: &mut [u8], at: usize, name: Name) -> usize
         Name::Setup => put(out, at, b"setup"),
         Name::Read => put(out, at, b"read"),
         Name::Write => put(out, at, b"write"),
+        Name::WriteRow => put(out, at, b"write_row"),
         Name::Receive => put(out, at, b"receive"),
         Name::Wake => put(out, at, b"wake"),
         Name::Watch => put(out, at, b"watch"),

@@ -77,6 +77,7 @@ fn is_set_up(name: Name) -> bool
         Name::Setup => true,
         Name::Read => false,
         Name::Write => false,
+        Name::WriteRow => false,
         Name::Receive => false,
         Name::Wake => false,
         Name::Watch => false,

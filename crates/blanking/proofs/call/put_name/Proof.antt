@@ -71,6 +71,11 @@ returns-13 c =
     put-same _ _ _ _ _ _ (ap letters (sym (c .before .before .before .before .before .enum-told13 .given .1)))
     (c .before .before .put13 .ensures)
 
+returns-14 : tie.Need-returns-14
+returns-14 c =
+    put-same _ _ _ _ _ _ (ap letters (sym (c .before .before .before .before .before .enum-told14 .given .1)))
+    (c .before .before .put14 .ensures)
+
 pub put-name-spec : {M : Type 1} → statement M
 put-name-spec =
     tie.close (tie.spec (λ c. search needs) (λ c. search needs) (λ c κs. search needs) (λ c. search needs)
@@ -81,7 +86,9 @@ put-name-spec =
     (λ c. search needs) (λ c. search needs) (λ c κs. search needs) (λ c. search needs) (λ c. search needs)
     (λ c κs. search needs) (λ c. search needs) (λ c. search needs) (λ c κs. search needs) (λ c. search needs)
     (λ c. search needs) (λ c κs. search needs) (λ c. search needs) (λ c. search needs) (λ c κs. search needs)
+    (λ c. search needs) (λ c. search needs) (λ c κs. search needs)
     (λ c. search needs) returns (λ c. search needs) returns-2 (λ c. search needs) returns-3 (λ c. search needs)
     returns-4 (λ c. search needs) returns-5 (λ c. search needs) returns-6 (λ c. search needs) returns-7
     (λ c. search needs) returns-8 (λ c. search needs) returns-9 (λ c. search needs) returns-10 (λ c. search needs)
-    returns-11 (λ c. search needs) returns-12 (λ c. search needs) returns-13)
+    returns-11 (λ c. search needs) returns-12 (λ c. search needs) returns-13
+    (λ c. search needs) returns-14)
