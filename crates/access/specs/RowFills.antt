@@ -24,11 +24,11 @@ use Rattle.model.specs.Rows.Next
 use Rattle.model.specs.Rows.Next.{joined}
 use Rattle.model.specs.declared.Date.{Date}
 use Rattle.model.specs.declared.Write.{Write}
-use Rattle.queue.specs.Cursors.{Held, slotOf, backOf, pushed}
-use Rattle.queue.specs.Laws.{elems-length, push-held}
+use Rattle.queue.specs.Cursors.{Held, backOf, pushed}
+use Rattle.queue.specs.Laws.{push-held}
 use Rattle.queue.specs.declared.Cursor.{Cursor}
 use Rattle.replies.specs.declared.notices.Notices.{Notices}
-use Rattle.device.specs.Holds.{Arrays, sentAt, flightOf, abs, Shape}
+use Rattle.device.specs.Holds.{Arrays, flightOf, abs, Shape}
 use Rattle.device.specs.Arms.{withWakeOf, wakeBelow, WakesBelow}
 use Rattle.device.specs.declared.Core.{Core}
 use Rattle.calls.specs.Answers.{Accesses}
@@ -37,13 +37,7 @@ use Rattle.calls.specs.Queues.{flyingIn}
 use Rattle.access.specs.Sends.{goneAfter, goneAtOf, SendsAny, withFlightOf, sends-any, send-period}
 use Rattle.access.specs.Row.{Wrote, wrote-at}
 use Rattle.access.specs.RowSteps.{quick-sent, quick-still, quick-within}
-use Rattle.access.specs.RowParts.{around, Room, Before, Filled}
-
-flying : (c : Core) (a : Arrays) → length (abs c a .inFlight) ≡ c .flight .count
-flying c a = elems-length (sentAt (a .goneAt) (a .flight)) 129 (c .flight)
-
-left : (c : Core) (a : Arrays) → length (abs c a .tx) ≡ c .tx .count
-left c a = elems-length (slotOf (a .tx) 0) 1152 (c .tx)
+use Rattle.access.specs.RowParts.{flying, left, around, Room, Before, Filled}
 
 -- ---- one byte sent, and the wake armed for the fall below the threshold
 

@@ -23,14 +23,22 @@ use Rattle.model.specs.declared.Refusal.{Refusal}
 use Rattle.model.specs.Replies.{noReport}
 use Rattle.model.specs.declared.Row.{Row}
 use Rattle.model.specs.declared.Source.{Source}
-use Rattle.queue.specs.Cursors.{Held}
-use Rattle.device.specs.Holds.{Arrays, flightOf, abs, Shape, Ok}
+use Rattle.queue.specs.Cursors.{Held, slotOf}
+use Rattle.queue.specs.Laws.{elems-length}
+use Rattle.device.specs.Holds.{Arrays, sentAt, flightOf, abs, Shape, Ok}
 use Rattle.device.specs.declared.Core.{Core}
 use Rattle.calls.specs.Answers.{reportOf}
 use Rattle.calls.specs.Queues.{flyingIn}
 use Rattle.access.specs.Row.{countsOf, Wrote, rowNotices}
 use Rattle.access.specs.declared.row.RowSoFar.{RowSoFar}
 use Rattle.access.specs.declared.row.RowCore.{RowCore}
+
+-- how many are in flight, and how many have left
+pub flying : (c : Core) (a : Arrays) → length (abs c a .inFlight) ≡ c .flight .count
+flying c a = elems-length (sentAt (a .goneAt) (a .flight)) 129 (c .flight)
+
+pub left : (c : Core) (a : Arrays) → length (abs c a .tx) ≡ c .tx .count
+left c a = elems-length (slotOf (a .tx) 0) 1152 (c .tx)
 
 -- ---- numbers and marks
 
@@ -88,8 +96,8 @@ pub record SoFar (cycle : ℕ) (bytes : List ℕ) (n : ℕ) (u₀ : State.Uart �
   pub goes : r .«goes_on» ≡ true → (r .dropped ≡ 0) × (r .made < n) × (fullOf (r .core) ≡ false)
   pub rests : r .«goes_on» ≡ false → r .made < n → fullOf (r .core) ≡ false → Still cycle (abs (r .core) a) × (1 ≤ r .core .flight .count)
 
-abbrev pub Settled : ℕ → List ℕ → ℕ → State.Uart ℕ ℕ → RowSoFar → Arrays → Type 0
-Settled cycle bytes n u₀ r a = SoFar cycle bytes n u₀ r a × (r .«goes_on» ≡ false)
+abbrev pub AllSettled : ℕ → List ℕ → ℕ → State.Uart ℕ ℕ → RowSoFar → Arrays → Type 0
+AllSettled cycle bytes n u₀ r a = SoFar cycle bytes n u₀ r a × (r .«goes_on» ≡ false)
 
 -- ---- the writes that do not
 

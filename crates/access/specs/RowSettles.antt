@@ -27,10 +27,8 @@ use Rattle.model.specs.declared.Control.{Control}
 use Rattle.model.specs.declared.Date.{Date}
 use Rattle.model.specs.declared.Date.the-variants.{At}
 use Rattle.model.specs.declared.Write.{Write}
-use Rattle.queue.specs.Cursors.{slotOf}
-use Rattle.queue.specs.Laws.{elems-length}
 use Rattle.replies.specs.declared.notices.Notices.{Notices}
-use Rattle.device.specs.Holds.{Arrays, sentAt, flightOf, abs, Shape, Ok}
+use Rattle.device.specs.Holds.{Arrays, flightOf, abs, Shape, Ok}
 use Rattle.device.specs.Settles.{Settles}
 use Rattle.device.specs.declared.Core.{Core}
 use Rattle.calls.specs.Answers.{Accesses}
@@ -38,14 +36,8 @@ use Rattle.calls.specs.Concludes.{Concludes}
 use Rattle.calls.specs.Sums.{few-at}
 use Rattle.access.specs.Row.{Wrote, wrote-none, wrote-at}
 use Rattle.access.specs.RowSteps.{drop-next, settled-dropped, settled-sent, settled-within}
-use Rattle.access.specs.RowParts.{dueOf, goesOn, oneMore, noneYet, fullOf, Begins, SoFar}
+use Rattle.access.specs.RowParts.{flying, left, dueOf, goesOn, oneMore, noneYet, fullOf, Begins, SoFar}
 use Rattle.access.specs.declared.row.RowSoFar.{RowSoFar}
-
-flying : (c : Core) (a : Arrays) → length (abs c a .inFlight) ≡ c .flight .count
-flying c a = elems-length (sentAt (a .goneAt) (a .flight)) 129 (c .flight)
-
-left : (c : Core) (a : Arrays) → length (abs c a .tx) ≡ c .tx .count
-left c a = elems-length (slotOf (a .tx) 0) 1152 (c .tx)
 
 -- a row is cut at its bytes
 pub cut : (n : ℕ) (bytes : List ℕ) → n ≤ length bytes → length (take n bytes) ≡ n

@@ -20,25 +20,17 @@ use Rattle.model.specs.Rows.Still.{Still}
 use Rattle.model.specs.Rows.Within.{full-writes}
 use Rattle.model.specs.declared.Row.{Row}
 use Rattle.model.specs.declared.Write.{Write}
-use Rattle.queue.specs.Cursors.{slotOf}
-use Rattle.queue.specs.Laws.{elems-length}
 use Rattle.replies.specs.Reports.{report-of}
-use Rattle.device.specs.Holds.{Arrays, sentAt, abs, Shape}
+use Rattle.device.specs.Holds.{Arrays, abs, Shape}
 use Rattle.device.specs.declared.Core.{Core}
 use Rattle.calls.specs.Answers.{Works}
 use Rattle.access.specs.Row.{countsOf, sourceOf, notesIn, Wrote, wrote-at, rowNotices}
 use Rattle.access.specs.RowSteps.{drops}
-use Rattle.access.specs.RowParts.{fullOf, roomOf, overOf, rowCore, rowWork, around}
+use Rattle.access.specs.RowParts.{flying, left, fullOf, roomOf, overOf, rowCore, rowWork, around}
 use Rattle.access.specs.RowParts.{Passed, Begins, SoFar, Room, Before, Filled, Totals}
 use Rattle.access.specs.RowSettles.{cut, cut-next}
 use Rattle.access.specs.declared.row.RowSoFar.{RowSoFar}
 use Rattle.access.specs.declared.row.RowCore.{RowCore}
-
-flying : (c : Core) (a : Arrays) → length (abs c a .inFlight) ≡ c .flight .count
-flying c a = elems-length (sentAt (a .goneAt) (a .flight)) 129 (c .flight)
-
-left : (c : Core) (a : Arrays) → length (abs c a .tx) ≡ c .tx .count
-left c a = elems-length (slotOf (a .tx) 0) 1152 (c .tx)
 
 -- ---- lists
 

@@ -27,7 +27,7 @@ ghost use Rattle.access.specs.Row.{countsOf, rowNotices};
 ghost use Rattle.device.specs.Holds.{abs, Ok};
 ghost use Rattle.calls.specs.Answers.{Works, Answers};
 ghost use Rattle.device.specs.Wholes.{lent};
-ghost use Rattle.access.specs.RowParts.{dueOf, goesOn, oneMore, noneYet, SumsLow, Begins, Settled, Room, FillsAny};
+ghost use Rattle.access.specs.RowParts.{dueOf, goesOn, oneMore, noneYet, SumsLow, Begins, AllSettled, Room, FillsAny};
 ghost use Rattle.access.specs.RowParts.{roomOf, overOf, rowCore, refusedRow, rowWork, Totals, Passed};
 
 // The most bytes of a row that are written.
@@ -194,7 +194,7 @@ fn settling_writes<'a, 'b>(
     n: usize,
 ) -> RowSoFar
     requires { ⌜ Begins cycle core (lent «gone_at» flight tx host «run_at» «run_len» rx) (now bytes) n ⌝ }
-    ensures { λ r. ⌜ Settled cycle (now (bytes .entry)) n (abs core (lent («gone_at» .entry) (flight .entry) (tx .entry) (host .entry)
+    ensures { λ r. ⌜ AllSettled cycle (now (bytes .entry)) n (abs core (lent («gone_at» .entry) (flight .entry) (tx .entry) (host .entry)
         («run_at» .entry) («run_len» .entry) (rx .entry))) r
         (lent («gone_at» .exit) (flight .exit) (tx .exit) (host .entry) («run_at» .entry) («run_len» .exit) (rx .exit)) ⌝ }
 {
