@@ -1,5 +1,5 @@
--- A call that the UART answered, put out, gives what the definition's step gives. Assumes nothing.
-use mathlib.Core.Path.{_≡_, ap, ap₂, sym, subst, _∙_}
+-- What the UART answered to a call or a row, put out, gives what the definition gives. Assumes nothing.
+use mathlib.Core.Path.{_≡_, refl, ap, ap₂, sym, subst, _∙_}
 use mathlib.Core.Bool.{Bool, true, false}
 use mathlib.Core.Option.{Option, none, some}
 use mathlib.Core.List.{List, []}
@@ -9,10 +9,10 @@ use Rattle.text.specs.Pick.{pick}
 use Rattle.trace.specs.declared.names.Name.{Name}
 use Rattle.model.specs.State
 use Rattle.model.specs.SetUp.{new}
-use Rattle.model.specs.Call.{Undated, Call, Request, Reply}
+use Rattle.model.specs.Call.{Undated, Call, Request, Asked, Ask, Reply, rows}
 use Rattle.model.specs.Calls.{Outcome, unless, carried, outcome, quiet, hasLeft, hostPending}
-use Rattle.model.specs.Run.{Step, step}
-use Rattle.model.specs.Run.{answering}
+use Rattle.model.specs.Row.{row}
+use Rattle.model.specs.Run.{Step, answering, step, askedBy, asked}
 use Rattle.model.specs.Laws.StepCases.{step-cases}
 use Rattle.model.specs.declared.Refusal.{Refusal}
 use Rattle.model.specs.declared.Report.{Report}
@@ -46,17 +46,26 @@ in-use {text} {u} {before} {at} {after} {r} next t d g i = record {
   good = subst (λ (s : Session). Good (s .uart)) (sym (i .session)) g;
 }
 
+-- a call that is asked for is its step, and a row its outcome
+pub call-asked : (c : Request) (u : State.Uart ℕ ℕ) → asked (Asked.call c) u ≡ step c u
+unfolding askedBy
+call-asked c u = refl
+
+pub row-asked : (now : ℕ) (bytes : List ℕ) (u : State.Uart ℕ ℕ) → asked (Asked.row now bytes) u ≡ answering rows (row now bytes u)
+unfolding askedBy
+row-asked now bytes u = refl
+
 module _ {X R : Type 0} {view : X → R} {number : X → ℕ} {o : Outcome X ℕ ℕ} {u u′ : Uart} {reply : R} {report : Report}
     (a : Answers view number o (u .core) (arraysOf u) (u′ .core) (arraysOf u′) reply report) where
-  -- of a call whose step is this outcome
-  pub gives : (c : Request) (reply-of : X → Reply ℕ ℕ ℕ) {text : List ℕ} → step c (meaning u) ≡ answering reply-of o
-      → text ≡ replyText (endText c (o .report)) (o .report) (reply-of (o .reply))
+  -- of a call or a row whose step is this outcome
+  pub gives : (q : Ask) (reply-of : X → Reply ℕ ℕ ℕ) {text : List ℕ} → asked q (meaning u) ≡ answering reply-of o
+      → text ≡ replyText (endText q (o .report)) (o .report) (reply-of (o .reply))
       → {before : List ℕ} {at : ℕ} {after : List ℕ} {r : Session} → InUse text u′ before at after r
-      → Gives (calls c [] (some (meaning u))) before at after r
+      → Gives (calls q [] (some (meaning u))) before at after r
   unfolding answering
-  gives c reply-of e t i =
-      in-use (calls c [] (some (meaning u)))
-      (t ∙ sym (ap (λ (s : Step ℕ ℕ ℕ). answerText c (s .answer)) e))
+  gives q reply-of e t i =
+      in-use (calls q [] (some (meaning u)))
+      (t ∙ sym (ap (λ (s : Step ℕ ℕ ℕ). answerText q (s .answer)) e))
       (ap some (a .state) ∙ sym (ap (λ (s : Step ℕ ℕ ℕ). some (s .state)) e))
       (a .ok) i
 
@@ -118,22 +127,22 @@ module _ {offsets resets : List ℕ} {u : Uart} {reply : SetUp} (made : SetsUp o
 module _ (u : Uart) (good : Good u) {before : List ℕ} {at : ℕ} {after : List ℕ} {place : ℕ} {r : Session} (e : r ≡ setUp u place) where
   pub left-gives : {a : HasLeft} → a ≡ leftReply (undatedCall hasLeft (meaning u) .reply)
       → Put (hasLeftText (a .«has_left»)) before at after place
-      → Gives (calls (Call.undated Undated.hasLeft) [] (some (meaning u))) before at after r
+      → Gives (calls (Asked.call (Call.undated Undated.hasLeft)) [] (some (meaning u))) before at after r
   unfolding answering outcome unless carried hasLeft quiet
   left-gives a p =
-      let same = sym (step-cases (meaning u) .hasLeft) in
-      in-use (calls (Call.undated Undated.hasLeft) [] (some (meaning u)))
+      let same = sym (call-asked _ (meaning u) ∙ step-cases (meaning u) .hasLeft) in
+      in-use (calls (Asked.call (Call.undated Undated.hasLeft)) [] (some (meaning u)))
       (ap (λ (x : HasLeft). hasLeftText (x .«has_left»)) a
-      ∙ ap (λ (s : Step ℕ ℕ ℕ). answerText (Call.undated Undated.hasLeft) (s .answer)) same)
+      ∙ ap (λ (s : Step ℕ ℕ ℕ). answerText (Asked.call (Call.undated Undated.hasLeft)) (s .answer)) same)
       (ap (λ (s : Step ℕ ℕ ℕ). some (s .state)) same) good (used p e)
 
   pub pending-gives : {a : HostPending} → a ≡ pendingReply (undatedCall hostPending (meaning u) .reply)
       → Put (hostPendingText (a .count)) before at after place
-      → Gives (calls (Call.undated Undated.hostPending) [] (some (meaning u))) before at after r
+      → Gives (calls (Asked.call (Call.undated Undated.hostPending)) [] (some (meaning u))) before at after r
   unfolding answering outcome unless carried hostPending quiet
   pending-gives a p =
-      let same = sym (step-cases (meaning u) .hostPending) in
-      in-use (calls (Call.undated Undated.hostPending) [] (some (meaning u)))
+      let same = sym (call-asked _ (meaning u) ∙ step-cases (meaning u) .hostPending) in
+      in-use (calls (Asked.call (Call.undated Undated.hostPending)) [] (some (meaning u)))
       (ap (λ (x : HostPending). hostPendingText (x .count)) a
-      ∙ ap (λ (s : Step ℕ ℕ ℕ). answerText (Call.undated Undated.hostPending) (s .answer)) same)
+      ∙ ap (λ (s : Step ℕ ℕ ℕ). answerText (Asked.call (Call.undated Undated.hostPending)) (s .answer)) same)
       (ap (λ (s : Step ℕ ℕ ℕ). some (s .state)) same) good (used p e)

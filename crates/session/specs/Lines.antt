@@ -17,11 +17,11 @@ use Rattle.trace.specs.Lines.{lineOf, numbersOf, bytesAfter}
 use Rattle.trace.specs.declared.faults.Reason.{Reason}
 use Rattle.trace.specs.declared.line.Line.{Line}
 use Rattle.trace.specs.declared.names.Name.{Name}
-use Rattle.trace.specs.declared.names.Name.the-variants.{Setup, Read, Write, Receive, Wake, Watch, Reset, PowerDown, Clock, TakeTx}
-use Rattle.trace.specs.declared.names.Name.the-variants.{TakeWritten, HasLeft, HostPending}
+use Rattle.trace.specs.declared.names.Name.the-variants.{Setup, Read, Write, WriteRow, Receive, Wake, Watch, Reset, PowerDown, Clock}
+use Rattle.trace.specs.declared.names.Name.the-variants.{TakeTx, TakeWritten, HasLeft, HostPending}
 use Rattle.model.specs.State.{Uart}
 use Rattle.answers.specs.Faults.{faultText, longText}
-use Rattle.session.specs.Requests.{Command, setUp, call, commandOf, Next, carriedOut}
+use Rattle.session.specs.Requests.{Command, setUp, asks, commandOf, Next, carriedOut}
 
 -- a text alone changes nothing
 abbrev pub says : List ℕ → Option (Uart ℕ ℕ) → Next
@@ -57,6 +57,7 @@ abbrev pub isSetup : Name → Bool
 isSetup Setup = true
 isSetup Read = false
 isSetup Write = false
+isSetup WriteRow = false
 isSetup Receive = false
 isSetup Wake = false
 isSetup Watch = false
@@ -85,6 +86,7 @@ pub first-setup : (n : Name) (ns : List ℕ) (last : ℕ) (bytes fault : List �
 first-setup Setup ns last bytes fault device e = refl
 first-setup Read ns last bytes fault device e = cc
 first-setup Write ns last bytes fault device e = cc
+first-setup WriteRow ns last bytes fault device e = cc
 first-setup Receive ns last bytes fault device e = cc
 first-setup Wake ns last bytes fault device e = cc
 first-setup Watch ns last bytes fault device e = cc
@@ -101,6 +103,7 @@ pub first-other : (n : Name) (ns : List ℕ) (last : ℕ) (bytes fault : List �
 first-other Setup ns last bytes fault e = cc
 first-other Read ns last bytes fault e = refl
 first-other Write ns last bytes fault e = refl
+first-other WriteRow ns last bytes fault e = refl
 first-other Receive ns last bytes fault e = refl
 first-other Wake ns last bytes fault e = refl
 first-other Watch ns last bytes fault e = refl
@@ -115,7 +118,7 @@ first-other HostPending ns last bytes fault e = refl
 -- a UART is set up, so that no fault is answered
 pub carried-any : (c : Command) (f g : List ℕ) (u : Uart ℕ ℕ) → carriedOut c f (some u) ≡ carriedOut c g (some u)
 carried-any (setUp o w) f g u = refl
-carried-any (call c) f g u = refl
+carried-any (asks q) f g u = refl
 
 -- the line that was read
 module _ (input : Input) (line bytes : List ℕ) (device : Option (Uart ℕ ℕ)) where

@@ -1,4 +1,4 @@
--- A call that a line names, and its answer by the definition: the text, and the UART after it. Assumes nothing.
+-- A call or a row that a line names, and its answer by the definition: the text, and the UART after it. Assumes nothing.
 use Prim.Native.Nat.{ℕ, zero, suc, _%_, min}
 use mathlib.Core.Bool.{Bool, true, false}
 use mathlib.Core.Option.{Option, none, some}
@@ -9,18 +9,20 @@ use lib.ListN.{take, drop, getD}
 use Rattle.text.specs.Ascii.{ascii}
 use Rattle.trace.specs.Low.{lowOf}
 use Rattle.trace.specs.declared.names.Name.{Name}
-use Rattle.trace.specs.declared.names.Name.the-variants.{Setup, Read, Write, Receive, Wake, Watch, Reset, PowerDown, Clock, TakeTx}
-use Rattle.trace.specs.declared.names.Name.the-variants.{TakeWritten, HasLeft, HostPending}
+use Rattle.trace.specs.declared.names.Name.the-variants.{Setup, Read, Write, WriteRow, Receive, Wake, Watch, Reset, PowerDown, Clock}
+use Rattle.trace.specs.declared.names.Name.the-variants.{TakeTx, TakeWritten, HasLeft, HostPending}
 use Rattle.model.specs.State.{Uart}
 use Rattle.model.specs.SetUp.{new, setUpReply}
-use Rattle.model.specs.Call.{Machine, Dated, Undated, Call, Written, Request, Reply, reads, writes, does, takes, left, pends, Answer}
+use Rattle.model.specs.Call.{Machine, Dated, Undated, Call, Written, Request, Asked, Ask, Reply, reads, writes, does, takes, left}
+use Rattle.model.specs.Call.{pends, rows, Answer}
 use Rattle.model.specs.Replies.{asRead, Take}
-use Rattle.model.specs.Run.{step}
+use Rattle.model.specs.Run.{asked}
 use Rattle.model.specs.declared.Report.{Report}
 use Rattle.model.specs.declared.SetUp.{SetUp}
 use Rattle.model.specs.declared.Taken.{Taken}
 use Rattle.answers.specs.Reports.{reportText}
-use Rattle.answers.specs.Replies.{refusalText, setUpText, readText, writeText, doneText, handOutText, hasLeftText, hostPendingText}
+use Rattle.answers.specs.Replies.{refusalText, setUpText, readText, writeText, rowText, doneText, handOutText, hasLeftText}
+use Rattle.answers.specs.Replies.{hostPendingText}
 
 -- ---- the lent buffer of a hand-out
 
@@ -42,7 +44,10 @@ lentOf n = marksFrom 0 (min n 8192)
 pub data Command : Type 0 where
   -- sixteen offsets and sixteen reset words
   setUp : List ℕ → List ℕ → Command
-  call : Request → Command
+  asks : Ask → Command
+
+abbrev pub call : Request → Command
+call c = asks (Asked.call c)
 
 -- the numbers of the line, its last word where that is a number, and its bytes
 abbrev pub commandOf : Name → List ℕ → ℕ → List ℕ → Command
@@ -50,6 +55,7 @@ commandOf Setup ns last bytes = setUp (take 16 (map lowOf (drop 0 ns))) (take 16
 commandOf Read ns last bytes = call (Call.at (getD ns 0 0) (Dated.read (lowOf (getD ns 1 0))))
 commandOf Write ns last bytes =
     call (Call.at (getD ns 0 0) (Dated.write (record { offset = lowOf (getD ns 1 0); value = lowOf (getD ns 2 0) })))
+commandOf WriteRow ns last bytes = asks (Asked.row (getD ns 0 0) (take last bytes))
 commandOf Receive ns last bytes = call (Call.at (getD ns 0 0) (Dated.receive (getD ns 1 0) (take last bytes)))
 commandOf Wake ns last bytes = call (Call.at (getD ns 0 0) (Dated.machine Machine.wake))
 commandOf Watch ns last bytes = call (Call.at (getD ns 0 0) (Dated.machine (Machine.watch (eqb last 1))))
@@ -68,10 +74,11 @@ abbrev pub handedText : List ℕ → List ℕ → Taken → List ℕ
 handedText end bytes (Taken.Bytes n) = handOutText bytes true ++ end
 handedText end bytes (Taken.Refused q) = refusalText q
 
--- what ends the line of a hand-out: the report of take_tx; take_written is not dated
-abbrev pub endText : Request → Report → List ℕ
-endText (Call.at now c) report = reportText report
-endText (Call.undated c) report = ascii "\n"
+-- what ends the line of a hand-out: the report of take_tx; take_written is not dated, and a row hands nothing out
+abbrev pub endText : Ask → Report → List ℕ
+endText (Asked.call (Call.at now c)) report = reportText report
+endText (Asked.call (Call.undated c)) report = ascii "\n"
+endText (Asked.row now bs) report = reportText report
 
 abbrev pub replyText : List ℕ → Report → Reply ℕ ℕ ℕ → List ℕ
 replyText end report (reads r) = readText report (asRead r)
@@ -80,9 +87,10 @@ replyText end report (does r) = doneText report r
 replyText end report (takes t) = handedText end (t .front) (t .taken)
 replyText end report (left b) = hasLeftText b
 replyText end report (pends n) = hostPendingText n
+replyText end report (rows r) = rowText report r
 
-abbrev pub answerText : Request → Answer ℕ ℕ ℕ → List ℕ
-answerText c a = replyText (endText c (a .report)) (a .report) (a .reply)
+abbrev pub answerText : Ask → Answer ℕ ℕ ℕ → List ℕ
+answerText q a = replyText (endText q (a .report)) (a .report) (a .reply)
 
 -- ---- what a command gives: its text, and the UART that is set up then
 
@@ -101,11 +109,11 @@ setsUp offsets resets before = record {
   device = settled (setUpReply offsets) (new offsets resets) before;
 }
 
--- the definition's step; a call with no UART set up answers a fault
-abbrev pub calls : Request → List ℕ → Option (Uart ℕ ℕ) → Next
-calls c fault none = record { text = fault; device = none }
-calls c fault (some u) = record { text = answerText c (step c u .answer); device = some (step c u .state) }
+-- what the definition answers; with no UART set up it is a fault
+abbrev pub calls : Ask → List ℕ → Option (Uart ℕ ℕ) → Next
+calls q fault none = record { text = fault; device = none }
+calls q fault (some u) = record { text = answerText q (asked q u .answer); device = some (asked q u .state) }
 
 abbrev pub carriedOut : Command → List ℕ → Option (Uart ℕ ℕ) → Next
 carriedOut (setUp offsets resets) fault before = setsUp offsets resets before
-carriedOut (call c) fault before = calls c fault before
+carriedOut (asks q) fault before = calls q fault before

@@ -7,7 +7,7 @@ use native.Mathlib.Nat.{le-of-suc-le-suc}
 use native.Mathlib.Omega.{arith}
 use lib.ListN.{length, take}
 use Rattle.text.specs.Ascii.{ascii}
-use Rattle.model.specs.Call.{Dated, Undated, Call, takes}
+use Rattle.model.specs.Call.{Dated, Undated, Call, Asked, takes}
 use Rattle.model.specs.Calls.{takeTx, takeWritten}
 use Rattle.model.specs.Laws.StepCases.{step-cases}
 use Rattle.model.specs.declared.Report.{Report}
@@ -20,16 +20,16 @@ use Rattle.session.specs.declared.Session.{Session}
 use Rattle.session.specs.Requests.{markAt, marksFrom, lentOf, calls}
 use Rattle.session.specs.Sessions.{Gives, InUse}
 use Rattle.session.specs.HandOuts.{takenLine, writtenLine, marks-length, tx-line, written-line}
-use Rattle.session.specs.Answers.{gives}
+use Rattle.session.specs.Answers.{call-asked, gives}
 
 module _ {u u′ : Uart} {lent out : List ℕ} {reply : Taken} {report : Report} (marks : lent ≡ marksFrom 0 (length lent))
     {before : List ℕ} {at : ℕ} {after : List ℕ} {r : Session} where
   pub tx-gives : (cycle : ℕ) → Took (datedCall cycle (takeTx cycle lent)) u u′ reply report out
       → InUse (takenLine report out reply) u′ before at after r
-      → Gives (calls (Call.at cycle (Dated.takeTx lent)) [] (some (meaning u))) before at after r
+      → Gives (calls (Asked.call (Call.at cycle (Dated.takeTx lent))) [] (some (meaning u))) before at after r
   tx-gives cycle t i =
       let o = datedCall cycle (takeTx cycle lent) (meaning u) in
-      gives (t .0) (Call.at cycle (Dated.takeTx lent)) takes (step-cases (meaning u) .takeTx cycle lent)
+      gives (t .0) (Asked.call (Call.at cycle (Dated.takeTx lent))) takes (call-asked _ _ ∙ step-cases (meaning u) .takeTx cycle lent)
       (ap (λ (x : Report). takenLine x out reply) (t .0 .reports)
       ∙ ap₂ (takenLine (o .report)) (t .1) (t .0 .replies)
       ∙ tx-line (length lent) (meaning u) (reportText (o .report)) cycle lent marks)
@@ -37,9 +37,9 @@ module _ {u u′ : Uart} {lent out : List ℕ} {reply : Taken} {report : Report}
 
   pub written-gives : Took (undatedCall (takeWritten lent)) u u′ reply report out
       → InUse (writtenLine out reply) u′ before at after r
-      → Gives (calls (Call.undated (Undated.takeWritten lent)) [] (some (meaning u))) before at after r
+      → Gives (calls (Asked.call (Call.undated (Undated.takeWritten lent))) [] (some (meaning u))) before at after r
   written-gives t i =
-      gives (t .0) (Call.undated (Undated.takeWritten lent)) takes (step-cases (meaning u) .takeWritten lent)
+      gives (t .0) (Asked.call (Call.undated (Undated.takeWritten lent))) takes (call-asked _ _ ∙ step-cases (meaning u) .takeWritten lent)
       (ap₂ writtenLine (t .1) (t .0 .replies) ∙ written-line (length lent) (meaning u) (ascii "\n") lent marks)
       i
 

@@ -37,6 +37,7 @@ fn is_setup(name: Name) -> bool
         Name::Setup => true,
         Name::Read => false,
         Name::Write => false,
+        Name::WriteRow => false,
         Name::Receive => false,
         Name::Wake => false,
         Name::Watch => false,

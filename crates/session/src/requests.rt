@@ -1,4 +1,4 @@
-// Each call on a UART that was set up, carried out and answered.
+// Each call and each row on a UART that was set up, carried out and answered.
 use crate::Session;
 use crate::in_use;
 use crate::set_up::set_up;
@@ -8,12 +8,14 @@ use answers::results::put_done;
 use answers::results::put_has_left;
 use answers::results::put_host_pending;
 use answers::results::put_read;
+use answers::results::put_row;
 use answers::results::put_write;
 use text::parts::within;
 use trace::low::low;
 use trace::names::Name;
 use uart::AfterDone;
 use uart::AfterRead;
+use uart::AfterRow;
 use uart::AfterWrite;
 use uart::Uart;
 ghost use mathlib.Core.Path.{_≡_};
@@ -21,9 +23,9 @@ ghost use mathlib.Core.Bool.{true};
 ghost use mathlib.Core.Option.{some};
 ghost use mathlib.Core.List.{[]};
 ghost use lib.ListN.{take};
-ghost use Rattle.model.specs.Call.{Undated, Call};
+ghost use Rattle.model.specs.Call.{Undated, Call, Asked};
 ghost use Rattle.uart.specs.Whole.{Good, meaning};
-ghost use Rattle.answers.specs.Replies.{readText, writeText, doneText};
+ghost use Rattle.answers.specs.Replies.{readText, writeText, rowText, doneText};
 ghost use Rattle.session.specs.Requests.{commandOf, calls, carriedOut};
 ghost use Rattle.session.specs.Sessions.{Wide, InUse, Gives};
 
@@ -57,6 +59,17 @@ fn after_write(after: AfterWrite, at: usize, out: &mut [u8]) -> Session
     in_use(uart, next)
 }
 
+fn after_row(after: AfterRow, at: usize, out: &mut [u8]) -> Session
+    requires { ⌜ Wide (now out) at ⌝ }
+    ensures { λ r. ⌜ InUse (rowText (after .report) (after .reply)) (after .uart) (now (out .entry)) at (now (out .exit)) r ⌝ }
+{
+    let reply = after.reply;
+    let report = after.report;
+    let next = put_row(out, at, reply, report);
+    let uart = after.uart;
+    in_use(uart, next)
+}
+
 fn after_done(after: AfterDone, at: usize, out: &mut [u8]) -> Session
     requires { ⌜ Wide (now out) at ⌝ }
     ensures { λ r. ⌜ InUse (doneText (after .report) (after .reply)) (after .uart) (now (out .entry)) at (now (out .exit)) r ⌝ }
@@ -70,7 +83,8 @@ fn after_done(after: AfterDone, at: usize, out: &mut [u8]) -> Session
 
 fn has_left(uart: Uart, at: usize, out: &mut [u8]) -> Session
     requires { ⌜ Good uart ⌝ }
-    ensures { λ r. ⌜ Gives (calls (Call.undated Undated.hasLeft) [] (some (meaning uart))) (now (out .entry)) at (now (out .exit)) r ⌝ }
+    ensures { λ r. ⌜ Gives (calls (Asked.call (Call.undated Undated.hasLeft)) [] (some (meaning uart)))
+        (now (out .entry)) at (now (out .exit)) r ⌝ }
 {
     let answer = uart.has_left();
     let next = put_has_left(out, at, answer.has_left);
@@ -80,14 +94,15 @@ fn has_left(uart: Uart, at: usize, out: &mut [u8]) -> Session
 fn host_pending(uart: Uart, at: usize, out: &mut [u8]) -> Session
     requires { ⌜ Good uart ⌝ }
     requires { ⌜ Wide (now out) at ⌝ }
-    ensures { λ r. ⌜ Gives (calls (Call.undated Undated.hostPending) [] (some (meaning uart))) (now (out .entry)) at (now (out .exit)) r ⌝ }
+    ensures { λ r. ⌜ Gives (calls (Asked.call (Call.undated Undated.hostPending)) [] (some (meaning uart)))
+        (now (out .entry)) at (now (out .exit)) r ⌝ }
 {
     let answer = uart.host_pending();
     let next = put_host_pending(out, at, answer.count);
     in_use(uart, next)
 }
 
-// Carries out a call, with its numbers in the order of its words.
+// Carries out a call or a row, with its numbers in the order of its words.
 pub fn carry_out(
     session: Session,
     name: Name,
@@ -110,6 +125,7 @@ pub fn carry_out(
         Name::Setup => set_up(session, numbers, out),
         Name::Read => after_read(uart.read(now, low(second)), at, out),
         Name::Write => after_write(uart.write(now, low(second), low(numbers[2])), at, out),
+        Name::WriteRow => after_row(uart.write_row(now, front(bytes, last)), at, out),
         Name::Receive => after_done(uart.receive(now, second, front(bytes, last)), at, out),
         Name::Wake => after_done(uart.wake(now), at, out),
         Name::Watch => after_done(uart.watch(now, last == 1), at, out),

@@ -14,7 +14,7 @@ ghost use mathlib.Core.List.{[]};
 ghost use Prim.Native.Nat.{_-_, _≤_};
 ghost use lib.ListN.{length, drop};
 ghost use Rattle.text.specs.Same.{sameBytes};
-ghost use Rattle.model.specs.Call.{Dated, Undated, Call};
+ghost use Rattle.model.specs.Call.{Dated, Undated, Call, Asked};
 ghost use Rattle.uart.specs.Whole.{Good, meaning};
 ghost use Rattle.session.specs.Requests.{markAt, marksFrom, lentOf, calls};
 ghost use Rattle.session.specs.Sessions.{Wide, InUse, Gives};
@@ -100,8 +100,8 @@ fn lend_tx(uart: Uart, cycle: u64, lent: &mut [u8], at: usize, out: &mut [u8]) -
     requires { ⌜ Wide (now out) at ⌝ }
     requires { ⌜ now lent ≡ marksFrom 0 (length (now lent)) ⌝ }
     requires { ⌜ length (now lent) ≤ 8192 ⌝ }
-    ensures { λ r. ⌜ Gives (calls (Call.at cycle (Dated.takeTx (now (lent .entry)))) [] (some (meaning uart))) (now (out .entry)) at
-        (now (out .exit)) r ⌝ }
+    ensures { λ r. ⌜ Gives (calls (Asked.call (Call.at cycle (Dated.takeTx (now (lent .entry))))) [] (some (meaning uart)))
+        (now (out .entry)) at (now (out .exit)) r ⌝ }
 {
     let after = uart.take_tx(cycle, lent);
     after_take(after, lent, at, out)
@@ -112,8 +112,8 @@ fn lend_written(uart: Uart, lent: &mut [u8], at: usize, out: &mut [u8]) -> Sessi
     requires { ⌜ Wide (now out) at ⌝ }
     requires { ⌜ now lent ≡ marksFrom 0 (length (now lent)) ⌝ }
     requires { ⌜ length (now lent) ≤ 8192 ⌝ }
-    ensures { λ r. ⌜ Gives (calls (Call.undated (Undated.takeWritten (now (lent .entry)))) [] (some (meaning uart))) (now (out .entry)) at
-        (now (out .exit)) r ⌝ }
+    ensures { λ r. ⌜ Gives (calls (Asked.call (Call.undated (Undated.takeWritten (now (lent .entry))))) [] (some (meaning uart)))
+        (now (out .entry)) at (now (out .exit)) r ⌝ }
 {
     let after = uart.take_written(lent);
     after_written(after, lent, at, out)
@@ -122,8 +122,8 @@ fn lend_written(uart: Uart, lent: &mut [u8], at: usize, out: &mut [u8]) -> Sessi
 pub(crate) fn take_tx(uart: Uart, cycle: u64, size: usize, at: usize, out: &mut [u8]) -> Session
     requires { ⌜ Good uart ⌝ }
     requires { ⌜ Wide (now out) at ⌝ }
-    ensures { λ r. ⌜ Gives (calls (Call.at cycle (Dated.takeTx (lentOf size))) [] (some (meaning uart))) (now (out .entry)) at
-        (now (out .exit)) r ⌝ }
+    ensures { λ r. ⌜ Gives (calls (Asked.call (Call.at cycle (Dated.takeTx (lentOf size)))) [] (some (meaning uart)))
+        (now (out .entry)) at (now (out .exit)) r ⌝ }
 {
     let mut lent = marks();
     let n = within(size, &lent);
@@ -133,8 +133,8 @@ pub(crate) fn take_tx(uart: Uart, cycle: u64, size: usize, at: usize, out: &mut 
 pub(crate) fn take_written(uart: Uart, size: usize, at: usize, out: &mut [u8]) -> Session
     requires { ⌜ Good uart ⌝ }
     requires { ⌜ Wide (now out) at ⌝ }
-    ensures { λ r. ⌜ Gives (calls (Call.undated (Undated.takeWritten (lentOf size))) [] (some (meaning uart))) (now (out .entry)) at
-        (now (out .exit)) r ⌝ }
+    ensures { λ r. ⌜ Gives (calls (Asked.call (Call.undated (Undated.takeWritten (lentOf size)))) [] (some (meaning uart)))
+        (now (out .entry)) at (now (out .exit)) r ⌝ }
 {
     let mut lent = marks();
     let m = within(size, &lent);

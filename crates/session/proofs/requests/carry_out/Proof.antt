@@ -1,4 +1,4 @@
--- `requests::carry_out` meets its contract: each call is the step of its name. Assumes nothing.
+-- `requests::carry_out` meets its contract: each call, and the row, is what its name asks for. Assumes nothing.
 use mathlib.Core.Path.{ap, ap₂, sym, _∙_}
 use mathlib.Core.Option.{some}
 use mathlib.Core.List.{List, [], map}
@@ -8,12 +8,12 @@ use lib.ListN.{take, drop, getD}
 use borrow.Author.Needs.{needs}
 use Rattle.trace.specs.Low.{lowOf}
 use Rattle.trace.specs.declared.names.Name.{Name}
-use Rattle.model.specs.Call.{Machine, Dated, Call, reads, writes, does}
+use Rattle.model.specs.Call.{Machine, Dated, Call, Asked, reads, writes, does, rows}
 use Rattle.model.specs.Laws.StepCases.{step-cases}
 use Rattle.uart.specs.Whole.{meaning}
-use Rattle.answers.specs.Replies.{readText, writeText, doneText}
+use Rattle.answers.specs.Replies.{readText, writeText, rowText, doneText}
 use Rattle.session.specs.Requests.{commandOf, setsUp, calls, carriedOut}
-use Rattle.session.specs.Answers.{gives, said, gives-as, is-ready}
+use Rattle.session.specs.Answers.{call-asked, row-asked, gives, said, gives-as, is-ready}
 use Rattle.session.proofs.requests.carry_out.Statement.{statement}
 use Rattle.session.proofs.requests.carry_out.Tie as tie
 
@@ -31,55 +31,57 @@ returns-2 : tie.Need-returns-2
 returns-2 c =
     let far = c .before .before .before .before .before .before .before .before in
     let a = far .before .before .before .args in
-    gives-as (ap (λ (k : ℕ). calls (Call.at (getD (a .t3) 0 0) (Dated.read k)) [] (some (meaning (a .session .uart))))
+    gives-as (ap (λ (k : ℕ). calls (Asked.call (Call.at (getD (a .t3) 0 0) (Dated.read k))) [] (some (meaning (a .session .uart))))
     (c .before .before .before .before .before .low .ensures)
     ∙ sym (ap (λ (n : Name). carriedOut (commandOf n (a .t3) (a .last) (a .bytes .now)) [] (some (meaning (a .session .uart))))
     (c .before .before .before .before .before .before .enum-told2 .given .1)))
-    (gives (c .before .before .before .before .read .ensures) (Call.at (getD (a .t3) 0 0)
-    (Dated.read (c .before .before .before .before .before .low .result))) reads
-    (step-cases _ .read _ _) (said (c .before .before .before .before .read .ensures)
+    (gives (c .before .before .before .before .read .ensures) (Asked.call (Call.at (getD (a .t3) 0 0)
+    (Dated.read (c .before .before .before .before .before .low .result)))) reads
+    (call-asked _ _ ∙ step-cases _ .read _ _) (said (c .before .before .before .before .read .ensures)
     readText) (c .before .before .after-read .ensures))
 
 returns-3 : tie.Need-returns-3
 returns-3 c =
     let far = c .before .before .before .before .before .before .before .before .before in
     let a = far .before .before .before .args in
-    gives-as (ap₂ (λ (o : ℕ) (v : ℕ). calls (Call.at (getD (a .t3) 0 0) (Dated.write (record { offset = o; value = v }))) []
+    gives-as (ap₂ (λ (o : ℕ) (v : ℕ). calls (Asked.call (Call.at (getD (a .t3) 0 0) (Dated.write (record { offset = o; value = v })))) []
     (some (meaning (a .session .uart)))) (c .before .before .before .before .before .before .low2 .ensures)
     (c .before .before .before .before .before .low3 .ensures)
     ∙ sym (ap (λ (n : Name). carriedOut (commandOf n (a .t3) (a .last) (a .bytes .now)) [] (some (meaning (a .session .uart))))
     (c .before .before .before .before .before .before .before .enum-told3 .given .1)))
-    (gives (c .before .before .before .before .write .ensures) (Call.at (getD (a .t3) 0 0)
+    (gives (c .before .before .before .before .write .ensures) (Asked.call (Call.at (getD (a .t3) 0 0)
     (Dated.write (record {
       offset = c .before .before .before .before .before .before .low2 .result;
       value =
           c .before .before .before .before .before .low3 .result;
-    }))) writes (step-cases _ .write _ _)
+    })))) writes (call-asked _ _ ∙ step-cases _ .write _ _)
     (said (c .before .before .before .before .write .ensures) writeText) (c .before .before .after-write .ensures))
 
 returns-4 : tie.Need-returns-4
 returns-4 c =
     let far = c .before .before .before .before .before .before .before .before in
     let a = far .before .before .before .args in
-    gives-as (ap
-    (λ (l : List ℕ). calls (Call.at (getD (a .t3) 0 0) (Dated.receive (getD (a .t3) 1 0) l)) [] (some (meaning (a .session .uart))))
+    gives-as (ap (λ (l : List ℕ). calls (Asked.row (getD (a .t3) 0 0) l) [] (some (meaning (a .session .uart))))
     (c .before .before .before .before .before .front .ensures)
     ∙ sym (ap (λ (n : Name). carriedOut (commandOf n (a .t3) (a .last) (a .bytes .now)) [] (some (meaning (a .session .uart))))
     (c .before .before .before .before .before .before .enum-told4 .given .1)))
-    (gives (c .before .before .before .before .receive .ensures) (Call.at (getD (a .t3) 0 0)
-    (Dated.receive (getD (a .t3) 1 0) (c .before .before .before .before .before .front .result .now))) does
-    (step-cases _ .receive _ _ _) (said (c .before .before .before .before .receive .ensures)
-    doneText) (c .before .before .after-done .ensures))
+    (gives (c .before .before .before .before .write-row .ensures) (Asked.row (getD (a .t3) 0 0)
+    (c .before .before .before .before .before .front .result .now)) rows
+    (row-asked _ _ _) (said (c .before .before .before .before .write-row .ensures)
+    rowText) (c .before .before .after-row .ensures))
 
 returns-5 : tie.Need-returns-5
 returns-5 c =
-    let far = c .before .before .before .before .before .before .before in
+    let far = c .before .before .before .before .before .before .before .before in
     let a = far .before .before .before .args in
-    gives-as (sym (ap (λ (n : Name). carriedOut (commandOf n (a .t3) (a .last) (a .bytes .now)) [] (some (meaning (a .session .uart))))
-    (c .before .before .before .before .before .enum-told5 .given .1)))
-    (gives (c .before .before .before .before .wake .ensures) (Call.at (getD (a .t3) 0 0) (Dated.machine Machine.wake)) does
-    (step-cases _ .machine _ _)
-    (said (c .before .before .before .before .wake .ensures) doneText) (c .before .before .after-done2 .ensures))
+    gives-as (ap (λ (l : List ℕ). calls (Asked.call (Call.at (getD (a .t3) 0 0) (Dated.receive (getD (a .t3) 1 0) l))) []
+    (some (meaning (a .session .uart)))) (c .before .before .before .before .before .front2 .ensures)
+    ∙ sym (ap (λ (n : Name). carriedOut (commandOf n (a .t3) (a .last) (a .bytes .now)) [] (some (meaning (a .session .uart))))
+    (c .before .before .before .before .before .before .enum-told5 .given .1)))
+    (gives (c .before .before .before .before .receive .ensures) (Asked.call (Call.at (getD (a .t3) 0 0)
+    (Dated.receive (getD (a .t3) 1 0) (c .before .before .before .before .before .front2 .result .now)))) does
+    (call-asked _ _ ∙ step-cases _ .receive _ _ _) (said (c .before .before .before .before .receive .ensures)
+    doneText) (c .before .before .after-done .ensures))
 
 returns-6 : tie.Need-returns-6
 returns-6 c =
@@ -87,10 +89,9 @@ returns-6 c =
     let a = far .before .before .before .args in
     gives-as (sym (ap (λ (n : Name). carriedOut (commandOf n (a .t3) (a .last) (a .bytes .now)) [] (some (meaning (a .session .uart))))
     (c .before .before .before .before .before .enum-told6 .given .1)))
-    (gives (c .before .before .before .before .watch .ensures)
-    (Call.at (getD (a .t3) 0 0) (Dated.machine (Machine.watch (eqb (a .last) 1)))) does
-    (step-cases _ .machine _ _)
-    (said (c .before .before .before .before .watch .ensures) doneText) (c .before .before .after-done3 .ensures))
+    (gives (c .before .before .before .before .wake .ensures) (Asked.call (Call.at (getD (a .t3) 0 0) (Dated.machine Machine.wake))) does
+    (call-asked _ _ ∙ step-cases _ .machine _ _)
+    (said (c .before .before .before .before .wake .ensures) doneText) (c .before .before .after-done2 .ensures))
 
 returns-7 : tie.Need-returns-7
 returns-7 c =
@@ -98,9 +99,10 @@ returns-7 c =
     let a = far .before .before .before .args in
     gives-as (sym (ap (λ (n : Name). carriedOut (commandOf n (a .t3) (a .last) (a .bytes .now)) [] (some (meaning (a .session .uart))))
     (c .before .before .before .before .before .enum-told7 .given .1)))
-    (gives (c .before .before .before .before .reset .ensures) (Call.at (getD (a .t3) 0 0) (Dated.machine Machine.reset)) does
-    (step-cases _ .machine _ _)
-    (said (c .before .before .before .before .reset .ensures) doneText) (c .before .before .after-done4 .ensures))
+    (gives (c .before .before .before .before .watch .ensures)
+    (Asked.call (Call.at (getD (a .t3) 0 0) (Dated.machine (Machine.watch (eqb (a .last) 1))))) does
+    (call-asked _ _ ∙ step-cases _ .machine _ _)
+    (said (c .before .before .before .before .watch .ensures) doneText) (c .before .before .after-done3 .ensures))
 
 returns-8 : tie.Need-returns-8
 returns-8 c =
@@ -108,9 +110,9 @@ returns-8 c =
     let a = far .before .before .before .args in
     gives-as (sym (ap (λ (n : Name). carriedOut (commandOf n (a .t3) (a .last) (a .bytes .now)) [] (some (meaning (a .session .uart))))
     (c .before .before .before .before .before .enum-told8 .given .1)))
-    (gives (c .before .before .before .before .power-down .ensures) (Call.at (getD (a .t3) 0 0) (Dated.machine Machine.powerDown)) does
-    (step-cases _ .machine _ _)
-    (said (c .before .before .before .before .power-down .ensures) doneText) (c .before .before .after-done5 .ensures))
+    (gives (c .before .before .before .before .reset .ensures) (Asked.call (Call.at (getD (a .t3) 0 0) (Dated.machine Machine.reset))) does
+    (call-asked _ _ ∙ step-cases _ .machine _ _)
+    (said (c .before .before .before .before .reset .ensures) doneText) (c .before .before .after-done4 .ensures))
 
 returns-9 : tie.Need-returns-9
 returns-9 c =
@@ -118,18 +120,21 @@ returns-9 c =
     let a = far .before .before .before .args in
     gives-as (sym (ap (λ (n : Name). carriedOut (commandOf n (a .t3) (a .last) (a .bytes .now)) [] (some (meaning (a .session .uart))))
     (c .before .before .before .before .before .enum-told9 .given .1)))
-    (gives (c .before .before .before .before .clock-change .ensures)
-    (Call.at (getD (a .t3) 0 0) (Dated.machine (Machine.clockChange (getD (a .t3) 1 0)))) does
-    (step-cases _ .machine _ _)
-    (said (c .before .before .before .before .clock-change .ensures) doneText) (c .before .before .after-done6 .ensures))
+    (gives (c .before .before .before .before .power-down .ensures)
+    (Asked.call (Call.at (getD (a .t3) 0 0) (Dated.machine Machine.powerDown))) does
+    (call-asked _ _ ∙ step-cases _ .machine _ _)
+    (said (c .before .before .before .before .power-down .ensures) doneText) (c .before .before .after-done5 .ensures))
 
 returns-10 : tie.Need-returns-10
 returns-10 c =
-    let far = c .before .before .before .before .before .before in
+    let far = c .before .before .before .before .before .before .before in
     let a = far .before .before .before .args in
     gives-as (sym (ap (λ (n : Name). carriedOut (commandOf n (a .t3) (a .last) (a .bytes .now)) [] (some (meaning (a .session .uart))))
-    (c .before .before .before .before .enum-told10 .given .1)))
-    (c .before .before .take-tx .ensures)
+    (c .before .before .before .before .before .enum-told10 .given .1)))
+    (gives (c .before .before .before .before .clock-change .ensures)
+    (Asked.call (Call.at (getD (a .t3) 0 0) (Dated.machine (Machine.clockChange (getD (a .t3) 1 0))))) does
+    (call-asked _ _ ∙ step-cases _ .machine _ _)
+    (said (c .before .before .before .before .clock-change .ensures) doneText) (c .before .before .after-done6 .ensures))
 
 returns-11 : tie.Need-returns-11
 returns-11 c =
@@ -137,7 +142,7 @@ returns-11 c =
     let a = far .before .before .before .args in
     gives-as (sym (ap (λ (n : Name). carriedOut (commandOf n (a .t3) (a .last) (a .bytes .now)) [] (some (meaning (a .session .uart))))
     (c .before .before .before .before .enum-told11 .given .1)))
-    (c .before .before .take-written .ensures)
+    (c .before .before .take-tx .ensures)
 
 returns-12 : tie.Need-returns-12
 returns-12 c =
@@ -145,7 +150,7 @@ returns-12 c =
     let a = far .before .before .before .args in
     gives-as (sym (ap (λ (n : Name). carriedOut (commandOf n (a .t3) (a .last) (a .bytes .now)) [] (some (meaning (a .session .uart))))
     (c .before .before .before .before .enum-told12 .given .1)))
-    (c .before .before .has-left .ensures)
+    (c .before .before .take-written .ensures)
 
 returns-13 : tie.Need-returns-13
 returns-13 c =
@@ -153,6 +158,14 @@ returns-13 c =
     let a = far .before .before .before .args in
     gives-as (sym (ap (λ (n : Name). carriedOut (commandOf n (a .t3) (a .last) (a .bytes .now)) [] (some (meaning (a .session .uart))))
     (c .before .before .before .before .enum-told13 .given .1)))
+    (c .before .before .has-left .ensures)
+
+returns-14 : tie.Need-returns-14
+returns-14 c =
+    let far = c .before .before .before .before .before .before in
+    let a = far .before .before .before .args in
+    gives-as (sym (ap (λ (n : Name). carriedOut (commandOf n (a .t3) (a .last) (a .bytes .now)) [] (some (meaning (a .session .uart))))
+    (c .before .before .before .before .enum-told14 .given .1)))
     (c .before .before .host-pending .ensures)
 
 pub carry-out-spec : {M : Type 1} → statement M
@@ -161,12 +174,13 @@ carry-out-spec =
     (λ c. search needs) (λ c κs. search needs) (λ c κs. search needs) (λ c κs. search needs) (λ c. search needs)
     (λ c κs. search needs) (λ c. search needs) (λ c κs. search needs) (λ c κs. search needs) (λ c κs. search needs)
     (λ c. search needs) (λ c κs. search needs) (λ c κs. search needs) (λ c κs. search needs) (λ c. search needs)
+    (λ c κs. search needs) (λ c κs. search needs) (λ c κs. search needs) (λ c. search needs) (λ c κs. search needs)
+    (λ c κs. search needs) (λ c. search needs) (λ c κs. search needs) (λ c κs. search needs) (λ c. search needs)
     (λ c κs. search needs) (λ c κs. search needs) (λ c. search needs) (λ c κs. search needs) (λ c κs. search needs)
     (λ c. search needs) (λ c κs. search needs) (λ c κs. search needs) (λ c. search needs) (λ c κs. search needs)
-    (λ c κs. search needs) (λ c. search needs) (λ c κs. search needs) (λ c κs. search needs) (λ c. search needs)
-    (λ c κs. search needs) (λ c. search needs) (λ c κs. search needs) (λ c. search needs) (λ c κs. search needs)
-    (λ c. search needs) (λ c κs. search needs) (λ c. search needs) returns (λ c. search needs) returns-2
-    (λ c. search needs) returns-3 (λ c. search needs) returns-4 (λ c. search needs) returns-5 (λ c. search needs)
-    returns-6 (λ c. search needs) returns-7 (λ c. search needs) returns-8 (λ c. search needs) returns-9
-    (λ c. search needs) returns-10 (λ c. search needs) returns-11 (λ c. search needs) returns-12 (λ c. search needs)
-    returns-13)
+    (λ c. search needs) (λ c κs. search needs) (λ c. search needs) (λ c κs. search needs) (λ c. search needs)
+    (λ c κs. search needs) (λ c. search needs) returns (λ c. search needs) returns-2 (λ c. search needs) returns-3
+    (λ c. search needs) returns-4 (λ c. search needs) returns-5 (λ c. search needs) returns-6 (λ c. search needs)
+    returns-7 (λ c. search needs) returns-8 (λ c. search needs) returns-9 (λ c. search needs) returns-10
+    (λ c. search needs) returns-11 (λ c. search needs) returns-12 (λ c. search needs) returns-13 (λ c. search needs)
+    returns-14)

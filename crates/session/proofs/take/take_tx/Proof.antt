@@ -4,7 +4,7 @@ use mathlib.Core.Option.{some}
 use mathlib.Core.List.{List, []}
 use Prim.Native.Nat.{ℕ}
 use borrow.Author.Needs.{needs}
-use Rattle.model.specs.Call.{Dated, Call}
+use Rattle.model.specs.Call.{Dated, Call, Asked}
 use Rattle.uart.specs.Whole.{meaning}
 use Rattle.session.specs.Requests.{calls}
 use Rattle.session.specs.Answers.{gives-as}
@@ -22,7 +22,7 @@ lend-tx-requires c κs =
 returns : tie.Need-returns
 returns c =
     let far = c .before .before .before .before .before .before .before in
-    gives-as (ap (λ (l : List ℕ). calls (Call.at (far .before .before .before .args .cycle) (Dated.takeTx l)) []
+    gives-as (ap (λ (l : List ℕ). calls (Asked.call (Call.at (far .before .before .before .args .cycle) (Dated.takeTx l))) []
     (some (meaning (far .before .before .before .args .uart))))
     (lent-of (far .before .before .before .args .size) (far .before .marks .ensures .1)
     (c .before .before .before .before .before .before .within .ensures .1))) (c .before .before .before .lend-tx .ensures)
