@@ -8,9 +8,13 @@ use uart_box::session::Session;
 const USAGE: &str = "\
 usage: cases < TRACE > CASES
 For each UART that the trace (docs/REPLAY.md) sets up: its calls with the answers of the published Rust, and the claim
-that the definition answers so. Lines that are no calls, and refused set-ups, are left out. compare/definition runs it.
+that the definition answers so. Lines that are no calls, and refused set-ups, are left out; a UART's calls end before
+the row that brings its rows above 250 writes. On standard error: how many calls there are, and how many of them are
+rows. compare/holds-definition runs it.
 ";
 
+/// The writes that the rows of one UART make at most: the checker needs much memory for them.
+const MOST_IN_ROWS: u64 = 250;
 const HEAD: &str = include_str!("../../../definition/cases.txt");
 const UNFOLDED: &str = include_str!("../../../definition/unfolded.txt");
 /// The names of diag.rs's UartFeature in the order of the definition's numbers, from 30 on.
@@ -32,6 +36,23 @@ const FEATURES: [&str; 11] = [
 struct Part {
     set_up: String,
     cases: Vec<String>,
+    /// The rows among them, and the writes that rows make.
+    rows: usize,
+    in_rows: u64,
+}
+
+impl Part {
+    fn add(&mut self, call: &Call, line: &str) {
+        let is_row = matches!(call, Call::WriteRow { .. });
+        if is_row {
+            self.in_rows += field(line, "made=").parse().unwrap_or(0);
+        }
+        let Some(asked) = asked(call) else { return };
+        if self.in_rows <= MOST_IN_ROWS {
+            self.cases.push(format!("asCase ({asked}) {}", list(numbers(call, line).iter())));
+            self.rows += usize::from(is_row);
+        }
+    }
 }
 
 fn list<T: ToString>(items: impl Iterator<Item = T>) -> String {
@@ -165,12 +186,10 @@ fn parts(input: impl BufRead) -> io::Result<Vec<Part>> {
         if let Call::Setup(setup) = &call {
             if text == "0" {
                 let set_up = format!("(new {} {})", list(setup.offsets.iter()), list(setup.reset_words.iter()));
-                parts.push(Part { set_up, cases: Vec::new() });
+                parts.push(Part { set_up, cases: Vec::new(), rows: 0, in_rows: 0 });
             }
-            continue;
-        }
-        if let (Some(part), Some(asked)) = (parts.last_mut(), asked(&call)) {
-            part.cases.push(format!("asCase ({asked}) {}", list(numbers(&call, &text).iter())));
+        } else if let Some(part) = parts.last_mut() {
+            part.add(&call, &text);
         }
     }
     parts.retain(|part| !part.cases.is_empty());
@@ -189,7 +208,8 @@ fn run() -> io::Result<()> {
         writeln!(out, "equal{at} = refl")?;
     }
     out.flush()?;
-    eprintln!("{}", parts.iter().map(|part| part.cases.len()).sum::<usize>());
+    let total: usize = parts.iter().map(|part| part.cases.len()).sum();
+    eprintln!("{total} {}", parts.iter().map(|part| part.rows).sum::<usize>());
     Ok(())
 }
 

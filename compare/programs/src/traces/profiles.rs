@@ -51,7 +51,7 @@ pub const PROFILES: [Profile; 17] = [
         aim: "rows of none to 1,300 bytes, dropped, cut, refused, noted and in no time",
         begin: short,
         scene: Generator::rows,
-        scenes: 100,
+        scenes: 20,
     },
     Profile {
         name: "host-queue",
