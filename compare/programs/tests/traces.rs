@@ -35,7 +35,7 @@ fn a_trace_has_the_calls_asked_for() {
     }
 }
 
-/// Every answer of all profiles, some 160,000.
+/// Every answer of all profiles, some 170,000.
 fn many() -> String {
     PROFILES.iter().map(|profile| answers(&trace(profile, 1, 10_000))).collect()
 }
@@ -72,6 +72,13 @@ fn all_profiles_together_reach_every_number_notice_and_edge() {
         "value=0x0000007f",
         "value=0x00000080",
         "value=0x00800000",
+        "0 made=0 ",
+        "0 made=1 ",
+        "0 made=96 ",
+        "0 made=1152 ",
+        "UartOverflow*1 ",
+        "UartClock(0)*129,UartOverflow*",
+        "UartClock(2)*",
     ] {
         assert!(all.contains(part), "{part}");
     }
