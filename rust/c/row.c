@@ -192,14 +192,14 @@ static void cut_a_row(void)
 {
     static const uint8_t bytes[1100];
     uint8_t out[WONDRAXU_BUFFER];
-    struct wondraxu_row_answer refused;
+    struct wondraxu_row_answer full;
     struct wondraxu_answer answer;
     set_up();
     writes("write of CLKDIV", 0, CLKDIV, 0);
     sends("row of 1,100 bytes", 10, bytes, 1100, 1100, 0);
     sends("row of 96 bytes with room for 52", 10, bytes, 96, 52, 0);
-    refused = wondraxu_uart_write_row(&uart, 10, bytes, 44);
-    expect("row on a full side", "number", refused.reply.number, WONDRAXU_TRANSMIT_FULL);
+    full = wondraxu_uart_write_row(&uart, 10, bytes, 44);
+    expect("row on a full side", "number", full.reply.number, WONDRAXU_TRANSMIT_FULL);
     answer = wondraxu_uart_take_tx(&uart, 10, out, sizeof out);
     expect("take_tx at 10", "value", answer.reply.value, 1152);
     sends("the other 44 bytes", 10, bytes, 44, 44, 0);
