@@ -1,6 +1,6 @@
 /*
- * A UART from C: sends a row, receives a row and reads it, fills both FIFOs, and is refused. Every answer is held to
- * document 01's marks P3, P4, P6 and P10; the first that differs ends the program with a message that names the call.
+ * A UART from C: sends a row at one go, receives a row and reads it, fills both FIFOs, and is refused. Every answer is held
+ * to document 01's marks P3, P4, P6 and P10; the first that differs ends the program with a message that names the call.
  */
 #include <inttypes.h>
 #include <stdio.h>
@@ -9,7 +9,7 @@
 
 #include "wondraxu.h"
 
-enum { FIFO = 0, INT_RAW = 4, STATUS = 24, FSM_STATUS = 28 };
+enum { FIFO = 0, INT_RAW = 4, CLKDIV = 20, STATUS = 24, FSM_STATUS = 28 };
 
 static struct wondraxu_uart uart;
 
@@ -44,12 +44,27 @@ static struct wondraxu_answer reads(const char *call, uint64_t now, uint32_t off
     return answer;
 }
 
-static struct wondraxu_answer sends(const char *call, uint64_t now, uint8_t byte)
+static struct wondraxu_answer writes(const char *call, uint64_t now, uint32_t offset, uint32_t word)
 {
-    struct wondraxu_answer answer = wondraxu_uart_write(&uart, now, FIFO, byte);
+    struct wondraxu_answer answer = wondraxu_uart_write(&uart, now, offset, word);
     expect(call, "number", answer.reply.number, WONDRAXU_DONE);
     expect(call, "holds", answer.reply.holds, true);
     return answer;
+}
+
+/* count bytes at one go, of which made are written; times of them note that the FIFO was full. */
+static void sends(const char *call, uint64_t now, const uint8_t *bytes, size_t count, size_t made, uint64_t times)
+{
+    struct wondraxu_row_answer answer = wondraxu_uart_write_row(&uart, now, bytes, count);
+    expect(call, "number", answer.reply.number, WONDRAXU_DONE);
+    expect(call, "made", answer.reply.made, made);
+    /* No host byte waits: each write makes the one pass that finds nothing due. */
+    expect(call, "passes", answer.report.passes, made);
+    expect(call, "noted", answer.report.noted, times > 0);
+    expect(call, "first", answer.reply.first, times);
+    expect(call, "second", answer.reply.second, 0);
+    if (times > 0)
+        expect(call, "what", answer.report.notices[0].what, WONDRAXU_UART_OVERFLOW);
 }
 
 static void notes(const char *call, struct wondraxu_report report, uint32_t what)
@@ -75,22 +90,21 @@ static void pending(const char *call, size_t want)
     expect(call, "value", reply.value, want);
 }
 
-/* P3, and then three bytes more, which are taken with the first. */
+/* P3, and then three bytes more at one go, which are taken with the first. */
 static void send_a_row(void)
 {
     static const uint8_t row[] = {0x41, 'O', 'W', '\n'};
     uint8_t out[WONDRAXU_BUFFER + 1];
     struct wondraxu_answer answer;
     set_up();
-    answer = sends("write of FIFO at 100", 100, row[0]);
+    answer = writes("write of FIFO at 100", 100, FIFO, row[0]);
     expect("write of FIFO at 100", "wake", answer.report.wake.set ? answer.report.wake.at : 0, 520);
     reads("P3: read of FSM_STATUS at 519", 519, FSM_STATUS, 0x10);
     left("has_left at 519", false);
     reads("P3: read of FSM_STATUS at 520", 520, FSM_STATUS, 0);
     left("has_left at 520", true);
     reads("P3: read of INT_RAW at 520", 520, INT_RAW, 0x4002);
-    for (size_t i = 1; i < sizeof row; i++)
-        sends("write of FIFO at 520", 520, row[i]);
+    sends("row at 520", 520, row + 1, sizeof row - 1, sizeof row - 1, 0);
     memset(out, 0xEE, sizeof out);
     answer = wondraxu_uart_take_tx(&uart, 1780, out, WONDRAXU_BUFFER);
     expect("take_tx at 1780", "number", answer.reply.number, WONDRAXU_DONE);
@@ -127,27 +141,25 @@ static void receive_a_row(void)
     printf("received: %zu bytes, the last at 3100\n", sizeof row);
 }
 
-/* P4 on the transmit side; on the receive side 130 bytes come and 128 are held. */
+/* P4 on the transmit side, its 129 bytes at one go; on the receive side 130 bytes come and 128 are held. */
 static void overflow(void)
 {
     uint8_t bytes[130] = {0};
     struct wondraxu_answer answer;
     set_up();
-    for (int i = 0; i < 129; i++) {
-        answer = sends("P4: write of FIFO at 100", 100, (uint8_t)i);
-        expect("P4: write of FIFO at 100", "noted", answer.report.noted, 0);
-    }
+    sends("P4: row of 129 bytes at 100", 100, bytes, 129, 129, 0);
     reads("P4: read of STATUS after 129 writes", 100, STATUS, 0x00800000);
-    answer = sends("P4: the 130th write", 100, 0x82);
+    answer = writes("P4: the 130th write", 100, FIFO, 0x82);
     notes("P4: the 130th write", answer.report, WONDRAXU_UART_OVERFLOW);
     reads("P4: read of STATUS after 130 writes", 100, STATUS, 0x00800000);
+    sends("row of 20 bytes into a full FIFO", 100, bytes, 20, 20, 20);
     set_up();
     answer = wondraxu_uart_receive(&uart, 0, 0, bytes, sizeof bytes);
     expect("receive of 130 bytes", "number", answer.reply.number, WONDRAXU_DONE);
     answer = wondraxu_uart_wake(&uart, 54600);
     expect("wake at 54600", "overflows", answer.report.overflows, 2);
     reads("read of STATUS at 54600", 54600, STATUS, 128);
-    printf("overflow: 1 byte written and 2 received are lost\n");
+    printf("overflow: 21 bytes written and 2 received are lost\n");
 }
 
 /* P10, and a refused call changes nothing: the Rust crate's tests look at every field. */
@@ -174,6 +186,26 @@ static void refused(void)
     printf("refused:  1,025 host bytes answer %d, and nothing changed\n", WONDRAXU_HOST_FULL);
 }
 
+/* A row that the transmit side has no room for is cut, and the rest given again once what was sent is taken. With a divider
+ * of 0 a byte takes no time. */
+static void cut_a_row(void)
+{
+    static const uint8_t bytes[1100];
+    uint8_t out[WONDRAXU_BUFFER];
+    struct wondraxu_row_answer full;
+    struct wondraxu_answer answer;
+    set_up();
+    writes("write of CLKDIV", 0, CLKDIV, 0);
+    sends("row of 1,100 bytes", 10, bytes, 1100, 1100, 0);
+    sends("row of 96 bytes with room for 52", 10, bytes, 96, 52, 0);
+    full = wondraxu_uart_write_row(&uart, 10, bytes, 44);
+    expect("row on a full side", "number", full.reply.number, WONDRAXU_TRANSMIT_FULL);
+    answer = wondraxu_uart_take_tx(&uart, 10, out, sizeof out);
+    expect("take_tx at 10", "value", answer.reply.value, 1152);
+    sends("the other 44 bytes", 10, bytes, 44, 44, 0);
+    printf("cut:      52 of 96 bytes are written, and 44 later\n");
+}
+
 int main(void)
 {
     expect("wondraxu_abi_3", "version", wondraxu_abi_3(), 3);
@@ -181,5 +213,6 @@ int main(void)
     receive_a_row();
     overflow();
     refused();
+    cut_a_row();
     return 0;
 }

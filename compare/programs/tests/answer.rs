@@ -56,6 +56,17 @@ fn a_line_too_long_is_an_error_and_the_next_is_read() {
 }
 
 #[test]
+fn the_longest_row_fills_a_line() {
+    let row = |bytes: usize| format!("write_row 0 {}", "5a".repeat(bytes));
+    assert_eq!(row(8_186).len(), 16_384);
+    let answers = all(format!("{SETUP}\n{}\n{}\nwrite_row 0 -\n", row(8_186), row(8_187)).as_bytes());
+    let lines: Vec<&str> = answers.lines().collect();
+    assert_eq!(lines[1], "0 made=1152 level=0 wake=420 overflows=0 notices=UartOverflow*1023 passes=1152");
+    assert!(lines[2].starts_with("error: "));
+    assert_eq!(lines[3], "0 made=0 level=0 wake=420 overflows=0 notices=- passes=0");
+}
+
+#[test]
 fn bytes_that_are_no_text_are_named_and_passed() {
     let answers = all(b"\xFF\xFE\n\0\n");
     assert_eq!(answers.lines().count(), 2);

@@ -1,5 +1,6 @@
 //! The answer lines of the replay format.
 use crate::diag::Unsupported;
+use crate::row::Row;
 use crate::the_box::{Answer, Dated, HandedOut, Outcome};
 use std::io::Write;
 
@@ -9,6 +10,7 @@ pub fn put(out: &mut Vec<u8>, answer: &Answer) {
         Answer::Refused(number) => put_number(out, u64::from(*number)),
         Answer::SetUp => out.push(b'0'),
         Answer::Dated(dated) => put_dated(out, dated),
+        Answer::Row(row) => put_row(out, row),
         Answer::TakeWritten(handed_out) => {
             out.extend_from_slice(b"0 ");
             put_handed_out(out, handed_out);
@@ -35,17 +37,38 @@ pub fn put_error(out: &mut Vec<u8>, reason: &str) {
 fn put_dated(out: &mut Vec<u8>, dated: &Dated) {
     out.extend_from_slice(b"0 ");
     put_outcome(out, &dated.outcome);
-    out.extend_from_slice(if dated.level { b" level=1 wake=" } else { b" level=0 wake=" });
-    match dated.wake {
-        Some(cycle) => put_number(out, cycle),
-        None => out.push(b'-'),
-    }
+    put_stand(out, dated.level, dated.wake);
     out.extend_from_slice(b" overflows=");
     put_number(out, dated.overflows);
     out.extend_from_slice(b" notices=");
-    put_notices(out, &dated.notices);
+    put_list(out, &dated.notices, put_notice);
     out.extend_from_slice(b" passes=");
     put_number(out, dated.passes);
+}
+
+fn put_row(out: &mut Vec<u8>, row: &Row) {
+    out.extend_from_slice(b"0 made=");
+    put_number(out, row.made);
+    put_stand(out, row.level, row.wake);
+    out.extend_from_slice(b" overflows=");
+    put_number(out, row.overflows);
+    out.extend_from_slice(b" notices=");
+    put_list(out, &row.notices, |out, (notice, count)| {
+        put_notice(out, notice);
+        out.push(b'*');
+        put_number(out, *count);
+    });
+    out.extend_from_slice(b" passes=");
+    put_number(out, row.passes);
+}
+
+/// The level and the wake.
+fn put_stand(out: &mut Vec<u8>, level: bool, wake: Option<u64>) {
+    out.extend_from_slice(if level { b" level=1 wake=" } else { b" level=0 wake=" });
+    match wake {
+        Some(cycle) => put_number(out, cycle),
+        None => out.push(b'-'),
+    }
 }
 
 fn put_outcome(out: &mut Vec<u8>, outcome: &Outcome) {
@@ -77,24 +100,29 @@ fn put_handed_out(out: &mut Vec<u8>, handed_out: &HandedOut) {
     out.extend_from_slice(if handed_out.rest_kept { b" rest=kept" } else { b" rest=changed" });
 }
 
-fn put_notices(out: &mut Vec<u8>, notices: &[Unsupported]) {
-    if notices.is_empty() {
+/// `-` for none, or the items with a comma between.
+fn put_list<T>(out: &mut Vec<u8>, items: &[T], put_item: impl Fn(&mut Vec<u8>, &T)) {
+    if items.is_empty() {
         out.push(b'-');
     }
-    for (i, notice) in notices.iter().enumerate() {
+    for (i, item) in items.iter().enumerate() {
         if i > 0 {
             out.push(b',');
         }
-        // Writing to a `Vec` does not fail.
-        let _ = match notice {
-            Unsupported::UartOverflow { .. } => write!(out, "UartOverflow"),
-            Unsupported::UartEmptyRead { .. } => write!(out, "UartEmptyRead"),
-            Unsupported::UartClock { sclk_sel, .. } => write!(out, "UartClock({sclk_sel})"),
-            Unsupported::UartReceiveClock { sclk_sel, .. } => write!(out, "UartReceiveClock({sclk_sel})"),
-            Unsupported::UartFeature { feature, .. } => write!(out, "UartFeature({feature:?})"),
-            other => write!(out, "{other:?}"),
-        };
+        put_item(out, item);
     }
+}
+
+fn put_notice(out: &mut Vec<u8>, notice: &Unsupported) {
+    // Writing to a `Vec` does not fail.
+    let _ = match notice {
+        Unsupported::UartOverflow { .. } => write!(out, "UartOverflow"),
+        Unsupported::UartEmptyRead { .. } => write!(out, "UartEmptyRead"),
+        Unsupported::UartClock { sclk_sel, .. } => write!(out, "UartClock({sclk_sel})"),
+        Unsupported::UartReceiveClock { sclk_sel, .. } => write!(out, "UartReceiveClock({sclk_sel})"),
+        Unsupported::UartFeature { feature, .. } => write!(out, "UartFeature({feature:?})"),
+        other => write!(out, "{other:?}"),
+    };
 }
 
 fn put_number(out: &mut Vec<u8>, number: u64) {

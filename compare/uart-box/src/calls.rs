@@ -19,6 +19,7 @@ pub enum Call {
     Setup(Box<Setup>),
     Read { now: u64, offset: u32 },
     Write { now: u64, offset: u32, value: u32 },
+    WriteRow { now: u64, bytes: Vec<u8> },
     Receive { now: u64, at: u64, bytes: Vec<u8> },
     Wake { now: u64 },
     Watch { now: u64, watched: bool },
@@ -38,6 +39,7 @@ impl Call {
         match *self {
             Call::Read { now, .. }
             | Call::Write { now, .. }
+            | Call::WriteRow { now, .. }
             | Call::Receive { now, .. }
             | Call::Wake { now }
             | Call::Watch { now, .. }
@@ -56,6 +58,7 @@ impl Call {
             Call::Setup(setup) => setup_line(setup),
             Call::Read { now, offset } => format!("read {now} {offset}"),
             Call::Write { now, offset, value } => format!("write {now} {offset} 0x{value:x}"),
+            Call::WriteRow { now, bytes } => format!("write_row {now} {}", hex(bytes)),
             Call::Receive { now, at, bytes } => format!("receive {now} {at} {}", hex(bytes)),
             Call::Wake { now } => format!("wake {now}"),
             Call::Watch { now, watched } => format!("watch {now} {}", u8::from(*watched)),
@@ -214,6 +217,7 @@ fn named(words: &mut Words<'_>) -> Result<Call, String> {
         }
         b"read" => Call::Read { now: words.u64("NOW")?, offset: words.u32("OFFSET")? },
         b"write" => Call::Write { now: words.u64("NOW")?, offset: words.u32("OFFSET")?, value: words.u32("VALUE")? },
+        b"write_row" => Call::WriteRow { now: words.u64("NOW")?, bytes: words.bytes()? },
         b"receive" => Call::Receive { now: words.u64("NOW")?, at: words.u64("AT")?, bytes: words.bytes()? },
         b"wake" => Call::Wake { now: words.u64("NOW")? },
         b"watch" => Call::Watch { now: words.u64("NOW")?, watched: words.bit()? },

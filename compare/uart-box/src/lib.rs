@@ -14,5 +14,6 @@ pub(crate) use published::{clock, ctx, diag};
 pub mod answers;
 pub mod calls;
 pub(crate) mod passes;
+pub mod row;
 pub mod session;
 pub mod the_box;

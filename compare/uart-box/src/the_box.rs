@@ -7,6 +7,7 @@ use crate::diag::Unsupported;
 use crate::passes;
 use crate::periph::UART0_BASE;
 use crate::periph::uart::{Uart, looks};
+use crate::row::{LONGEST_ROW, Row};
 use emu_core::{Cycles, Peripheral};
 
 /// The limits of document 01.
@@ -29,6 +30,7 @@ pub enum Answer {
     Refused(u8),
     SetUp,
     Dated(Dated),
+    Row(Row),
     TakeWritten(HandedOut),
     HasLeft(bool),
     HostPending(usize),
@@ -117,6 +119,7 @@ impl TheBox {
         }
         match *call {
             Call::Setup(_) => Answer::SetUp,
+            Call::WriteRow { now, ref bytes } => self.write_row(now, bytes),
             Call::TakeWritten { length } => Answer::TakeWritten(hand_out(&self.uart.take_written(), length)),
             Call::HasLeft => Answer::HasLeft(self.uart.has_left()),
             Call::HostPending => Answer::HostPending(self.uart.host_pending()),
@@ -154,6 +157,21 @@ impl TheBox {
             }
             _ => None,
         }
+    }
+
+    /// A row whose date no number refuses: its bytes written to FIFO, each a call of its own, up to the first that
+    /// is refused. A row without a byte makes no call: it says how the UART stands.
+    fn write_row(&mut self, now: u64, bytes: &[u8]) -> Answer {
+        let offset = self.offsets[FIFO_PLACE];
+        let mut row = Row::unwritten(self.ctx.sources() != 0, looks::wake(&self.uart));
+        for &byte in bytes.iter().take(LONGEST_ROW) {
+            match self.call(&Call::Write { now, offset, value: u32::from(byte) }) {
+                Answer::Dated(written) => row.add(&written),
+                Answer::Refused(number) if row.made == 0 => return Answer::Refused(number),
+                _ => break,
+            }
+        }
+        Answer::Row(row)
     }
 
     /// A dated call that no number refuses.
@@ -200,7 +218,7 @@ impl TheBox {
                 ctx.set_clock(CpuClock::new(period, period));
                 uart.clock_changed(ctx);
             }
-            Call::Setup(_) | Call::TakeWritten { .. } | Call::HasLeft | Call::HostPending => {}
+            Call::Setup(_) | Call::WriteRow { .. } | Call::TakeWritten { .. } | Call::HasLeft | Call::HostPending => {}
         }
         Outcome::Done
     }

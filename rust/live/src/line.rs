@@ -1,7 +1,7 @@
 //! The port's answers as lines of the replay format. `uart_box::answers` writes the published Rust's in the same form.
 use std::fmt;
 use std::io::Write;
-use wondraxu::{Notice, Refusal, Report};
+use wondraxu::{Notice, Refusal, Report, Row};
 
 fn put(out: &mut Vec<u8>, text: fmt::Arguments<'_>) {
     // Writing to a `Vec` does not fail.
@@ -58,32 +58,52 @@ pub fn host_pending(out: &mut Vec<u8>, count: usize) {
 
 /// What follows a dated call's own result.
 pub fn report(out: &mut Vec<u8>, report: &Report) {
-    put(out, format_args!(" level={} wake=", u8::from(report.level())));
-    match report.wake() {
-        Some(cycle) => put(out, format_args!("{cycle}")),
-        None => out.push(b'-'),
-    }
+    stand(out, report.level(), report.wake());
     put(out, format_args!(" overflows={} notices=", report.overflows()));
-    notices(out, report);
+    list(out, report.notices(), notice);
     put(out, format_args!(" passes={}\n", report.passes()));
 }
 
-fn notices(out: &mut Vec<u8>, report: &Report) {
+/// A row's whole answer: each notice has its count.
+pub fn row(out: &mut Vec<u8>, row: &Row) {
+    put(out, format_args!("0 made={}", row.made()));
+    stand(out, row.level(), row.wake());
+    put(out, format_args!(" overflows={} notices=", row.overflows()));
+    list(out, row.notices(), |out, (what, times)| {
+        notice(out, what);
+        put(out, format_args!("*{times}"));
+    });
+    put(out, format_args!(" passes={}\n", row.passes()));
+}
+
+fn stand(out: &mut Vec<u8>, level: bool, wake: Option<u64>) {
+    put(out, format_args!(" level={} wake=", u8::from(level)));
+    match wake {
+        Some(cycle) => put(out, format_args!("{cycle}")),
+        None => out.push(b'-'),
+    }
+}
+
+fn list<T>(out: &mut Vec<u8>, items: impl Iterator<Item = T>, put_item: impl Fn(&mut Vec<u8>, T)) {
     let mut none = true;
-    for notice in report.notices() {
+    for item in items {
         if !none {
             out.push(b',');
         }
         none = false;
-        match notice {
-            Notice::UartOverflow => out.extend_from_slice(b"UartOverflow"),
-            Notice::UartEmptyRead => out.extend_from_slice(b"UartEmptyRead"),
-            Notice::UartClock(sel) => put(out, format_args!("UartClock({sel})")),
-            Notice::UartReceiveClock(sel) => put(out, format_args!("UartReceiveClock({sel})")),
-            Notice::UartFeature(feature) => put(out, format_args!("UartFeature({feature:?})")),
-        }
+        put_item(out, item);
     }
     if none {
         out.push(b'-');
+    }
+}
+
+fn notice(out: &mut Vec<u8>, notice: Notice) {
+    match notice {
+        Notice::UartOverflow => out.extend_from_slice(b"UartOverflow"),
+        Notice::UartEmptyRead => out.extend_from_slice(b"UartEmptyRead"),
+        Notice::UartClock(sel) => put(out, format_args!("UartClock({sel})")),
+        Notice::UartReceiveClock(sel) => put(out, format_args!("UartReceiveClock({sel})")),
+        Notice::UartFeature(feature) => put(out, format_args!("UartFeature({feature:?})")),
     }
 }

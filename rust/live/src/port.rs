@@ -2,7 +2,7 @@
 use crate::Side;
 use crate::line;
 use uart_box::calls::{Call, LONGEST_BUFFER};
-use wondraxu::{Answered, Refusal, Uart};
+use wondraxu::{Answered, Refusal, Row, Uart};
 
 /// What a lent buffer holds before the call, and how far past its end it is looked at.
 const LENT: u8 = 0x5A;
@@ -31,6 +31,7 @@ impl Side for Port {
         match *call {
             Call::Read { now, offset } => dated(out, uart.read(now, offset), line::value),
             Call::Write { now, offset, value } => dated(out, uart.write(now, offset, value), line::accepted),
+            Call::WriteRow { now, ref bytes } => row(out, uart.write_row(now, bytes)),
             Call::Receive { now, at, ref bytes } => dated(out, uart.receive(now, at, bytes), line::done),
             Call::Wake { now } => dated(out, uart.wake(now), line::done),
             Call::Watch { now, watched } => dated(out, uart.watch(now, watched), line::done),
@@ -92,6 +93,13 @@ fn dated<T>(out: &mut Vec<u8>, answered: Answered<T>, result: impl FnOnce(&mut V
             result(out, answer.result);
             line::report(out, &answer.report);
         }
+        Err(refusal) => line::refused(out, refusal),
+    }
+}
+
+fn row(out: &mut Vec<u8>, answered: Result<Row, Refusal>) {
+    match answered {
+        Ok(row) => line::row(out, &row),
         Err(refusal) => line::refused(out, refusal),
     }
 }

@@ -8,9 +8,13 @@ use uart_box::session::Session;
 const USAGE: &str = "\
 usage: cases < TRACE > CASES
 For each UART that the trace (docs/REPLAY.md) sets up: its calls with the answers of the published Rust, and the claim
-that the definition answers so. Lines that are no calls, and refused set-ups, are left out. compare/definition runs it.
+that the definition answers so. Lines that are no calls, and refused set-ups, are left out; a UART's calls end before
+the row that brings its rows above 250 writes. On standard error: how many calls there are, and how many of them are
+rows. compare/holds-definition runs it.
 ";
 
+/// The writes that the rows of one UART make at most: the checker needs much memory for them.
+const MOST_IN_ROWS: u64 = 250;
 const HEAD: &str = include_str!("../../../definition/cases.txt");
 const UNFOLDED: &str = include_str!("../../../definition/unfolded.txt");
 /// The names of diag.rs's UartFeature in the order of the definition's numbers, from 30 on.
@@ -32,6 +36,23 @@ const FEATURES: [&str; 11] = [
 struct Part {
     set_up: String,
     cases: Vec<String>,
+    /// The rows among them, and the writes that rows make.
+    rows: usize,
+    in_rows: u64,
+}
+
+impl Part {
+    fn add(&mut self, call: &Call, line: &str) {
+        let is_row = matches!(call, Call::WriteRow { .. });
+        if is_row {
+            self.in_rows += field(line, "made=").parse().unwrap_or(0);
+        }
+        let Some(asked) = asked(call) else { return };
+        if self.in_rows <= MOST_IN_ROWS {
+            self.cases.push(format!("asCase ({asked}) {}", list(numbers(call, line).iter())));
+            self.rows += usize::from(is_row);
+        }
+    }
 }
 
 fn list<T: ToString>(items: impl Iterator<Item = T>) -> String {
@@ -44,10 +65,18 @@ fn list<T: ToString>(items: impl Iterator<Item = T>) -> String {
     text
 }
 
+/// What is asked, as the definition writes it: a call, or a row.
+fn asked(call: &Call) -> Option<String> {
+    match call {
+        Call::WriteRow { now, bytes } => Some(format!("Asked.row {now} {}", list(bytes.iter()))),
+        _ => request(call).map(|request| format!("Asked.call ({request})")),
+    }
+}
+
 /// A call as the definition writes it. A lent buffer holds the byte 165.
 fn request(call: &Call) -> Option<String> {
     Some(match call {
-        Call::Setup(_) => return None,
+        Call::Setup(_) | Call::WriteRow { .. } => return None,
         Call::Read { now, offset } => format!("Call.at {now} (Dated.read {offset})"),
         Call::Write { now, offset, value } => {
             format!("Call.at {now} (Dated.write (record {{ offset = {offset}; value = {value} }}))")
@@ -81,42 +110,68 @@ fn bytes_of(hex: &str) -> Vec<u64> {
     (0..hex.len() / 2).filter_map(|at| u64::from_str_radix(&hex[2 * at..2 * at + 2], 16).ok()).collect()
 }
 
+fn number(text: &str) -> u64 {
+    text.parse().unwrap_or(u64::MAX)
+}
+
+/// What stands after `name` in an answer's line.
+fn field<'a>(line: &'a str, name: &str) -> &'a str {
+    line.split(' ').find_map(|word| word.strip_prefix(name)).unwrap_or("")
+}
+
+/// The notices of an answer's line, each with its count where it is a row's.
+fn notices(line: &str) -> Vec<(u64, u64)> {
+    let named = field(line, "notices=").split(',').filter(|&name| name != "-");
+    named.map(|name| name.split_once('*').unwrap_or((name, "1"))).map(|(name, n)| (notice(name), number(n))).collect()
+}
+
+/// The numbers of a call's own result. A row has the counts of two notices, 0 where there is none.
+fn result(call: &Call, line: &str) -> Vec<u64> {
+    let field = |name| field(line, name);
+    match call {
+        Call::Read { .. } => match field("value=").strip_prefix("0x") {
+            Some(hex) => vec![1, u64::from_str_radix(hex, 16).unwrap_or(u64::MAX)],
+            None => vec![2],
+        },
+        Call::Write { .. } => vec![3, number(field("accepted="))],
+        Call::WriteRow { .. } => {
+            let mut counts: Vec<u64> = notices(line).into_iter().map(|(_, count)| count).collect();
+            counts.resize(counts.len().max(2), 0);
+            [vec![8, number(field("made="))], counts].concat()
+        }
+        Call::TakeTx { length, .. } | Call::TakeWritten { length } => {
+            let bytes = bytes_of(field("bytes="));
+            let count = bytes.len() as u64;
+            let rest = if field("rest=") == "kept" { *length as u64 - count } else { u64::MAX };
+            [vec![5, count], bytes, vec![rest]].concat()
+        }
+        Call::HasLeft => vec![6, number(field("has_left="))],
+        Call::HostPending => vec![7, number(field("host_pending="))],
+        _ => vec![4],
+    }
+}
+
+/// The numbers of what a dated call answers beside its own result.
+fn report(line: &str) -> Vec<u64> {
+    let wake = field(line, "wake=");
+    let wake = if wake == "-" { 0 } else { number(wake) + 1 };
+    let rest = ["overflows=", "passes="].map(|name| number(field(line, name)));
+    let notices: Vec<u64> = notices(line).into_iter().map(|(notice, _)| notice).collect();
+    [vec![number(field(line, "level=")), wake, rest[0], rest[1], notices.len() as u64], notices].concat()
+}
+
 /// The numbers of an answer's line, in the order of compare/definition/numbers.txt.
 fn numbers(call: &Call, line: &str) -> Vec<u64> {
-    let field = |name: &str| line.split(' ').find_map(|word| word.strip_prefix(name)).unwrap_or("");
-    let number = |text: &str| text.parse::<u64>().unwrap_or(u64::MAX);
     let first = line.split(' ').next().unwrap_or("");
     if first != "0" {
         return vec![number(first)];
     }
-    let mut all = vec![0];
-    match call {
-        Call::Read { .. } => match field("value=").strip_prefix("0x") {
-            Some(hex) => all.extend([1, u64::from_str_radix(hex, 16).unwrap_or(u64::MAX)]),
-            None => all.push(2),
-        },
-        Call::Write { .. } => all.extend([3, number(field("accepted="))]),
-        Call::TakeTx { length, .. } | Call::TakeWritten { length } => {
-            let bytes = bytes_of(field("bytes="));
-            let count = bytes.len() as u64;
-            all.extend([5, count]);
-            all.extend(bytes);
-            all.push(if field("rest=") == "kept" { *length as u64 - count } else { u64::MAX });
-        }
-        Call::HasLeft => all.extend([6, number(field("has_left="))]),
-        Call::HostPending => all.extend([7, number(field("host_pending="))]),
-        _ => all.push(4),
-    }
-    if call.now().is_some() {
-        let wake = if field("wake=") == "-" { 0 } else { number(field("wake=")) + 1 };
-        let notices: Vec<u64> = field("notices=").split(',').filter(|&name| name != "-").map(notice).collect();
-        all.extend([number(field("level=")), wake, number(field("overflows=")), number(field("passes="))]);
-        all.push(notices.len() as u64);
-        all.extend(notices);
-    } else if matches!(call, Call::TakeWritten { .. }) {
-        all.extend([0; 5]); // the fixed report of an undated call
-    }
-    all
+    let report = match call {
+        Call::TakeWritten { .. } => vec![0; 5], // the fixed report of an undated call
+        _ if call.now().is_some() => report(line),
+        _ => Vec::new(),
+    };
+    [vec![0], result(call, line), report].concat()
 }
 
 fn parts(input: impl BufRead) -> io::Result<Vec<Part>> {
@@ -131,12 +186,10 @@ fn parts(input: impl BufRead) -> io::Result<Vec<Part>> {
         if let Call::Setup(setup) = &call {
             if text == "0" {
                 let set_up = format!("(new {} {})", list(setup.offsets.iter()), list(setup.reset_words.iter()));
-                parts.push(Part { set_up, cases: Vec::new() });
+                parts.push(Part { set_up, cases: Vec::new(), rows: 0, in_rows: 0 });
             }
-            continue;
-        }
-        if let (Some(part), Some(request)) = (parts.last_mut(), request(&call)) {
-            part.cases.push(format!("asCase ({request}) {}", list(numbers(&call, &text).iter())));
+        } else if let Some(part) = parts.last_mut() {
+            part.add(&call, &text);
         }
     }
     parts.retain(|part| !part.cases.is_empty());
@@ -155,7 +208,8 @@ fn run() -> io::Result<()> {
         writeln!(out, "equal{at} = refl")?;
     }
     out.flush()?;
-    eprintln!("{}", parts.iter().map(|part| part.cases.len()).sum::<usize>());
+    let total: usize = parts.iter().map(|part| part.cases.len()).sum();
+    eprintln!("{total} {}", parts.iter().map(|part| part.rows).sum::<usize>());
     Ok(())
 }
 

@@ -6,7 +6,7 @@ use std::{fs, process};
 use uart_box::calls::{self, Call};
 
 const USAGE: &str = "\
-usage: other-bytes TRACE           the trace with every host byte and every word written to FIFO replaced
+usage: other-bytes TRACE           the trace with every host byte, every word written to FIFO and every row's byte replaced
        other-bytes TRACE ANSWERS   the answers with every byte masked: a FIFO read's value, what was handed out
 FIFO is the first offset of the last `setup` that was taken. Lines that are no call are left as they are.
 ";
@@ -49,6 +49,10 @@ fn replaced(trace: &[u8], out: &mut impl Write) -> io::Result<()> {
             Ok(Some(Call::Receive { now, at, bytes })) => {
                 let bytes = bytes.into_iter().map(|byte| others.of(byte)).collect();
                 writeln!(out, "{}", Call::Receive { now, at, bytes }.line())?;
+            }
+            Ok(Some(Call::WriteRow { now, bytes })) => {
+                let bytes = bytes.into_iter().map(|byte| others.of(byte)).collect();
+                writeln!(out, "{}", Call::WriteRow { now, bytes }.line())?;
             }
             Ok(Some(Call::Write { now, offset, value })) if fifo.0 == Some(offset) => {
                 let value = u32::from_be_bytes(value.to_be_bytes().map(|byte| others.of(byte)));

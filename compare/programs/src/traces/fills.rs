@@ -42,14 +42,10 @@ impl Generator {
             self.write(now, CLK_CONF, RX_SCLK_EN | source << 20);
         }
         let missing = 126u64.saturating_sub(self.sight().in_flight as u64) + self.random.below(3);
-        for _ in 0..missing {
-            let word = self.random.u32();
-            self.write(now, FIFO, word);
-        }
+        self.send(now, missing as usize);
         for _ in 0..10 {
-            let word = self.random.u32();
             let now = self.date();
-            self.write(now, FIFO, word);
+            self.write_byte_or_row(now);
             self.read(now, STATUS);
             if self.random.chance(30) {
                 self.step(&LOOKING);
@@ -57,28 +53,49 @@ impl Generator {
         }
     }
 
+    /// So many bytes at one date: a row, or one by one.
+    fn send(&mut self, now: u64, count: usize) {
+        if self.random.chance(40) {
+            self.write_row(now, count);
+            return;
+        }
+        for _ in 0..count {
+            self.write_byte(now);
+        }
+    }
+
+    fn write_byte(&mut self, now: u64) {
+        let word = self.random.u32();
+        self.write(now, FIFO, word);
+    }
+
+    /// One byte, or a row of a few or none.
+    fn write_byte_or_row(&mut self, now: u64) {
+        if self.random.chance(60) {
+            self.write_byte(now);
+        } else {
+            let count = self.random.pick(&[0, 1, 2, 3, 5]);
+            self.write_row(now, count);
+        }
+    }
+
     /// Bytes left and in flight at 1,150 to 1,153 in all: nobody takes them.
     pub fn fill_left(&mut self) {
+        let longest_row = self.random.pick(&[0, 0, 30, 130, 1_152]);
+        self.fill_left_by(longest_row);
+    }
+
+    /// The same by rows of at most so many bytes, or byte by byte. Now and then a byte takes no time.
+    pub fn fill_left_by(&mut self, longest_row: usize) {
         let now = self.date();
         self.short_bytes(now);
-        while !self.done() {
-            let sight = self.sight();
-            let total = sight.left + sight.in_flight;
-            if total >= 1_150 {
-                break;
-            }
-            if sight.in_flight >= 128 || self.random.chance(2) {
-                let past = self.date_past_all();
-                self.call(&Call::Wake { now: past });
-            }
-            let now = self.sight().last;
-            let word = self.random.u32();
-            self.write(now, FIFO, word);
+        if self.random.chance(20) {
+            self.write(now, CLKDIV, 0);
         }
+        self.send_until_nearly_full(longest_row);
         for _ in 0..8 {
             let now = if self.random.chance(30) { self.any_date() } else { self.date() };
-            let word = self.random.u32();
-            self.write(now, FIFO, word);
+            self.write_byte_or_row(now);
             if self.random.chance(40) {
                 self.step(&LOOKING);
             }
@@ -86,13 +103,38 @@ impl Generator {
         self.hand_out_at_the_edge();
     }
 
+    fn send_until_nearly_full(&mut self, longest_row: usize) {
+        while !self.done() {
+            let sight = self.sight();
+            let free = 1_150usize.saturating_sub(sight.left + sight.in_flight);
+            if free == 0 {
+                return;
+            }
+            if sight.in_flight >= 128 || self.random.chance(2) {
+                let past = self.date_past_all();
+                self.call(&Call::Wake { now: past });
+                // Nothing leaves after a power-down.
+                if self.sight().in_flight >= 128 {
+                    return;
+                }
+            }
+            let now = self.sight().last;
+            match longest_row.min(free) {
+                0 => self.write_byte(now),
+                most => {
+                    let count = 1 + self.random.below(most as u64) as usize;
+                    self.write_row(now, count);
+                }
+            }
+        }
+    }
+
     fn hand_out_at_the_edge(&mut self) {
         let now = self.date();
         let length = self.random.pick(&[0, 1151, 1152, 1153, 8192]);
         let call = if self.random.chance(60) { Call::TakeTx { now, length } } else { Call::TakeWritten { length } };
         self.call(&call);
-        let word = self.random.u32();
-        self.write(now, FIFO, word);
+        self.write_byte(now);
     }
 
     /// Waiting host bytes at 1,022 to 1,026: one run, then one byte, none or a few more.

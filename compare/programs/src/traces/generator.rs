@@ -97,6 +97,12 @@ impl Generator {
         self.call(&Call::Write { now, offset, value })
     }
 
+    /// A row of `count` random bytes.
+    pub fn write_row(&mut self, now: u64, count: usize) -> bool {
+        let bytes = self.random.bytes(count);
+        self.call(&Call::WriteRow { now, bytes })
+    }
+
     /// A host's hand-over of `count` random bytes.
     pub fn receive(&mut self, now: u64, at: u64, count: usize) -> bool {
         let bytes = self.random.bytes(count);

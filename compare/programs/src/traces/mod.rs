@@ -8,6 +8,7 @@ mod odd_lines;
 mod profiles;
 mod random;
 mod registers;
+mod rows;
 mod steps;
 
 pub use generator::Generator;

@@ -41,7 +41,7 @@ impl Generator {
 
     /// A call that some number may refuse, on either side of its limit.
     fn refusable(&mut self, now: u64) {
-        match self.random.below(9) {
+        match self.random.below(10) {
             0 => {
                 let period = self.random.pick(&[0, 1, 999_999, 1_000_000, 1_000_001, u64::MAX]);
                 self.call(&Call::Clock { now, period });
@@ -65,6 +65,10 @@ impl Generator {
                 self.receive(now, at, count);
             }
             7 => self.step_at(&EVEN, now),
+            8 => {
+                let length = self.random.pick(&[0, 0, 1, 2, 96]);
+                self.write_row(now, length);
+            }
             _ => {
                 self.read(now, STATUS);
             }

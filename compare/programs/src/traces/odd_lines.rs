@@ -1,8 +1,9 @@
 //! Lines that are no calls, lines that are passed over, and calls in unusual but right writing.
 use super::generator::Generator;
 use super::steps::EVEN;
+use uart_box::calls::Call;
 
-const WRONG: [&str; 44] = [
+const WRONG: [&str; 52] = [
     "red 1 2",
     "READ 1 2",
     "read",
@@ -21,6 +22,14 @@ const WRONG: [&str; 44] = [
     "write 1 0",
     "write 1 0 4294967296",
     "write 1 0 1 1",
+    "write_row",
+    "write_row 1",
+    "write_row 1 5",
+    "write_row 1 555",
+    "write_row 1 5g",
+    "write_row 1 --",
+    "write_row 1 55 55",
+    "write_row 0X1 55",
     "receive 1 1",
     "receive 1 1 5",
     "receive 1 1 555",
@@ -80,25 +89,34 @@ impl Generator {
     fn number_written_otherwise(&mut self) {
         let now = self.date();
         let offset = self.offsets[6];
-        let line = match self.random.below(4) {
+        let line = match self.random.below(5) {
             0 => format!("read 0x{now:x} 0x{offset:X}"),
             1 => format!("read {now:025} {offset:012}"),
             2 => format!("read 0x{now:024X} {offset}"),
+            3 => format!("write_row 0x{now:X}  aBCdEf"),
             _ => format!("receive {now} {now} aBCdEf"),
         };
         self.line(line.as_bytes());
     }
 
-    /// A line of 16,384 or 16,385 bytes: a call, a comment or spaces.
+    /// A line of 16,383 to 16,385 bytes: a call, a row as long, a comment or spaces.
     fn long_line(&mut self) {
         let length = 16_383 + self.random.below(3) as usize;
         let now = self.date();
-        let start = match self.random.below(3) {
+        let start = match self.random.below(4) {
             0 => format!("read {now} {}", self.offsets[1]),
             1 => "# long".to_owned(),
+            2 => self.long_row(now, length),
             _ => String::new(),
         };
         let line = format!("{start}{}", " ".repeat(length - start.len()));
         self.line(line.as_bytes());
+    }
+
+    /// As many bytes as fit into a line of `length`.
+    fn long_row(&mut self, now: u64, length: usize) -> String {
+        let start = format!("write_row {now} ");
+        let bytes = self.random.bytes((length - start.len()) / 2);
+        Call::WriteRow { now, bytes }.line()
     }
 }

@@ -17,7 +17,7 @@ pub struct Profile {
     scenes: u64,
 }
 
-pub const PROFILES: [Profile; 16] = [
+pub const PROFILES: [Profile; 17] = [
     Profile {
         name: "mixed",
         aim: "all calls, dates on and around each instant",
@@ -45,6 +45,13 @@ pub const PROFILES: [Profile; 16] = [
         begin: bench,
         scene: transmit,
         scenes: 6,
+    },
+    Profile {
+        name: "rows",
+        aim: "rows of none to 1,300 bytes, dropped, cut, refused, noted and in no time",
+        begin: short,
+        scene: Generator::rows,
+        scenes: 20,
     },
     Profile {
         name: "host-queue",

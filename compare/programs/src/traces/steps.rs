@@ -8,6 +8,7 @@ use uart_box::calls::Call;
 pub struct Mix {
     pub read: u32,
     pub fifo_write: u32,
+    pub row: u32,
     pub configure: u32,
     pub interrupts: u32,
     pub other_register: u32,
@@ -24,10 +25,11 @@ pub struct Mix {
 
 impl Mix {
     /// The weights in the order of `step_at`.
-    fn weights(&self) -> [u32; 14] {
+    fn weights(&self) -> [u32; 15] {
         [
             self.read,
             self.fifo_write,
+            self.row,
             self.configure,
             self.interrupts,
             self.other_register,
@@ -48,6 +50,7 @@ impl Mix {
 pub const EVEN: Mix = Mix {
     read: 30,
     fifo_write: 14,
+    row: 3,
     configure: 9,
     interrupts: 8,
     other_register: 2,
@@ -81,24 +84,25 @@ impl Generator {
         match self.random.weighted(&mix.weights()) {
             0 => self.read_one(now),
             1 => self.write_fifo(now),
-            2 => self.configure_one(now, &CONFIGURED),
-            3 => self.configure_one(now, &[INT_CLR, INT_CLR, INT_ENA]),
-            4 => self.touch_another(now),
-            5 => self.receive_some(now),
-            6 => self.wake_one(now),
-            7 => {
+            2 => self.row(now),
+            3 => self.configure_one(now, &CONFIGURED),
+            4 => self.configure_one(now, &[INT_CLR, INT_CLR, INT_ENA]),
+            5 => self.touch_another(now),
+            6 => self.receive_some(now),
+            7 => self.wake_one(now),
+            8 => {
                 let watched = self.random.chance(60);
                 self.call(&Call::Watch { now, watched });
             }
-            8 => {
+            9 => {
                 self.call(&Call::Reset { now });
             }
-            9 => {
+            10 => {
                 self.call(&Call::PowerDown { now });
             }
-            10 => self.change_clock(now),
-            11 => self.take_tx(now),
-            12 => self.take_written(),
+            11 => self.change_clock(now),
+            12 => self.take_tx(now),
+            13 => self.take_written(),
             _ => self.ask(),
         }
     }
