@@ -51,7 +51,8 @@ wordAt c unknown = noValue
 wordAt c (shown s) = word (shownOf c s)
 wordAt c (stored x) = word (valueOf (c .control .words) x)
 
-flying : (c : Core) (a : Arrays) → length (abs c a .inFlight) ≡ c .flight .count
+-- how many are in flight
+pub flying : (c : Core) (a : Arrays) → length (abs c a .inFlight) ≡ c .flight .count
 flying c a = elems-length (sentAt (a .goneAt) (a .flight)) 129 (c .flight)
 
 shown-words : (s : Shown) (c : Core) (a : Arrays) → shownIn (abs c a) s ≡ shownOf c s

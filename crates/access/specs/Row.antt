@@ -79,16 +79,6 @@ unfolding countedAll
 countedAll-append cs [] ns = refl
 countedAll-append cs (m ∷ ms) ns = countedAll-append (counted m cs) ms ns
 
--- the notices of a report are those that it was made of
-notes-first : (ns : List Unsupported) (pad : List Notice)
-    → take (length ns) (map (λ n. n .what) (map (λ n. record { what = n }) ns ++ pad)) ≡ ns
-notes-first [] pad = refl
-notes-first (n ∷ ns) pad = ap (λ (l : List Unsupported). n ∷ l) (notes-first ns pad)
-
-pub report-notes : (p o : ℕ) (ns : List Unsupported) (u : State.Uart ℕ ℕ) → notesOf (report p o ns u) ≡ ns
-unfolding report notices
-report-notes p o ns u = notes-first ns _
-
 -- ---- one more behind
 
 module _ {A : Type 0} where

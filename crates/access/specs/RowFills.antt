@@ -37,7 +37,8 @@ use Rattle.calls.specs.Queues.{flyingIn}
 use Rattle.access.specs.Sends.{goneAfter, goneAtOf, SendsAny, withFlightOf, sends-any, send-period}
 use Rattle.access.specs.Row.{Wrote, wrote-at}
 use Rattle.access.specs.RowSteps.{quick-sent, quick-still, quick-within}
-use Rattle.access.specs.RowParts.{flying, left, around, Room, Before, Filled}
+use Rattle.access.specs.Reads.{flying}
+use Rattle.access.specs.RowParts.{left, around, Room, Before, Filled}
 
 -- ---- one byte sent, and the wake armed for the fall below the threshold
 

@@ -25,7 +25,7 @@ use Rattle.model.specs.declared.Row.{Row}
 use Rattle.model.specs.declared.Source.{Source}
 use Rattle.queue.specs.Cursors.{Held, slotOf}
 use Rattle.queue.specs.Laws.{elems-length}
-use Rattle.device.specs.Holds.{Arrays, sentAt, flightOf, abs, Shape, Ok}
+use Rattle.device.specs.Holds.{Arrays, flightOf, abs, Shape, Ok}
 use Rattle.device.specs.declared.Core.{Core}
 use Rattle.calls.specs.Answers.{reportOf}
 use Rattle.calls.specs.Queues.{flyingIn}
@@ -33,10 +33,7 @@ use Rattle.access.specs.Row.{countsOf, Wrote, rowNotices}
 use Rattle.access.specs.declared.row.RowSoFar.{RowSoFar}
 use Rattle.access.specs.declared.row.RowCore.{RowCore}
 
--- how many are in flight, and how many have left
-pub flying : (c : Core) (a : Arrays) → length (abs c a .inFlight) ≡ c .flight .count
-flying c a = elems-length (sentAt (a .goneAt) (a .flight)) 129 (c .flight)
-
+-- how many have left
 pub left : (c : Core) (a : Arrays) → length (abs c a .tx) ≡ c .tx .count
 left c a = elems-length (slotOf (a .tx) 0) 1152 (c .tx)
 

@@ -36,7 +36,8 @@ use Rattle.calls.specs.Concludes.{Concludes}
 use Rattle.calls.specs.Sums.{few-at}
 use Rattle.access.specs.Row.{Wrote, wrote-none, wrote-at}
 use Rattle.access.specs.RowSteps.{drop-next, settled-dropped, settled-sent, settled-within}
-use Rattle.access.specs.RowParts.{flying, left, dueOf, goesOn, oneMore, noneYet, fullOf, Begins, SoFar}
+use Rattle.access.specs.Reads.{flying}
+use Rattle.access.specs.RowParts.{left, dueOf, goesOn, oneMore, noneYet, fullOf, Begins, SoFar}
 use Rattle.access.specs.declared.row.RowSoFar.{RowSoFar}
 
 -- a row is cut at its bytes

@@ -26,12 +26,13 @@ use Rattle.model.specs.Keeps.Kept.{settle-keeps}
 use Rattle.model.specs.Keeps.EachCall.{send-within}
 use Rattle.model.specs.Rows.Still.{Still}
 use Rattle.model.specs.Rows.Next
+use Rattle.model.specs.Rows.Notices.{report-notes}
 use Rattle.model.specs.Rows.Next.{written-carried, written-dropped, written-next, next-still}
 use Rattle.model.specs.declared.Unsupported.{Unsupported}
 use Rattle.model.specs.declared.Unsupported.the-variants.{UartOverflow, UartClock}
 use Rattle.model.specs.declared.Words.{Words}
 use Rattle.model.specs.declared.Write.{Write}
-use Rattle.access.specs.Row.{report-notes, sourceOf, Wrote, wrote-at, wrote-sent, wrote-dropped}
+use Rattle.access.specs.Row.{sourceOf, Wrote, wrote-at, wrote-sent, wrote-dropped}
 
 -- ---- the next byte of a list
 

@@ -26,7 +26,8 @@ use Rattle.device.specs.declared.Core.{Core}
 use Rattle.calls.specs.Answers.{Works}
 use Rattle.access.specs.Row.{countsOf, sourceOf, notesIn, Wrote, wrote-at, rowNotices}
 use Rattle.access.specs.RowSteps.{drops}
-use Rattle.access.specs.RowParts.{flying, left, fullOf, roomOf, overOf, rowCore, rowWork, around}
+use Rattle.access.specs.Reads.{flying}
+use Rattle.access.specs.RowParts.{left, fullOf, roomOf, overOf, rowCore, rowWork, around}
 use Rattle.access.specs.RowParts.{Passed, Begins, SoFar, Room, Before, Filled, Totals}
 use Rattle.access.specs.RowSettles.{cut, cut-next}
 use Rattle.access.specs.declared.row.RowSoFar.{RowSoFar}

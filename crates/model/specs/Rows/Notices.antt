@@ -50,16 +50,16 @@ source-told Source.None = nil
 source-told Source.Sel0 = cons Told.clock nil
 source-told Source.Sel2 = cons Told.clock nil
 
--- the notices that a report was made with
+-- the notices of a report are those that it was made of
 notes-front : (ns : List Unsupported) (r : List Notice)
     → take (length ns) (map (λ n. n .what) (map (λ n. record { what = n }) ns ++ r)) ≡ ns
 notes-front [] r = refl
 notes-front (n ∷ ns) r = ap (λ l. n ∷ l) (notes-front ns r)
 
 module _ {H W : Type 0} where
-  notes-of : (p o : ℕ) (ns : List Unsupported) (u : Uart H W) → notesOf (report p o ns u) ≡ ns
+  pub report-notes : (p o : ℕ) (ns : List Unsupported) (u : Uart H W) → notesOf (report p o ns u) ≡ ns
   unfolding report notices
-  notes-of p o ns u = notes-front ns _
+  report-notes p o ns u = notes-front ns _
 
   abbrev sourceOf : Uart H W → ℕ
   sourceOf u = selOf (unmodelledSource (u .control .words .«clk_conf»))
@@ -92,7 +92,7 @@ module _ {H W : Type 0} where
       made : Tells u (carried (some now) (send now b u) u)
       made = record {
         source = send-told now b settled .0 ∙ same;
-        notes = subst (All (Told (sourceOf u))) (sym (notes-of _ _ (sendByte now b settled .notes) _))
+        notes = subst (All (Told (sourceOf u))) (sym (report-notes _ _ (sendByte now b settled .notes) _))
             (subst (λ (n : ℕ). All (Told n) (sendByte now b settled .notes)) same (send-told now b settled .1));
       }
 
