@@ -78,6 +78,12 @@ fn notices_come_once_with_their_counts() {
 }
 
 #[test]
+fn a_row_of_a_million_bytes_is_cut_and_says_so() {
+    let row = as_writes(&mut bench(), 1, &vec![0xA5; 1_000_000]);
+    assert_eq!((row.made(), row.notices().collect::<Vec<_>>()), (1152, vec![(Notice::UartOverflow, 1023)]));
+}
+
+#[test]
 fn a_row_is_cut_where_the_transmit_side_is_full() {
     let mut uart = bench();
     for burst in 0..9 {
