@@ -89,6 +89,16 @@ static void answers(void)
     FIELD(row_answer, core);
     FIELD(row_answer, reply);
     FIELD(row_answer, report);
+    SIZE(line_figures);
+    FIELD(line_figures, number);
+    FIELD(line_figures, placed);
+    FIELD(line_figures, busy);
+    FIELD(line_figures, shortest);
+    FIELD(line_figures, longest);
+    FIELD(line_figures, quiet);
+    FIELD(line_figures, at);
+    FIELD(line_figures, mean);
+    FIELD(line_figures, remainder);
     SIZE(sixteen);
     FIELD(sixteen, words);
     SIZE(set_up);

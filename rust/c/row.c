@@ -1,6 +1,7 @@
 /*
- * A UART from C: sends a row at one go, receives a row and reads it, fills both FIFOs, and is refused. Every answer is held
- * to document 01's marks P3, P4, P6 and P10; the first that differs ends the program with a message that names the call.
+ * A UART from C: sends a row at one go, receives a row and reads it, fills both FIFOs, and is refused; and the figures of a
+ * line. Every answer is held to document 01's marks P3, P4, P6 and P10, or to the request for figures; the first that differs
+ * ends the program with a message that names the call.
  */
 #include <inttypes.h>
 #include <stdio.h>
@@ -206,13 +207,51 @@ static void cut_a_row(void)
     printf("cut:      52 of 96 bytes are written, and 44 later\n");
 }
 
+/* The figures of count frames, which are taken; of as many starts and one end less they are refused. */
+static struct wondraxu_line_figures tells(const char *call, const uint64_t *starts, const uint64_t *ends, size_t count)
+{
+    struct wondraxu_line_figures figures = wondraxu_figures(starts, count, ends, count);
+    expect(call, "number", figures.number, WONDRAXU_DONE);
+    expect(call, "number with an end less", wondraxu_figures(starts, count, ends, count - 1).number, WONDRAXU_UNFIT_LIST);
+    return figures;
+}
+
+/* Four frames with two stretches that are as long, and then lists about as long as one may be. */
+static void line_figures(void)
+{
+    static const uint64_t starts[] = {0, 14, 25, 33}, ends[] = {10, 20, 28, 34};
+    uint64_t dates[WONDRAXU_FRAMES + 2];
+    struct wondraxu_line_figures figures = tells("figures of four frames", starts, ends, 4);
+    expect("figures of four frames", "busy", figures.busy, 20);
+    expect("figures of four frames", "shortest", figures.shortest, 1);
+    expect("figures of four frames", "longest", figures.longest, 10);
+    expect("figures of four frames", "quiet", figures.quiet, 5);
+    expect("figures of four frames", "placed", figures.placed, true);
+    expect("figures of four frames", "at", figures.at, 1);
+    expect("figures of four frames", "mean", figures.mean, 5);
+    expect("figures of four frames", "remainder", figures.remainder, 0);
+    figures = tells("figures of one frame", starts, ends, 1);
+    expect("figures of one frame", "placed", figures.placed, false);
+    expect("figures of one frame", "at", figures.at, 0);
+    for (size_t i = 0; i < WONDRAXU_FRAMES + 2; i++)
+        dates[i] = i;
+    /* Each frame starts where the one before it ends. */
+    figures = tells("figures of 1,024 frames", dates, dates + 1, WONDRAXU_FRAMES);
+    expect("figures of 1,024 frames", "busy", figures.busy, WONDRAXU_FRAMES);
+    figures = wondraxu_figures(dates, WONDRAXU_FRAMES + 1, dates + 1, WONDRAXU_FRAMES + 1);
+    expect("figures of 1,025 frames", "number", figures.number, WONDRAXU_UNFIT_LIST);
+    expect("figures of 1,025 frames", "busy", figures.busy, 0);
+    printf("figures:  of 1,024 frames, and 1,025 answer %d\n", WONDRAXU_UNFIT_LIST);
+}
+
 int main(void)
 {
-    expect("wondraxu_abi_3", "version", wondraxu_abi_3(), 3);
+    expect("wondraxu_abi_4", "version", wondraxu_abi_4(), 4);
     send_a_row();
     receive_a_row();
     overflow();
     refused();
     cut_a_row();
+    line_figures();
     return 0;
 }

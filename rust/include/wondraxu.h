@@ -1,8 +1,9 @@
 /*
  * The UART of an emulated ESP32-C3, proved: the calls of libwondraxu.a, which rust/build-lib makes, for C99 and C++.
  *
- * Names and meaning are those of inkemu's uart.rs. The first part declares the library's structs and its fourteen calls.
+ * Names and meaning are those of inkemu's uart.rs. The first part declares the library's structs and its fifteen calls.
  * The second part, at the end, is struct wondraxu_uart, which holds what the calls require between them: use that one.
+ * wondraxu_figures stands beside the UART: how busy a line was, from the frames on it.
  *
  * No call allocates, and none keeps a pointer. A refused call answers its number and changes nothing.
  */
@@ -18,10 +19,10 @@ extern "C" {
 #endif
 
 /*
- * The version of the structs and calls below; answers 3. The number goes up whenever one of them changes. Every file that
+ * The version of the structs and calls below; answers 4. The number goes up whenever one of them changes. Every file that
  * has this header needs the symbol, so that an archive of another version, whose structs may differ, does not link.
  */
-uint32_t wondraxu_abi_3(void);
+uint32_t wondraxu_abi_4(void);
 #ifdef __GNUC__
 __attribute__((used))
 #endif
@@ -30,7 +31,7 @@ __attribute__((used))
 __attribute__((retain)) /* the linker keeps it too, where it drops what nothing reads */
 #endif
 #endif
-static uint32_t (*const wondraxu_abi)(void) = wondraxu_abi_3;
+static uint32_t (*const wondraxu_abi)(void) = wondraxu_abi_4;
 
 /* How many slots each array has. */
 #define WONDRAXU_FLIGHT 129   /* gone_at, flight: the bytes in flight and their dates */
@@ -45,7 +46,10 @@ static uint32_t (*const wondraxu_abi)(void) = wondraxu_abi_3;
 /* The notices of a report, at most. */
 #define WONDRAXU_NOTICES 8
 
-/* wondraxu_reply.number: 0, or why the call is refused. */
+/* The frames of a list, at most. */
+#define WONDRAXU_FRAMES 1024
+
+/* The number of a reply: 0, or why the call is refused. */
 enum wondraxu_number {
     WONDRAXU_DONE = 0,
     WONDRAXU_REPEATED_OFFSET = 1,  /* set-up: two of the sixteen offsets are equal */
@@ -55,7 +59,9 @@ enum wondraxu_number {
     WONDRAXU_HOST_FULL = 5,        /* receive: the waiting host bytes and the new ones are over 1,024 */
     WONDRAXU_RUNS_FULL = 6,        /* receive of a byte or more: 64 runs wait, and the date is later than the last one's */
     WONDRAXU_PERIOD_TOO_LONG = 7,  /* clock_change: the period is above 1,000,000 */
-    WONDRAXU_BUFFER_TOO_SHORT = 8  /* take_tx, take_written: the lent buffer is below 1,152 bytes */
+    WONDRAXU_BUFFER_TOO_SHORT = 8, /* take_tx, take_written: the lent buffer is below 1,152 bytes */
+    WONDRAXU_UNFIT_LIST = 9        /* figures: a frame ends before it starts, or starts before the one before it ends, or there
+                                    * are more than 1,024 of them, or not as many starts as ends */
 };
 
 /* wondraxu_notice.what: names as in inkemu's diag.rs. */
@@ -184,6 +190,20 @@ struct wondraxu_row_answer {
     struct wondraxu_report report;
 };
 
+/* The figures of a line. All are subcycles, 1/32 of a cycle, but for the place; of no frame, and of a refusal, they are 0. */
+struct wondraxu_line_figures {
+    uint32_t number;    /* an enum wondraxu_number */
+    bool placed;        /* the longest quiet stretch has a place: there are two frames or more */
+    uint64_t busy;      /* all frames together */
+    uint64_t shortest;  /* the shortest frame */
+    uint64_t longest;   /* the longest frame */
+    uint64_t quiet;     /* the longest quiet stretch between two frames; 0 with fewer than two */
+    uint64_t at;        /* its place: that of the frame before it, from 0, the earliest of stretches that are as long. 0 while
+                         * placed is false. */
+    uint64_t mean;      /* the mean frame: busy divided by the number of frames, */
+    uint64_t remainder; /* and what that division leaves */
+};
+
 /* Offsets or reset words of, in order: FIFO, INT_RAW, INT_ST, INT_ENA, INT_CLR, CLKDIV, STATUS, FSM_STATUS, CONF0, CONF1,
  * CLK_CONF, IDLE_CONF, RS485_CONF, AT_CMD_CHAR, MEM_CONF, MEM_RX_STATUS. */
 struct wondraxu_sixteen {
@@ -208,7 +228,7 @@ struct wondraxu_slots {
 };
 
 /*
- * What every call but wondraxu_new REQUIRES, and nothing checks:
+ * What every call but wondraxu_new and wondraxu_figures REQUIRES, and nothing checks:
  *
  * - THE STATE. The core is one that wondraxu_new, not refused, gave, or that a call on such a core gave. The slots are
  *   those that the calls since then were lent, and nothing else has written to them. What stands in the slots before the
@@ -292,6 +312,12 @@ struct wondraxu_reply wondraxu_has_left(struct wondraxu_core core);
 /* The host bytes that have not landed, those that wait and the one on the line: value says how many. Undated; the number is
  * 0. Requires the state. */
 struct wondraxu_reply wondraxu_host_pending(struct wondraxu_core core);
+
+/* The figures of a line's frames, which start and end at these subcycles, in order. Needs no UART. Requires that starts points to
+ * starts_count numbers and ends to ends_count, aligned for their type; where a count is 0 the pointer may be any such one but
+ * null. Both are only read, and may be one list. Number 9 alone. */
+struct wondraxu_line_figures wondraxu_figures(const uint64_t *starts, size_t starts_count, const uint64_t *ends,
+                                              size_t ends_count);
 
 /*
  * One UART. wondraxu_uart_new sets it up, and only the functions below write it: then THE STATE and THE POINTERS always hold,

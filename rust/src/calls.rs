@@ -9,7 +9,7 @@
 //!   only set-up and these functions write them.
 //! - that the pointers are to as many slots as the call reads: the types of the arrays say it.
 //! - that the `bool`s in what comes back are 0 or 1: the library writes them so.
-use crate::plain::{PlainAnswer, PlainCore, PlainNew, PlainReply, PlainRowAnswer, Sixteen, Slots};
+use crate::plain::{PlainAnswer, PlainCore, PlainFigures, PlainNew, PlainReply, PlainRowAnswer, Sixteen, Slots};
 use crate::plain::{FLIGHT, HOST, LEFT, RECEIVED, RUNS};
 
 type GoneAt = [u64; FLIGHT];
@@ -35,13 +35,14 @@ extern "C" {
     fn wondraxu_power_down(core: PlainCore, gone_at: &GoneAt, flight: &Flight, tx: &Left, host: &Host, run_at: &Runs, run_len: &Runs, rx: &Received, cycle: u64) -> PlainAnswer;
     fn wondraxu_has_left(core: PlainCore) -> PlainReply;
     fn wondraxu_host_pending(core: PlainCore) -> PlainReply;
-    fn wondraxu_abi_3() -> u32;
+    fn wondraxu_figures(starts: *const u64, starts_count: usize, ends: *const u64, ends_count: usize) -> PlainFigures;
+    fn wondraxu_abi_4() -> u32;
 }
 
 /// A program needs the library of the version that these declarations are of, or does not link: the structs of another one
 /// may have other places. The number goes up with every change of a struct or a call that crosses (`c/versions`).
 #[used]
-static VERSION: unsafe extern "C" fn() -> u32 = wondraxu_abi_3;
+static VERSION: unsafe extern "C" fn() -> u32 = wondraxu_abi_4;
 
 /// Nothing is required: a repeated offset is refused.
 #[inline]
@@ -226,4 +227,11 @@ pub(crate) fn has_left(core: &PlainCore) -> PlainReply {
 pub(crate) fn host_pending(core: &PlainCore) -> PlainReply {
     // SAFETY: the core is `Uart`'s own.
     unsafe { wondraxu_host_pending(*core) }
+}
+
+/// Nothing is required: lists of two lengths are refused.
+#[inline]
+pub(crate) fn figures(starts: &[u64], ends: &[u64]) -> PlainFigures {
+    // SAFETY: pointer and count are one slice's, each time, which is only read.
+    unsafe { wondraxu_figures(starts.as_ptr(), starts.len(), ends.as_ptr(), ends.len()) }
 }

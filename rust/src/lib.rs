@@ -3,7 +3,10 @@
 //! Names and meaning are those of inkemu's uart.rs. What the machine's context gave there, the cycle now, comes in with each
 //! dated call; what it was told, the interrupt level, the next wake and the notices, comes back in a [`Report`]. A call that
 //! document 01's limits refuse answers a [`Refusal`] and changes nothing. No call allocates.
+//!
+//! [`figures()`] stands beside the UART: how busy a line was, from the frames on it.
 mod calls;
+mod figures;
 mod plain;
 mod refusal;
 mod report;
@@ -15,6 +18,7 @@ mod tests;
 #[doc = include_str!("../README.md")]
 struct Readme;
 
+pub use figures::{figures, Figures, FRAMES};
 pub use refusal::Refusal;
 pub use report::{Feature, Notice, Report, Row};
 

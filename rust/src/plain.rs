@@ -129,6 +129,21 @@ pub(crate) struct PlainRowAnswer {
     pub report: PlainReport,
 }
 
+/// `at` is 0 while `placed` is false; of a refusal all but the number is 0.
+#[repr(C)]
+#[derive(Clone, Copy, Debug, PartialEq, Eq)]
+pub(crate) struct PlainFigures {
+    pub number: u32,
+    pub placed: bool,
+    pub busy: u64,
+    pub shortest: u64,
+    pub longest: u64,
+    pub quiet: u64,
+    pub at: u64,
+    pub mean: u64,
+    pub remainder: u64,
+}
+
 #[repr(C)]
 #[derive(Clone, Copy)]
 pub(crate) struct Sixteen {

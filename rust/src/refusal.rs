@@ -1,4 +1,4 @@
-//! Why a call is refused: document 01's numbers, with plain words.
+//! Why a call is refused: its number, with plain words. 1 to 8 are document 01's, 9 came with the figures.
 use std::fmt;
 
 /// A refused call changes nothing: state and lent buffers keep every bit.
@@ -21,10 +21,12 @@ pub enum Refusal {
     PeriodTooLong = 7,
     /// `take_tx`, `take_written`: the lent buffer is below 1,152 bytes.
     BufferTooShort = 8,
+    /// `figures`: a frame ends before it starts, or starts before the one before it ends, or there are more than 1,024.
+    UnfitList = 9,
 }
 
 impl Refusal {
-    /// Document 01's number.
+    /// Its number.
     #[must_use]
     pub fn number(self) -> u8 {
         self as u8
@@ -43,7 +45,8 @@ impl Refusal {
             6 => Refusal::RunsFull,
             7 => Refusal::PeriodTooLong,
             8 => Refusal::BufferTooShort,
-            _ => unreachable!("the calls answer 0 to 8"),
+            9 => Refusal::UnfitList,
+            _ => unreachable!("the calls answer 0 to 9"),
         })
     }
 }
@@ -59,6 +62,7 @@ impl fmt::Display for Refusal {
             Refusal::RunsFull => "64 runs of host bytes wait, and this one would be another",
             Refusal::PeriodTooLong => "the clock period is above 1,000,000 cycles",
             Refusal::BufferTooShort => "the lent buffer is below 1,152 bytes",
+            Refusal::UnfitList => "the frames are not in order one after the other, or more than 1,024",
         })
     }
 }

@@ -47,7 +47,7 @@ fn the_last_line_may_lack_its_line_feed() {
 
 #[test]
 fn a_line_too_long_is_an_error_and_the_next_is_read() {
-    for (length, errors) in [(16_384, 0), (16_385, 1), (200_000, 1)] {
+    for (length, errors) in [(65_536, 0), (65_537, 1), (200_000, 1)] {
         let comment = format!("#{}", "x".repeat(length - 1));
         let answers = all(format!("{SETUP}\n{comment}\nhas_left\n{comment}").as_bytes());
         assert_eq!(answers.lines().filter(|line| line.starts_with("error: ")).count(), 2 * errors, "{length}");
@@ -58,12 +58,23 @@ fn a_line_too_long_is_an_error_and_the_next_is_read() {
 #[test]
 fn the_longest_row_fills_a_line() {
     let row = |bytes: usize| format!("write_row 0 {}", "5a".repeat(bytes));
-    assert_eq!(row(8_186).len(), 16_384);
-    let answers = all(format!("{SETUP}\n{}\n{}\nwrite_row 0 -\n", row(8_186), row(8_187)).as_bytes());
+    assert_eq!(row(32_762).len(), 65_536);
+    let answers = all(format!("{SETUP}\n{}\n{}\nwrite_row 0 -\n", row(32_762), row(32_763)).as_bytes());
     let lines: Vec<&str> = answers.lines().collect();
     assert_eq!(lines[1], "0 made=1152 level=0 wake=420 overflows=0 notices=UartOverflow*1023 passes=1152");
     assert!(lines[2].starts_with("error: "));
     assert_eq!(lines[3], "0 made=0 level=0 wake=420 overflows=0 notices=- passes=0");
+}
+
+#[test]
+fn a_hand_over_and_a_list_of_frames_fill_a_line_each() {
+    let receive = format!("receive 0 0 {}", "5a".repeat(32_762));
+    let figures = |zeros: usize| format!("figures 1 {}3", "0".repeat(zeros));
+    assert_eq!((receive.len(), figures(65_525).len()), (65_536, 65_536));
+    let answers = all(format!("{SETUP}\n{receive}\n{}\n{}\n", figures(65_525), figures(65_526)).as_bytes());
+    let lines: Vec<&str> = answers.lines().collect();
+    assert_eq!(lines[1..3], ["5", "0 busy=2 shortest=2 longest=2 quiet=0 at=- mean=2 remainder=0"]);
+    assert_eq!(lines[3], "error: the line is longer than 65536 bytes");
 }
 
 #[test]

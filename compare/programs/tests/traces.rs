@@ -35,13 +35,13 @@ fn a_trace_has_the_calls_asked_for() {
     }
 }
 
-/// Every answer of all profiles, some 170,000.
+/// Every answer of all profiles, some 180,000.
 fn many() -> String {
     PROFILES.iter().map(|profile| answers(&trace(profile, 1, 10_000))).collect()
 }
 
 /// What some answer holds, beside the numbers and the features.
-const PARTS: [&str; 25] = [
+const PARTS: [&str; 33] = [
     "UartOverflow",
     "UartEmptyRead",
     "UartClock(0)",
@@ -67,13 +67,21 @@ const PARTS: [&str; 25] = [
     "UartOverflow*1 ",
     "UartClock(0)*129,UartOverflow*",
     "UartClock(2)*",
+    "0 busy=0 shortest=0 longest=0 quiet=0 at=- mean=0 remainder=0\n",
+    " quiet=0 at=- ",
+    " quiet=0 at=0 ",
+    " quiet=1 at=0 ",
+    " at=1 ",
+    " at=1022 ",
+    "longest=18446744073709551615 ",
+    " shortest=1 ",
 ];
 
 #[test]
 fn all_profiles_together_reach_every_number_notice_and_edge() {
     let all = many();
     let lines: Vec<&str> = all.lines().collect();
-    for number in 1..=8 {
+    for number in 1..=9 {
         assert!(lines.contains(&number.to_string().as_str()), "number {number}");
     }
     let features =

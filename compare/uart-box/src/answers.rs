@@ -1,5 +1,6 @@
 //! The answer lines of the replay format.
 use crate::diag::Unsupported;
+use crate::figures::Figures;
 use crate::row::Row;
 use crate::the_box::{Answer, Dated, HandedOut, Outcome};
 use std::io::Write;
@@ -23,6 +24,7 @@ pub fn put(out: &mut Vec<u8>, answer: &Answer) {
             out.extend_from_slice(b"0 host_pending=");
             put_number(out, *count as u64);
         }
+        Answer::Figures(figures) => put_figures(out, figures),
     }
     out.push(b'\n');
 }
@@ -60,6 +62,14 @@ fn put_row(out: &mut Vec<u8>, row: &Row) {
     });
     out.extend_from_slice(b" passes=");
     put_number(out, row.passes);
+}
+
+fn put_figures(out: &mut Vec<u8>, figures: &Figures) {
+    let Figures { busy, shortest, longest, quiet, at, mean, remainder } = figures;
+    let at = at.map_or("-".to_owned(), |place| place.to_string());
+    // Writing to a `Vec` does not fail.
+    let _ = write!(out, "0 busy={busy} shortest={shortest} longest={longest} quiet={quiet} at={at}");
+    let _ = write!(out, " mean={mean} remainder={remainder}");
 }
 
 /// The level and the wake.

@@ -1,8 +1,9 @@
 //! The calls of the replay format: reading one from a line, and writing one as a line.
+use crate::figures::Frame;
 use std::fmt::Write;
 
 /// The longest line that is read as a call, in bytes.
-pub const LONGEST_LINE: usize = 16_384;
+pub const LONGEST_LINE: usize = 65_536;
 /// The longest buffer that a call may lend, in bytes.
 pub const LONGEST_BUFFER: u64 = 8_192;
 
@@ -30,6 +31,7 @@ pub enum Call {
     TakeWritten { length: usize },
     HasLeft,
     HostPending,
+    Figures { frames: Vec<Frame> },
 }
 
 impl Call {
@@ -47,7 +49,9 @@ impl Call {
             | Call::PowerDown { now }
             | Call::Clock { now, .. }
             | Call::TakeTx { now, .. } => Some(now),
-            Call::Setup(_) | Call::TakeWritten { .. } | Call::HasLeft | Call::HostPending => None,
+            Call::Setup(_) | Call::TakeWritten { .. } | Call::HasLeft | Call::HostPending | Call::Figures { .. } => {
+                None
+            }
         }
     }
 
@@ -69,6 +73,7 @@ impl Call {
             Call::TakeWritten { length } => format!("take_written {length}"),
             Call::HasLeft => "has_left".to_owned(),
             Call::HostPending => "host_pending".to_owned(),
+            Call::Figures { frames } => figures_line(frames),
         }
     }
 }
@@ -80,6 +85,14 @@ fn setup_line(setup: &Setup) -> String {
     }
     for word in setup.reset_words {
         let _ = write!(line, " 0x{word:x}");
+    }
+    line
+}
+
+fn figures_line(frames: &[Frame]) -> String {
+    let mut line = "figures".to_owned();
+    for frame in frames {
+        let _ = write!(line, " {} {}", frame.start, frame.end);
     }
     line
 }
@@ -157,6 +170,15 @@ impl<'a> Words<'a> {
         }
         Ok(numbers)
     }
+
+    /// A frame for every two words that are left.
+    fn frames(&mut self) -> Result<Vec<Frame>, String> {
+        let mut frames = Vec::new();
+        while self.next < self.rest.len() {
+            frames.push(Frame { start: self.u64("START")?, end: self.u64("END")? });
+        }
+        Ok(frames)
+    }
 }
 
 /// A word as a message shows it: printable, and not longer than a line of text.
@@ -228,6 +250,7 @@ fn named(words: &mut Words<'_>) -> Result<Call, String> {
         b"take_written" => Call::TakeWritten { length: words.length()? },
         b"has_left" => Call::HasLeft,
         b"host_pending" => Call::HostPending,
+        b"figures" => Call::Figures { frames: words.frames()? },
         other => return Err(format!("`{}` is no call", shown(other))),
     })
 }

@@ -1,6 +1,7 @@
 //! A list of calls as lines: each line answered in order, on the UART that the last `setup` made.
 use crate::answers;
 use crate::calls::{self, Call};
+use crate::figures;
 use crate::the_box::{Answer, TheBox};
 
 /// The UART in place, if one was set up.
@@ -26,18 +27,20 @@ impl Session {
         }
     }
 
-    /// Answers one call; `None` where no UART is set up. A refused `setup` leaves the one before in place.
+    /// Answers one call; `None` where no UART is set up, but for `figures`, which needs none. A refused `setup` leaves
+    /// the one before in place.
     pub fn call(&mut self, call: &Call) -> Option<Answer> {
-        if let Call::Setup(setup) = call {
-            return Some(match TheBox::set_up(setup) {
+        match call {
+            Call::Setup(setup) => Some(match TheBox::set_up(setup) {
                 Ok(device) => {
                     self.device = Some(device);
                     Answer::SetUp
                 }
                 Err(number) => Answer::Refused(number),
-            });
+            }),
+            Call::Figures { frames } => Some(figures::answer(frames)),
+            _ => self.device.as_mut().map(|device| device.call(call)),
         }
-        self.device.as_mut().map(|device| device.call(call))
     }
 
     #[must_use]

@@ -4,6 +4,7 @@ use crate::calls::{Call, Setup};
 use crate::clock::CpuClock;
 use crate::ctx::Ctx;
 use crate::diag::Unsupported;
+use crate::figures::{self, Figures};
 use crate::passes;
 use crate::periph::UART0_BASE;
 use crate::periph::uart::{Uart, looks};
@@ -34,6 +35,7 @@ pub enum Answer {
     TakeWritten(HandedOut),
     HasLeft(bool),
     HostPending(usize),
+    Figures(Figures),
 }
 
 /// The answer of a dated call that was carried out.
@@ -123,6 +125,7 @@ impl TheBox {
             Call::TakeWritten { length } => Answer::TakeWritten(hand_out(&self.uart.take_written(), length)),
             Call::HasLeft => Answer::HasLeft(self.uart.has_left()),
             Call::HostPending => Answer::HostPending(self.uart.host_pending()),
+            Call::Figures { ref frames } => figures::answer(frames),
             _ => Answer::Dated(self.dated(call)),
         }
     }
@@ -218,7 +221,12 @@ impl TheBox {
                 ctx.set_clock(CpuClock::new(period, period));
                 uart.clock_changed(ctx);
             }
-            Call::Setup(_) | Call::WriteRow { .. } | Call::TakeWritten { .. } | Call::HasLeft | Call::HostPending => {}
+            Call::Setup(_)
+            | Call::WriteRow { .. }
+            | Call::TakeWritten { .. }
+            | Call::HasLeft
+            | Call::HostPending
+            | Call::Figures { .. } => {}
         }
         Outcome::Done
     }

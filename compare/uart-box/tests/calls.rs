@@ -1,5 +1,6 @@
 //! Reading and writing calls: each line that the writer makes is read back, and a fault is named.
 use uart_box::calls::{Call, LONGEST_LINE, Setup, parse};
+use uart_box::figures::Frame;
 
 fn error(line: &str) -> String {
     parse(line.as_bytes()).expect_err(line)
@@ -24,6 +25,8 @@ fn every_call_is_read_back_as_it_was_written() {
         Call::TakeWritten { length: 0 },
         Call::HasLeft,
         Call::HostPending,
+        Call::Figures { frames: vec![] },
+        Call::Figures { frames: vec![Frame { start: 0, end: u64::MAX }, Frame { start: 7, end: 5 }] },
     ];
     for call in calls {
         assert_eq!(parse(call.line().as_bytes()), Ok(Some(call)));
@@ -47,6 +50,9 @@ fn a_fault_is_named_by_its_word() {
     assert!(error("receive 1 1 5g").contains("`5g`"));
     assert!(error("wake 1\r").contains("`1\\r`"));
     assert!(error("read 0x 4").contains("`0x`"));
+    assert!(error("figures 1 2 3").contains("`figures` lacks its word END"));
+    assert!(error("figures 1 2x 3y").contains("`2x`"));
+    assert!(error("figures 18446744073709551616").contains("`18446744073709551616`"));
 }
 
 #[test]

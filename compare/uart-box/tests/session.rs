@@ -26,6 +26,15 @@ fn a_refused_setup_leaves_the_uart_before_in_place() {
 }
 
 #[test]
+fn figures_need_no_uart_and_set_none_up() {
+    let mut session = Session::default();
+    let given = answers(&mut session, &["figures 5 9", "figures 5 4", "has_left", SETUP, "figures 5 4", "has_left"]);
+    assert_eq!(given[0], "0 busy=4 shortest=4 longest=4 quiet=0 at=- mean=4 remainder=0");
+    assert!(given[2].starts_with("error: "));
+    assert_eq!((&given[1][..], &given[4][..], &given[5][..]), ("9", "9", "0 has_left=0"));
+}
+
+#[test]
 fn a_reset_takes_the_reset_words_of_its_own_setup() {
     let mut one = Session::default();
     let mut other = Session::default();

@@ -43,7 +43,7 @@ faultText s f =
     ++ ascii "`\n"
 
 abbrev pub longText : List ℕ
-longText = ascii "error: the line is longer than 16384 bytes\n"
+longText = ascii "error: the line is longer than 65536 bytes\n"
 
 -- ---- laws
 

@@ -49,7 +49,7 @@ digits-few (suc more) n = by-test (ltb 9 n) (digits-few more (n / 10))
     by-test true h = simp length-append (omega arith)
     by-test false h = omega arith
 
-decimal-short : (n : ℕ) → length (decimal n) ≤ 20
+pub decimal-short : (n : ℕ) → length (decimal n) ≤ 20
 decimal-short n = digits-few 19 n
 
 feature-short : (f : Feature) → length (featureText f) ≤ 38

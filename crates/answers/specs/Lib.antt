@@ -3,4 +3,5 @@ pub mod Reports
 pub mod Replies
 pub mod Faults
 pub mod Lengths
+pub mod LineFigures
 pub mod Examples

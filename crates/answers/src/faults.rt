@@ -74,9 +74,9 @@ pub fn put_fault(out: &mut [u8], at: usize, s: &[u8], fault: Fault) -> usize
     put(out, word, b"`\n")
 }
 
-// Puts the line that a line of more than 16,384 bytes answers.
+// Puts the line that a line of more than 65,536 bytes answers.
 pub fn put_long(out: &mut [u8], at: usize) -> usize
     ensures { λ r. ⌜ Put longText (now (out .entry)) at (now (out .exit)) r ⌝ }
 {
-    put(out, at, b"error: the line is longer than 16384 bytes\n")
+    put(out, at, b"error: the line is longer than 65536 bytes\n")
 }

@@ -13,7 +13,7 @@ ghost use Rattle.text.specs.Chains.{Room, Puts};
 ghost use Rattle.answers.specs.Reports.{levelText, wakeText, frontText, passesText, reportText, rowReportText};
 
 // A name and a number.
-fn put_field(out: &mut [u8], at: usize, name: &[u8], number: u64) -> usize
+pub fn put_field(out: &mut [u8], at: usize, name: &[u8], number: u64) -> usize
     ensures { λ r. ⌜ Puts (now (name .entry) ++ decimal number) (now (out .entry)) at (now (out .exit)) r ⌝ }
 {
     let named = put(out, at, name);

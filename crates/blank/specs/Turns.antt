@@ -16,7 +16,7 @@ use Rattle.blank.specs.declared.input.Session.{Session}
 
 -- filled further than this, the output is written first; the text of a line then fits behind
 abbrev pub full : ℕ
-full = 45056
+full = 65408
 
 -- no line has come, and nothing is put out
 abbrev pub started : Session

@@ -19,7 +19,7 @@ ghost use Rattle.blanking.specs.LineLaws.{longest};
 ghost use Rattle.blank.specs.Turns.{full, started, Turn};
 
 // The output is written once it is filled so far; the text of a line then fits behind it.
-const FULL: usize = 45056;
+const FULL: usize = 65408;
 
 // The trace so far, and what is put out of it.
 pub struct Session {
@@ -72,14 +72,14 @@ fn blank_next(session: Session, input: Input, buffer: &[u8], out: &mut [u8]) -> 
 }
 
 // The same with the buffers whole, whose sizes are known.
-fn turn(session: Session, input: Input, buffer: &[u8; 16384], out: &mut [u8; 65536]) -> Session
+fn turn(session: Session, input: Input, buffer: &[u8; 65536], out: &mut [u8; 131072]) -> Session
     ensures { λ r. ⌜ Turn session input (now (buffer .entry)) (now (out .entry)) (now (out .exit)) r ⌝ }
 {
     blank_next(session, input, buffer, out)
 }
 
 // Writes what is left, and tells of lines that were left out.
-fn finish(session: Session, out: &[u8; 65536]) {
+fn finish(session: Session, out: &[u8; 131072]) {
     flush(session.output, out, b"blank: standard output");
     tell_left_out(session.trace.left_out);
 }
@@ -87,8 +87,8 @@ fn finish(session: Session, out: &[u8; 65536]) {
 // A proved loop has to end, so it counts its turns down from a number that no run uses up.
 pub(crate) fn run() {
     let mut chunk = io::large_buffer();
-    let mut buffer = [0u8; 16384];
-    let mut out = [0u8; 65536];
+    let mut buffer = [0u8; 65536];
+    let mut out = [0u8; 131072];
     let mut input = begin();
     let mut session = start();
     let mut turns = u64::MAX;

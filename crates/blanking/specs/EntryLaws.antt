@@ -15,9 +15,13 @@ use Rattle.trace.specs.Low.{lowOf}
 use Rattle.trace.specs.Names.{letters}
 use Rattle.trace.specs.declared.names.Name.{Name}
 use Rattle.trace.specs.declared.names.Name.the-variants.{Setup, Read, Write, WriteRow, Receive, Wake, Watch, Reset, PowerDown, Clock}
-use Rattle.trace.specs.declared.names.Name.the-variants.{TakeTx, TakeWritten, HasLeft, HostPending}
-use Rattle.blanking.specs.Blanked.{blankByte, blankWord, blankWritten, blankResets, blanked, blankedAsked}
-use Rattle.blanking.specs.Entries.{entryOf, blankedEntry, number, numbers, bitNumber, machineWords, callWords, entryWords}
+use Rattle.trace.specs.declared.names.Name.the-variants.{TakeTx, TakeWritten, HasLeft, HostPending, Figures}
+use Rattle.trace.specs.Pairs.{firstsIn, secondsIn}
+use Rattle.figures.specs.Figures.{figuresOf}
+use Rattle.figures.specs.Exactly.{Result, result}
+use Rattle.figures.specs.declared.report.LineFigures.{LineFigures}
+use Rattle.blanking.specs.Blanked.{blankByte, blankWord, blankWritten, blankResets, blanked, blankedAsked, blankStarts, blankEnds}
+use Rattle.blanking.specs.Entries.{entryOf, blankedEntry, number, numbers, pairs, bitNumber, machineWords, callWords, entryWords}
 use Rattle.blanking.specs.Entries.{machineName, callName}
 use Rattle.blanking.specs.Entries.{entryName, entryText}
 use Rattle.blanking.specs.Puts.{Puts}
@@ -32,6 +36,21 @@ more (n ∷ ns) (suc i) h =
 
 pub numbers-more : (ns : List ℕ) (i : ℕ) → i < length ns → numbers (take i ns) ++ number (getD ns i 0) ≡ numbers (take (i + 1) ns)
 numbers-more ns i h = rw add-one (more ns i h)
+
+-- one pair more
+more-pairs : (ss es : List ℕ) (i : ℕ) → i < length ss → i < length es
+    → pairs (take i ss) (take i es) ++ (number (getD ss i 0) ++ number (getD es i 0)) ≡ pairs (take (suc i) ss) (take (suc i) es)
+unfolding pairs
+more-pairs [] es i h k = absurd (omega arith)
+more-pairs (s ∷ ss) [] i h k = absurd (omega arith)
+more-pairs (s ∷ ss) (e ∷ es) zero h k = sym (append-nil (number s ++ number e))
+more-pairs (s ∷ ss) (e ∷ es) (suc i) h k =
+    append-assoc (number s ++ number e) (pairs (take i ss) (take i es)) (number (getD ss i 0) ++ number (getD es i 0))
+    ∙ ap (λ l. number s ++ number e ++ l) (more-pairs ss es i (le-of-suc-le-suc h) (le-of-suc-le-suc k))
+
+pub pairs-more : (ss es : List ℕ) (i : ℕ) → i < length ss → i < length es
+    → pairs (take i ss) (take i es) ++ (number (getD ss i 0) ++ number (getD es i 0)) ≡ pairs (take (i + 1) ss) (take (i + 1) es)
+pairs-more ss es i h k = rw add-one (more-pairs ss es i h k)
 
 -- blanked bytes are zeros, as many
 pub blank-zeros : (bs : List ℕ) → map blankByte bs ≡ replicate (length bs) 0
@@ -69,9 +88,9 @@ pub write-same : (offsets : List ℕ) (date o o′ v v′ : ℕ) → o ≡ o′ 
 write-same offsets date o o′ v v′ e f =
     ap₂ (λ (x y : ℕ). number date ++ number x ++ number (blankWord offsets x y)) e f
 
-module _ (offsets ns : List ℕ) (last : ℕ) (bs : List ℕ) where
+module _ (offsets ns : List ℕ) (last : ℕ) (bs s : List ℕ) where
   -- blanking keeps the name
-  pub name-kept : (n : Name) → entryName (blankedEntry offsets (entryOf n ns last bs)) ≡ n
+  pub name-kept : (n : Name) → entryName (blankedEntry offsets (entryOf n ns last bs s)) ≡ n
   unfolding entryName callName machineName blankedEntry blankedAsked blanked entryOf
   name-kept Setup = refl
   name-kept Read = refl
@@ -87,13 +106,14 @@ module _ (offsets ns : List ℕ) (last : ℕ) (bs : List ℕ) where
   name-kept TakeWritten = refl
   name-kept HasLeft = refl
   name-kept HostPending = refl
+  name-kept Figures = refl
 
   -- the words of a name that is known
   pub of-name : (n m : Name) → n ≡ m → (out : List ℕ) (at : ℕ) (after : List ℕ) (place : ℕ)
-      → Puts (entryWords (blankedEntry offsets (entryOf m ns last bs))) out at after place
-      → Puts (entryWords (blankedEntry offsets (entryOf n ns last bs))) out at after place
+      → Puts (entryWords (blankedEntry offsets (entryOf m ns last bs s))) out at after place
+      → Puts (entryWords (blankedEntry offsets (entryOf n ns last bs s))) out at after place
   of-name n m e out at after place p =
-      subst (λ (k : Name). Puts (entryWords (blankedEntry offsets (entryOf k ns last bs))) out at after place) (sym e) p
+      subst (λ (k : Name). Puts (entryWords (blankedEntry offsets (entryOf k ns last bs s))) out at after place) (sym e) p
 
 -- ---- how long a text can be
 
@@ -128,17 +148,32 @@ unfolding hexText
 hex-few [] = omega arith
 hex-few (b ∷ bs) = omega (arith, pairs-length (b ∷ bs))
 
-bytes-few : (last : ℕ) (bs : List ℕ) → length bs ≤ 8192 → length (32 ∷ hexText (map blankByte (take last bs))) ≤ 16386
+bytes-few : (last : ℕ) (bs : List ℕ) → length bs ≤ 32768 → length (32 ∷ hexText (map blankByte (take last bs))) ≤ 65538
 bytes-few last bs h =
-    let some : length (map blankByte (take last bs)) ≤ 8192 = simp (length-map, length-take) (omega arith) in
+    let some : length (map blankByte (take last bs)) ≤ 32768 = simp (length-map, length-take) (omega arith) in
     omega (arith, hex-few (map blankByte (take last bs)), some)
 
-received-few : (now at last : ℕ) (bs : List ℕ) → length bs ≤ 8192
-    → length (number now ++ number at ++ (32 ∷ hexText (map blankByte (take last bs)))) ≤ 16428
+received-few : (now at last : ℕ) (bs : List ℕ) → length bs ≤ 32768
+    → length (number now ++ number at ++ (32 ∷ hexText (map blankByte (take last bs)))) ≤ 65580
 received-few now at last bs h = rw length-append (omega (arith, two-few now at, bytes-few last bs h))
 
-row-few : (now last : ℕ) (bs : List ℕ) → length bs ≤ 8192 → length (number now ++ (32 ∷ hexText (map blankByte (take last bs)))) ≤ 16428
+row-few : (now last : ℕ) (bs : List ℕ) → length bs ≤ 32768 → length (number now ++ (32 ∷ hexText (map blankByte (take last bs)))) ≤ 65580
 row-few now last bs h = rw length-append (omega (arith, number-few now, bytes-few last bs h))
+
+pairs-few : (ss es : List ℕ) → length (pairs ss es) ≤ 42 * length ss
+unfolding pairs
+pairs-few [] es = omega arith
+pairs-few (s ∷ ss) [] = omega arith
+pairs-few (s ∷ ss) (e ∷ es) = rw (length-append, length-append) (omega (arith, number-few s, number-few e, pairs-few ss es))
+
+-- frames that are not refused are at most 1,024
+frames-few : (ss es : List ℕ) → length (pairs (blankStarts (figuresOf ss es) ss) (blankEnds (figuresOf ss es) es)) ≤ 65580
+unfolding blankStarts blankEnds
+frames-few ss es = by-result (result ss es)
+  where
+    by-result : {r : LineFigures} → Result ss es r → length (pairs (blankStarts r ss) (blankEnds r es)) ≤ 65580
+    by-result (Result.refusal x) = omega (arith, pairs-few (1 ∷ []) (0 ∷ []))
+    by-result (Result.done same few order) = omega (arith, pairs-few ss es)
 
 sixteen-few : (ns : List ℕ) → length (take 16 ns) ≤ 16
 sixteen-few ns = rw length-take (omega arith)
@@ -163,9 +198,10 @@ letters-few TakeTx = omega arith
 letters-few TakeWritten = omega arith
 letters-few HasLeft = omega arith
 letters-few HostPending = omega arith
+letters-few Figures = omega arith
 
-module _ (offsets ns : List ℕ) (last : ℕ) (bs : List ℕ) (h : length bs ≤ 8192) where
-  words-few : (n : Name) → length (entryWords (blankedEntry offsets (entryOf n ns last bs))) ≤ 16428
+module _ (offsets ns : List ℕ) (last : ℕ) (bs s : List ℕ) (h : length bs ≤ 32768) where
+  words-few : (n : Name) → length (entryWords (blankedEntry offsets (entryOf n ns last bs s))) ≤ 65580
   unfolding entryWords callWords machineWords blankedEntry blankedAsked blanked blankWritten entryOf
   words-few Setup = omega (arith, set-up-few (map lowOf (drop 0 ns)) (take 16 (map lowOf (drop 16 ns))))
   words-few Read = omega (arith, two-few (getD ns 0 0) (lowOf (getD ns 1 0)))
@@ -182,10 +218,11 @@ module _ (offsets ns : List ℕ) (last : ℕ) (bs : List ℕ) (h : length bs ≤
   words-few TakeWritten = omega (arith, number-few (length (map blankByte (replicate last 0))))
   words-few HasLeft = omega arith
   words-few HostPending = omega arith
+  words-few Figures = frames-few (firstsIn s) (secondsIn s)
 
   -- a line's text is at most so long
-  pub text-few : (n : Name) → length (entryText (blankedEntry offsets (entryOf n ns last bs))) ≤ 16441
+  pub text-few : (n : Name) → length (entryText (blankedEntry offsets (entryOf n ns last bs s))) ≤ 65593
   unfolding entryText
   text-few n =
-      let e = blankedEntry offsets (entryOf n ns last bs) in
+      let e = blankedEntry offsets (entryOf n ns last bs s) in
       rw (length-append, length-append) (omega (arith, letters-few (entryName e), words-few n))

@@ -4,6 +4,7 @@ pub mod TimesAlike
 pub mod Puts
 pub mod Entries
 pub mod EntryLaws
+pub mod FrameLaws
 pub mod Lines
 pub mod LineLaws
 mod Examples

@@ -6,26 +6,28 @@ use Prim.Native.Nat.{ℕ, _+_, _≤_}
 use native.Mathlib.Omega.{arith}
 use lib.ListN.{length, take, drop, replicate, length-append, length-replicate}
 use Rattle.text.specs.Output.{Put}
+use Rattle.trace.specs.Asks.{asksOf}
+use Rattle.trace.specs.declared.asks.Asks.{Asks}
 use Rattle.trace.specs.Low.{lowOf}
 use Rattle.trace.specs.Stored.{stored}
 use Rattle.trace.specs.Lines.{lineOf, numbersOf, bytesAfter}
 use Rattle.trace.specs.declared.line.Line.{Line}
 use Rattle.trace.specs.declared.names.Name.{Name}
 use Rattle.trace.specs.declared.names.Name.the-variants.{Setup, Read, Write, WriteRow, Receive, Wake, Watch, Reset, PowerDown, Clock}
-use Rattle.trace.specs.declared.names.Name.the-variants.{TakeTx, TakeWritten, HasLeft, HostPending}
+use Rattle.trace.specs.declared.names.Name.the-variants.{TakeTx, TakeWritten, HasLeft, HostPending, Figures}
 use Rattle.model.specs.SetUp.{setUpReply}
 use Rattle.model.specs.declared.SetUp.{SetUp}
 use Rattle.blanking.specs.Entries.{entryOf, blankedEntry, entryText}
 use Rattle.blanking.specs.EntryLaws.{number-few, text-few}
 use Rattle.blanking.specs.Puts.{put-nothing}
 use Rattle.blanking.specs.Lines.{readKind, hostRoom, kindOf, counted, blankedText, traceAfter}
-use Rattle.blanking.specs.Lines.{Kind, isSetUp, callKind, leftOutText, textOf, oneLeftOut, afterSetUp, afterEntry, carried}
+use Rattle.blanking.specs.Lines.{Kind, kindBy, callKind, leftOutText, textOf, oneLeftOut, afterSetUp, afterEntry, carried}
 use Rattle.blanking.specs.declared.line.Trace.{Trace}
 use Rattle.blanking.specs.declared.line.Blanked.{Blanked}
 
--- the longest text of a line: that of a hand-over of 8,192 bytes
+-- the longest text of a line: that of a hand-over of 32,768 bytes
 abbrev pub longest : ℕ
-longest = 16441
+longest = 65593
 
 -- what a line of a kind leaves, the trace counting it already
 pub record Blanks (k : Kind) (t : Trace) (out : List ℕ) (at : ℕ) (after : List ℕ) (r : Blanked) : Type 0 where
@@ -42,85 +44,74 @@ pub left-out-room : (out : List ℕ) (at n : ℕ) → at + longest ≤ length ou
 left-out-room out at n room = omega (arith, left-out-few n)
 
 -- the text of a call has room where there is room for the longest
-pub text-room : (out : List ℕ) (at : ℕ) (offsets : List ℕ) (n : Name) (ns : List ℕ) (last : ℕ) (bs : List ℕ) → length bs ≤ 8192
-    → at + longest ≤ length out → at + length (entryText (blankedEntry offsets (entryOf n ns last bs))) ≤ length out
-text-room out at offsets n ns last bs h room = omega (arith, text-few offsets ns last bs h n)
+pub call-room : (out : List ℕ) (at : ℕ) (offsets : List ℕ) (n : Name) (ns : List ℕ) (last : ℕ) (bs s : List ℕ)
+    → (length bs ≤ 32768) × (at + longest ≤ length out)
+    → (length bs ≤ 32768) × (at + length (entryText (blankedEntry offsets (entryOf n ns last bs s))) ≤ length out)
+call-room out at offsets n ns last bs s room = (room .0, omega (arith, text-few offsets ns last bs s (room .0) n, room .1))
 
-differ : false ≡ true → ⊥
-differ e = let z : _≡_ {A = ℕ} 0 1 = cc in absurd (omega arith)
+-- what a call leaves of the trace, by what it asks
+afterAsks : Asks → List ℕ → Trace → Trace
+afterAsks Asks.SetUp ns t = afterSetUp (setUpReply (take 16 (map lowOf (drop 0 ns)))) (take 16 (map lowOf (drop 0 ns))) t
+afterAsks Asks.Figures ns t = t
+afterAsks Asks.Uart ns t = t
 
--- a set-up, and any other call, by the name
-set-up-carried : (n : Name) (ns : List ℕ) (last : ℕ) (bs : List ℕ) (t : Trace) → isSetUp n ≡ true
-    → carried (Kind.entry (entryOf n ns last bs)) t
-    ≡ afterSetUp (setUpReply (take 16 (map lowOf (drop 0 ns)))) (take 16 (map lowOf (drop 0 ns))) t
-unfolding isSetUp carried afterEntry entryOf
-set-up-carried Setup ns last bs t e = refl
-set-up-carried Read ns last bs t e = absurd (differ e)
-set-up-carried Write ns last bs t e = absurd (differ e)
-set-up-carried WriteRow ns last bs t e = absurd (differ e)
-set-up-carried Receive ns last bs t e = absurd (differ e)
-set-up-carried Wake ns last bs t e = absurd (differ e)
-set-up-carried Watch ns last bs t e = absurd (differ e)
-set-up-carried Reset ns last bs t e = absurd (differ e)
-set-up-carried PowerDown ns last bs t e = absurd (differ e)
-set-up-carried Clock ns last bs t e = absurd (differ e)
-set-up-carried TakeTx ns last bs t e = absurd (differ e)
-set-up-carried TakeWritten ns last bs t e = absurd (differ e)
-set-up-carried HasLeft ns last bs t e = absurd (differ e)
-set-up-carried HostPending ns last bs t e = absurd (differ e)
+call-carried : (n : Name) (ns : List ℕ) (last : ℕ) (bs s : List ℕ) (t : Trace)
+    → carried (Kind.entry (entryOf n ns last bs s)) t ≡ afterAsks (asksOf n) ns t
+unfolding carried afterEntry entryOf afterAsks
+call-carried Setup ns last bs s t = refl
+call-carried Read ns last bs s t = refl
+call-carried Write ns last bs s t = refl
+call-carried WriteRow ns last bs s t = refl
+call-carried Receive ns last bs s t = refl
+call-carried Wake ns last bs s t = refl
+call-carried Watch ns last bs s t = refl
+call-carried Reset ns last bs s t = refl
+call-carried PowerDown ns last bs s t = refl
+call-carried Clock ns last bs s t = refl
+call-carried TakeTx ns last bs s t = refl
+call-carried TakeWritten ns last bs s t = refl
+call-carried HasLeft ns last bs s t = refl
+call-carried HostPending ns last bs s t = refl
+call-carried Figures ns last bs s t = refl
 
-call-carried : (n : Name) (ns : List ℕ) (last : ℕ) (bs : List ℕ) (t : Trace) → isSetUp n ≡ false
-    → carried (Kind.entry (entryOf n ns last bs)) t ≡ t
-unfolding isSetUp carried afterEntry entryOf
-call-carried Setup ns last bs t e = absurd (differ (sym e))
-call-carried Read ns last bs t e = refl
-call-carried Write ns last bs t e = refl
-call-carried WriteRow ns last bs t e = refl
-call-carried Receive ns last bs t e = refl
-call-carried Wake ns last bs t e = refl
-call-carried Watch ns last bs t e = refl
-call-carried Reset ns last bs t e = refl
-call-carried PowerDown ns last bs t e = refl
-call-carried Clock ns last bs t e = refl
-call-carried TakeTx ns last bs t e = refl
-call-carried TakeWritten ns last bs t e = refl
-call-carried HasLeft ns last bs t e = refl
-call-carried HostPending ns last bs t e = refl
+module _ (t : Trace) (n : Name) (ns : List ℕ) (last : ℕ) (bs s out : List ℕ) (at : ℕ) (after : List ℕ) (r : Blanked) where
+  -- the text of a call is put
+  Texts : Type 0
+  Texts = Put (entryText (blankedEntry (t .offsets) (entryOf n ns last bs s))) out at after (r .at)
 
--- the kind of a call: a set-up, a call after one, and one before
-module _ (ready : Bool) (n : Name) (ns : List ℕ) (last : ℕ) (bs : List ℕ) where
-  kind-set-up : isSetUp n ≡ true → Kind.entry (entryOf n ns last bs) ≡ callKind ready n ns last bs
-  unfolding callKind
-  kind-set-up e = rw e
+  -- a call that is put out, by what it asks, whether or not a UART is set up
+  by-asks : {a : Asks} → asksOf n ≡ a → (ready : Bool) → t .ready ≡ ready
+      → kindBy a ready (entryOf n ns last bs s) ≡ Kind.entry (entryOf n ns last bs s) → Texts → r .trace ≡ afterAsks a ns t
+      → Blanks (callKind (t .ready) n ns last bs s) t out at after r
+  unfolding textOf Texts
+  by-asks e ready f k p q =
+      subst (λ (x : Kind). Blanks x t out at after r)
+      (sym (ap₂ (λ (x : Asks) (y : Bool). kindBy x y (entryOf n ns last bs s)) e f ∙ k))
+      (record { text = p; trace = q ∙ sym (call-carried n ns last bs s t ∙ ap (λ (x : Asks). afterAsks x ns t) e) })
 
-  kind-call : isSetUp n ≡ false → ready ≡ true → Kind.entry (entryOf n ns last bs) ≡ callKind ready n ns last bs
-  unfolding callKind
-  kind-call e f = rw (e, f)
-
-  kind-none : isSetUp n ≡ false → ready ≡ false → Kind.leftOut ≡ callKind ready n ns last bs
-  unfolding callKind
-  kind-none e f = rw (e, f)
-
-module _ (t : Trace) (n : Name) (ns : List ℕ) (last : ℕ) (bs out : List ℕ) (at : ℕ) (after : List ℕ) (r : Blanked) where
-  pub blanks-set-up : isSetUp n ≡ true → Put (entryText (blankedEntry (t .offsets) (entryOf n ns last bs))) out at after (r .at)
+  pub blanks-set-up : asksOf n ≡ Asks.SetUp → Put (entryText (blankedEntry (t .offsets) (entryOf n ns last bs s))) out at after (r .at)
       → r .trace ≡ afterSetUp (setUpReply (take 16 (map lowOf (drop 0 ns)))) (take 16 (map lowOf (drop 0 ns))) t
-      → Blanks (callKind (t .ready) n ns last bs) t out at after r
-  unfolding textOf
-  blanks-set-up e p q =
-      subst (λ (k : Kind). Blanks k t out at after r) (kind-set-up (t .ready) n ns last bs e)
-      (record { text = p; trace = q ∙ sym (set-up-carried n ns last bs t e) })
+      → Blanks (callKind (t .ready) n ns last bs s) t out at after r
+  unfolding kindBy Texts afterAsks
+  blanks-set-up e p q = by-asks e (t .ready) refl refl p q
 
-  pub blanks-call : isSetUp n ≡ false → t .ready ≡ true
-      → Put (entryText (blankedEntry (t .offsets) (entryOf n ns last bs))) out at after (r .at) → r .trace ≡ t
-      → Blanks (callKind (t .ready) n ns last bs) t out at after r
-  unfolding textOf
-  blanks-call e f p q =
-      subst (λ (k : Kind). Blanks k t out at after r) (kind-call (t .ready) n ns last bs e f)
-      (record { text = p; trace = q ∙ sym (call-carried n ns last bs t e) })
+  pub blanks-figures : asksOf n ≡ Asks.Figures → Put (entryText (blankedEntry (t .offsets) (entryOf n ns last bs s))) out at after (r .at)
+      → r .trace ≡ t → Blanks (callKind (t .ready) n ns last bs s) t out at after r
+  unfolding kindBy Texts afterAsks
+  blanks-figures e p q = by-asks e (t .ready) refl refl p q
 
-  pub blanks-none : isSetUp n ≡ false → t .ready ≡ false → Blanks Kind.leftOut t out at after r
-      → Blanks (callKind (t .ready) n ns last bs) t out at after r
-  blanks-none e f b = subst (λ (k : Kind). Blanks k t out at after r) (kind-none (t .ready) n ns last bs e f) b
+  pub blanks-call : asksOf n ≡ Asks.Uart → t .ready ≡ true
+      → Put (entryText (blankedEntry (t .offsets) (entryOf n ns last bs s))) out at after (r .at) → r .trace ≡ t
+      → Blanks (callKind (t .ready) n ns last bs s) t out at after r
+  unfolding kindBy Texts afterAsks
+  blanks-call e f p q = by-asks e true f refl p q
+
+  pub blanks-none : asksOf n ≡ Asks.Uart → t .ready ≡ false → Blanks Kind.leftOut t out at after r
+      → Blanks (callKind (t .ready) n ns last bs s) t out at after r
+  unfolding kindBy
+  blanks-none e f b =
+      subst (λ (k : Kind). Blanks k t out at after r)
+      (sym (ap₂ (λ (x : Asks) (y : Bool). kindBy x y (entryOf n ns last bs s)) e f)) b
 
 -- a line that is left out
 pub blanks-left-out : (t : Trace) (out : List ℕ) (at : ℕ) (after : List ℕ) (r : Blanked)
@@ -144,11 +135,11 @@ unfolding kindOf
 kind-long ready long s e = rw e
 
 pub kind-read : (ready long : Bool) (s ns bs : List ℕ) (room : ℕ) (l : Line) → long ≡ false → room ≡ hostRoom → l ≡ lineOf room s
-    → ns ≡ stored (numbersOf s) (replicate 32 0) → bs ≡ bytesAfter s (replicate hostRoom 0) → readKind ready ns bs l ≡ kindOf ready long s
+    → ns ≡ stored (numbersOf s) (replicate 32 0) → bs ≡ bytesAfter s (replicate hostRoom 0) → readKind ready ns bs s l ≡ kindOf ready long s
 unfolding kindOf
 kind-read ready long s ns bs room l e h read n b =
-    ap₂ (λ (x y : List ℕ). readKind ready x y l) n b
-    ∙ ap (readKind ready (stored (numbersOf s) (replicate 32 0)) (bytesAfter s (replicate hostRoom 0)))
+    ap₂ (λ (x y : List ℕ). readKind ready x y s l) n b
+    ∙ ap (readKind ready (stored (numbersOf s) (replicate 32 0)) (bytesAfter s (replicate hostRoom 0)) s)
     (read ∙ ap (λ (k : ℕ). lineOf k s) h)
     ∙ rw e
 

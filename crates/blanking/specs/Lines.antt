@@ -6,12 +6,12 @@ use lib.Dec.{ltb}
 use lib.ListN.{replicate}
 use Rattle.text.specs.Pick.{pick}
 use Rattle.text.specs.Decimal.{decimal}
+use Rattle.trace.specs.Asks.{asksOf}
 use Rattle.trace.specs.Stored.{stored}
+use Rattle.trace.specs.declared.asks.Asks.{Asks}
 use Rattle.trace.specs.Lines.{lineOf, numbersOf, bytesAfter}
 use Rattle.trace.specs.declared.line.Line.{Line}
 use Rattle.trace.specs.declared.names.Name.{Name}
-use Rattle.trace.specs.declared.names.Name.the-variants.{Setup, Read, Write, WriteRow, Receive, Wake, Watch, Reset, PowerDown, Clock}
-use Rattle.trace.specs.declared.names.Name.the-variants.{TakeTx, TakeWritten, HasLeft, HostPending}
 use Rattle.model.specs.SetUp.{setUpReply}
 use Rattle.model.specs.declared.SetUp.{SetUp}
 use Rattle.blanking.specs.Entries.{Entry, entryOf, blankedEntry, entryText}
@@ -25,41 +25,29 @@ pub data Kind : Type 0 where
   entry : Entry → Kind
   leftOut : Kind
 
-unfoldable pub isSetUp : Name → Bool
-isSetUp Setup = true
-isSetUp Read = false
-isSetUp Write = false
-isSetUp WriteRow = false
-isSetUp Receive = false
-isSetUp Wake = false
-isSetUp Watch = false
-isSetUp Reset = false
-isSetUp PowerDown = false
-isSetUp Clock = false
-isSetUp TakeTx = false
-isSetUp TakeWritten = false
-isSetUp HasLeft = false
-isSetUp HostPending = false
+-- before the first set-up there is no call but a set-up, and figures
+unfoldable pub kindBy : Asks → Bool → Entry → Kind
+kindBy Asks.SetUp ready e = Kind.entry e
+kindBy Asks.Figures ready e = Kind.entry e
+kindBy Asks.Uart ready e = pick ready (Kind.entry e) Kind.leftOut
 
--- before the first set-up there is no call but a set-up
-unfoldable pub callKind : Bool → Name → List ℕ → ℕ → List ℕ → Kind
-callKind ready name ns last bs =
-    pick (isSetUp name) (Kind.entry (entryOf name ns last bs)) (pick ready (Kind.entry (entryOf name ns last bs)) Kind.leftOut)
+abbrev pub callKind : Bool → Name → List ℕ → ℕ → List ℕ → List ℕ → Kind
+callKind ready name ns last bs s = kindBy (asksOf name) ready (entryOf name ns last bs s)
 
-abbrev pub readKind : Bool → List ℕ → List ℕ → Line → Kind
-readKind ready ns bs Line.Nothing = Kind.nothing
-readKind ready ns bs (Line.Call name last) = callKind ready name ns last bs
-readKind ready ns bs (Line.Wrong f) = Kind.leftOut
+abbrev pub readKind : Bool → List ℕ → List ℕ → List ℕ → Line → Kind
+readKind ready ns bs s Line.Nothing = Kind.nothing
+readKind ready ns bs s (Line.Call name last) = callKind ready name ns last bs s
+readKind ready ns bs s (Line.Wrong f) = Kind.leftOut
 
--- the bytes of a line that a buffer has room for: it is no longer than 16,384 bytes
+-- the bytes of a line that a buffer has room for: it is no longer than 65,536 bytes
 abbrev pub hostRoom : ℕ
-hostRoom = 8192
+hostRoom = 32768
 
 -- a line that is too long is left out
 unfoldable pub kindOf : Bool → Bool → List ℕ → Kind
 kindOf ready long s =
     pick long Kind.leftOut
-    (readKind ready (stored (numbersOf s) (replicate 32 0)) (bytesAfter s (replicate hostRoom 0)) (lineOf hostRoom s))
+    (readKind ready (stored (numbersOf s) (replicate 32 0)) (bytesAfter s (replicate hostRoom 0)) s (lineOf hostRoom s))
 
 -- ---- what is put out
 
@@ -93,6 +81,7 @@ afterSetUp (SetUp.Refused r) offsets t = t
 unfoldable pub afterEntry : Entry → Trace → Trace
 afterEntry (Entry.setUp os ws) t = afterSetUp (setUpReply os) os t
 afterEntry (Entry.asks a) t = t
+afterEntry (Entry.figures ss es) t = t
 
 unfoldable pub carried : Kind → Trace → Trace
 carried Kind.nothing t = t

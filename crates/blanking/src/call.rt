@@ -1,5 +1,6 @@
 // A call, put out anew in one form and blanked, so that neither spacing nor the spelling of a number carries anything over. The
 // functions that are not public put their bytes where there is room for them; `put_call` requires the room for all.
+use crate::frames::put_frames;
 use crate::words::blank_resets;
 use crate::words::blank_word;
 use text::output::put;
@@ -31,7 +32,7 @@ fn put_number(out: &mut [u8], at: usize, n: u64) -> usize
     put_decimal(out, spaced, n)
 }
 
-fn put_two(out: &mut [u8], at: usize, a: u64, b: u64) -> usize
+pub(crate) fn put_two(out: &mut [u8], at: usize, a: u64, b: u64) -> usize
     ensures { λ r. ⌜ Puts (number a ++ number b) (now (out .entry)) at (now (out .exit)) r ⌝ }
 {
     let first = put_number(out, at, a);
@@ -88,16 +89,16 @@ fn put_write(out: &mut [u8], at: usize, map: [u32; 16], date: u64, offset: u32, 
 
 // Zeros for `count` bytes; none is `-`.
 fn put_zeros(out: &mut [u8], at: usize, count: usize) -> usize
-    requires { ⌜ count ≤ 8192 ⌝ }
+    requires { ⌜ count ≤ 32768 ⌝ }
     ensures { λ r. ⌜ Put (hexText (replicate count 0)) (now (out .entry)) at (now (out .exit)) r ⌝ }
 {
-    let zeros = [0u8; 8192];
+    let zeros = [0u8; 32768];
     put_bytes(out, at, &zeros[0..count])
 }
 
 // A space, and the bytes of a line, blanked.
 fn put_blanked(out: &mut [u8], at: usize, bytes: &[u8], count: usize) -> usize
-    requires { ⌜ length (now bytes) ≤ 8192 ⌝ }
+    requires { ⌜ length (now bytes) ≤ 32768 ⌝ }
     ensures { λ r. ⌜ Puts (32 ∷ hexText (map blankByte (take count (now (bytes .entry))))) (now (out .entry)) at (now (out .exit)) r ⌝ }
 {
     let n = within(count, bytes);
@@ -114,7 +115,7 @@ fn put_received(
     bytes: &[u8],
     count: usize,
 ) -> usize
-    requires { ⌜ length (now bytes) ≤ 8192 ⌝ }
+    requires { ⌜ length (now bytes) ≤ 32768 ⌝ }
     ensures { λ r. ⌜ Puts (number date ++ number start ++ (32 ∷ hexText (map blankByte (take count (now (bytes .entry))))))
         (now (out .entry)) at (now (out .exit)) r ⌝ }
 {
@@ -124,7 +125,7 @@ fn put_received(
 
 // A row, its bytes blanked.
 fn put_row(out: &mut [u8], at: usize, date: u64, bytes: &[u8], count: usize) -> usize
-    requires { ⌜ length (now bytes) ≤ 8192 ⌝ }
+    requires { ⌜ length (now bytes) ≤ 32768 ⌝ }
     ensures { λ r. ⌜ Puts (number date ++ (32 ∷ hexText (map blankByte (take count (now (bytes .entry))))))
         (now (out .entry)) at (now (out .exit)) r ⌝ }
 {
@@ -147,9 +148,10 @@ fn put_words(
     all: [u64; 32],
     last: usize,
     bytes: &[u8],
+    s: &[u8],
 ) -> usize
-    requires { ⌜ length (now bytes) ≤ 8192 ⌝ }
-    ensures { λ r. ⌜ Puts (entryWords (blankedEntry map (entryOf name all last (now (bytes .entry)))))
+    requires { ⌜ length (now bytes) ≤ 32768 ⌝ }
+    ensures { λ r. ⌜ Puts (entryWords (blankedEntry map (entryOf name all last (now (bytes .entry)) (now (s .entry)))))
         (now (out .entry)) at (now (out .exit)) r ⌝ }
 {
     match name {
@@ -167,6 +169,7 @@ fn put_words(
         Name::TakeWritten => put_number(out, at, last as u64),
         Name::HasLeft => at,
         Name::HostPending => at,
+        Name::Figures => put_frames(out, at, s),
     }
 }
 
@@ -189,6 +192,7 @@ fn put_name(out: &mut [u8], at: usize, name: Name) -> usize
         Name::TakeWritten => put(out, at, b"take_written"),
         Name::HasLeft => put(out, at, b"has_left"),
         Name::HostPending => put(out, at, b"host_pending"),
+        Name::Figures => put(out, at, b"figures"),
     }
 }
 
@@ -201,13 +205,14 @@ pub fn put_call(
     all: [u64; 32],
     last: usize,
     bytes: &[u8],
+    s: &[u8],
 ) -> usize
-    requires { ⌜ length (now bytes) ≤ 8192 ⌝ }
-    requires { ⌜ at + length (entryText (blankedEntry map (entryOf name all last (now bytes)))) ≤ length (now out) ⌝ }
-    ensures { λ r. ⌜ Put (entryText (blankedEntry map (entryOf name all last (now (bytes .entry)))))
+    requires { ⌜ length (now bytes) ≤ 32768 ⌝ }
+    requires { ⌜ at + length (entryText (blankedEntry map (entryOf name all last (now bytes) (now s)))) ≤ length (now out) ⌝ }
+    ensures { λ r. ⌜ Put (entryText (blankedEntry map (entryOf name all last (now (bytes .entry)) (now (s .entry)))))
         (now (out .entry)) at (now (out .exit)) r ⌝ }
 {
     let named = put_name(out, at, name);
-    let words = put_words(out, named, map, name, all, last, bytes);
+    let words = put_words(out, named, map, name, all, last, bytes, s);
     put(out, words, b"\n")
 }

@@ -4,6 +4,8 @@ use model::SetUp;
 use replies::refusals::set_up_reply;
 use text::output::put;
 use text::spelling::put_decimal;
+use trace::asks::Asks;
+use trace::asks::asks_of;
 use trace::line::Line;
 use trace::line::read_line;
 use trace::low::sixteen;
@@ -13,7 +15,7 @@ ghost use Prim.Native.Nat.{_+_, _≤_};
 ghost use lib.ListN.{length};
 ghost use Rattle.text.specs.Output.{Put};
 ghost use Rattle.model.specs.SetUp.{setUpReply};
-ghost use Rattle.blanking.specs.Lines.{isSetUp, callKind, oneMore, counted as Lines·counted, afterSetUp, begun};
+ghost use Rattle.blanking.specs.Lines.{callKind, oneMore, counted as Lines·counted, afterSetUp, begun};
 ghost use Rattle.blanking.specs.Lines.{blankedText, traceAfter};
 ghost use Rattle.blanking.specs.LineLaws.{longest, Blanks};
 ghost use Rattle.blanking.specs.Lines.{Kind};
@@ -70,27 +72,6 @@ fn leave_out(mut trace: Trace, out: &mut [u8], at: usize) -> Blanked
     Blanked { trace, at: end }
 }
 
-fn is_set_up(name: Name) -> bool
-    ensures { λ r. ⌜ r ≡ isSetUp name ⌝ }
-{
-    match name {
-        Name::Setup => true,
-        Name::Read => false,
-        Name::Write => false,
-        Name::WriteRow => false,
-        Name::Receive => false,
-        Name::Wake => false,
-        Name::Watch => false,
-        Name::Reset => false,
-        Name::PowerDown => false,
-        Name::Clock => false,
-        Name::TakeTx => false,
-        Name::TakeWritten => false,
-        Name::HasLeft => false,
-        Name::HostPending => false,
-    }
-}
-
 // A set-up that is refused leaves the map before it.
 fn set_map(mut trace: Trace, offsets: [u32; 16]) -> Trace
     ensures { λ r. ⌜ r ≡ afterSetUp (setUpReply offsets) offsets trace ⌝ }
@@ -106,34 +87,45 @@ fn set_map(mut trace: Trace, offsets: [u32; 16]) -> Trace
     }
 }
 
-// A call: a set-up, or one on the UART that is set up.
+// A call: a set-up, one of the UART that is set up, or figures, which need none.
 fn call(
     trace: Trace,
     name: Name,
     all: [u64; 32],
     last: usize,
     bytes: &[u8],
+    s: &[u8],
     out: &mut [u8],
     at: usize,
 ) -> Blanked
-    requires { ⌜ length (now bytes) ≤ 8192 ⌝ }
+    requires { ⌜ length (now bytes) ≤ 32768 ⌝ }
     requires { ⌜ at + longest ≤ length (now out) ⌝ }
-    ensures { λ r. ⌜ Blanks (callKind (trace .ready) name all last (now (bytes .entry))) trace
+    ensures { λ r. ⌜ Blanks (callKind (trace .ready) name all last (now (bytes .entry)) (now (s .entry))) trace
         (now (out .entry)) at (now (out .exit)) r ⌝ }
 {
     let offsets = trace.offsets;
-    if is_set_up(name) {
-        let end = put_call(out, at, offsets, name, all, last, bytes);
-        return Blanked {
-            trace: set_map(trace, sixteen(all, 0)),
-            at: end,
-        };
+    let asks = asks_of(name);
+    match asks {
+        Asks::SetUp => {
+            let end = put_call(out, at, offsets, name, all, last, bytes, s);
+            Blanked {
+                trace: set_map(trace, sixteen(all, 0)),
+                at: end,
+            }
+        }
+        Asks::Figures => {
+            let end = put_call(out, at, offsets, name, all, last, bytes, s);
+            Blanked { trace, at: end }
+        }
+        Asks::Uart => {
+            if trace.ready {
+                let end = put_call(out, at, offsets, name, all, last, bytes, s);
+                Blanked { trace, at: end }
+            } else {
+                leave_out(trace, out, at)
+            }
+        }
     }
-    if trace.ready {
-        let end = put_call(out, at, offsets, name, all, last, bytes);
-        return Blanked { trace, at: end };
-    }
-    leave_out(trace, out, at)
 }
 
 // Puts out what stands for the line `s`, blanked. One that is too long is no call.
@@ -147,11 +139,11 @@ pub fn blank_line(from: Trace, long: bool, s: &[u8], out: &mut [u8], at: usize) 
         return leave_out(trace, out, at);
     }
     let mut numbers = [0u64; 32];
-    let mut bytes = [0u8; 8192];
+    let mut bytes = [0u8; 32768];
     let read = read_line(s, &mut numbers, &mut bytes);
     match read {
         Line::Nothing => Blanked { trace, at },
         Line::Wrong(_) => leave_out(trace, out, at),
-        Line::Call(name, last) => call(trace, name, numbers, last, &bytes, out, at),
+        Line::Call(name, last) => call(trace, name, numbers, last, &bytes, s, out, at),
     }
 }

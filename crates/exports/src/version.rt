@@ -3,8 +3,8 @@
 ghost use mathlib.Core.Path.{_≡_};
 
 #[no_mangle]
-pub extern "C" fn wondraxu_abi_3() -> u32
-    ensures { λ r. ⌜ r ≡ 3 ⌝ }
+pub extern "C" fn wondraxu_abi_4() -> u32
+    ensures { λ r. ⌜ r ≡ 4 ⌝ }
 {
-    3
+    4
 }

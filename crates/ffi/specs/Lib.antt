@@ -2,3 +2,4 @@ pub mod Plain
 pub mod Notes
 pub mod Replies
 pub mod Answers
+pub mod Figures

@@ -1,5 +1,6 @@
-// The core, replies and reports in plain numbers, as Rust and C hold them: an exported function may neither take nor give an enum.
+// The core, replies, reports and figures in plain numbers, as Rust and C hold them: an exported function may neither take nor give an enum.
 pub mod answers;
+pub mod line_figures;
 pub mod notices;
 pub mod results;
 

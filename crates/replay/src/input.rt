@@ -25,8 +25,8 @@ const FULL: usize = 48128;
 // A proved loop has to end, so it counts its turns down from a number that no run uses up.
 pub(crate) fn run() {
     let mut chunk = io::large_buffer();
-    let mut line = [0u8; 16384];
-    let mut bytes = [0u8; 8192];
+    let mut line = [0u8; 65536];
+    let mut bytes = [0u8; 32768];
     let mut out = [0u8; 65536];
     let mut input = begin();
     let mut session = begin_session();
@@ -74,8 +74,8 @@ fn is_answered(input: Input, failed: bool) -> bool
 fn answer(
     session: Session,
     input: Input,
-    line: &[u8; 16384],
-    bytes: &mut [u8; 8192],
+    line: &[u8; 65536],
+    bytes: &mut [u8; 32768],
     out: &mut [u8; 65536],
 ) -> Session
     requires { ⌜ Good (session .uart) ⌝ }

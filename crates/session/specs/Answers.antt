@@ -33,7 +33,7 @@ use Rattle.session.specs.Sessions.{standsFor, movedTo, setUp, Gives, InU
 -- what a call before the first set-up gives, whatever its last word and its bytes
 abbrev pub GivesFirst : Name → List ℕ → List ℕ → List ℕ → ℕ → List ℕ → Session → Type 0
 GivesFirst name ns s before at after r =
-    (last : ℕ) (bytes : List ℕ) → Gives (carriedOut (commandOf name ns last bytes) (noUart s) none) before at after r
+    (last : ℕ) (bytes : List ℕ) → Gives (carriedOut (commandOf name ns last bytes s) (noUart s) none) before at after r
 
 -- ---- laws
 
@@ -96,6 +96,12 @@ module _ {text before : List ℕ} {at : ℕ} {after : List ℕ} {place : ℕ} (p
 pub gives-as : {n m : Next} {before : List ℕ} {at : ℕ} {after : List ℕ} {r : Session} → n ≡ m → Gives n before at after r
     → Gives m before at after r
 gives-as {n} {m} {before} {at} {after} {r} e g = subst (λ (x : Next). Gives x before at after r) e g
+
+-- a call by what its name is found to be
+module _ (ns : List ℕ) (last : ℕ) (bytes s : List ℕ) (u : State.Uart ℕ ℕ) where
+  pub told-as : {name n : Name} → name ≡ n
+      → carriedOut (commandOf n ns last bytes s) [] (some u) ≡ carriedOut (commandOf name ns last bytes s) [] (some u)
+  told-as e = sym (ap (λ (m : Name). carriedOut (commandOf m ns last bytes s) [] (some u)) e)
 
 -- the session of a UART that is set up, and of none
 module _ (s : Session) where

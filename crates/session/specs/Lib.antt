@@ -1,3 +1,4 @@
+pub mod Frames
 pub mod Requests
 pub mod Sessions
 pub mod HandOuts

@@ -2,26 +2,30 @@
 use mathlib.Core.Path.{_≡_, refl, ap, sym, _∙_}
 use mathlib.Core.Bool.{Bool, true, false}
 use mathlib.Core.Option.{Option, none, some}
-use mathlib.Core.List.{List, []}
+use mathlib.Core.List.{List, [], map}
 use mathlib.Core.Logic.{⊎-elim}
 use Prim.Native.Nat.{ℕ, _<_, _≤_, min}
 use native.Mathlib.Omega.{arith}
-use lib.ListN.{length, take, replicate}
+use lib.ListN.{length, take, drop, replicate}
 use lib.Seq.{take-all}
 use Rattle.text.specs.Pick.{pick, side}
 use Rattle.text.specs.Words.{nextWord}
 use Rattle.text.specs.declared.input.Input.{Input}
 use Rattle.trace.specs.Steps.{fault}
+use Rattle.trace.specs.Asks.{asksOf}
+use Rattle.trace.specs.declared.asks.Asks.{Asks}
+use Rattle.trace.specs.Low.{lowOf}
 use Rattle.trace.specs.Stored.{stored}
+use Rattle.trace.specs.Pairs.{firstsIn, secondsIn}
 use Rattle.trace.specs.Lines.{lineOf, numbersOf, bytesAfter}
 use Rattle.trace.specs.declared.faults.Reason.{Reason}
 use Rattle.trace.specs.declared.line.Line.{Line}
 use Rattle.trace.specs.declared.names.Name.{Name}
 use Rattle.trace.specs.declared.names.Name.the-variants.{Setup, Read, Write, WriteRow, Receive, Wake, Watch, Reset, PowerDown, Clock}
-use Rattle.trace.specs.declared.names.Name.the-variants.{TakeTx, TakeWritten, HasLeft, HostPending}
+use Rattle.trace.specs.declared.names.Name.the-variants.{TakeTx, TakeWritten, HasLeft, HostPending, Figures}
 use Rattle.model.specs.State.{Uart}
 use Rattle.answers.specs.Faults.{faultText, longText}
-use Rattle.session.specs.Requests.{Command, setUp, asks, commandOf, Next, carriedOut}
+use Rattle.session.specs.Requests.{Command, setUp, asks, figures, commandOf, Next, setsUp, tells, carriedOut}
 
 -- a text alone changes nothing
 abbrev pub says : List ℕ → Option (Uart ℕ ℕ) → Next
@@ -39,7 +43,7 @@ numbersIn s = stored (numbersOf s) (replicate 32 0)
 abbrev pub readAs : List ℕ → List ℕ → Option (Uart ℕ ℕ) → Line → Next
 readAs s bytes device Line.Nothing = says [] device
 readAs s bytes device (Line.Wrong f) = says (faultText s f) device
-readAs s bytes device (Line.Call name last) = carriedOut (commandOf name (numbersIn s) last bytes) (noUart s) device
+readAs s bytes device (Line.Call name last) = carriedOut (commandOf name (numbersIn s) last bytes s) (noUart s) device
 
 -- the line at the front of a buffer; one that had no room there was too long
 abbrev pub lineIn : Input → List ℕ → List ℕ
@@ -53,21 +57,11 @@ answered input line bytes device =
     pick (input .long) (says longText device)
     (readAs (lineIn input line) (bytesAfter (lineIn input line) bytes) device (lineOf (length bytes) (lineIn input line)))
 
-abbrev pub isSetup : Name → Bool
-isSetup Setup = true
-isSetup Read = false
-isSetup Write = false
-isSetup WriteRow = false
-isSetup Receive = false
-isSetup Wake = false
-isSetup Watch = false
-isSetup Reset = false
-isSetup PowerDown = false
-isSetup Clock = false
-isSetup TakeTx = false
-isSetup TakeWritten = false
-isSetup HasLeft = false
-isSetup HostPending = false
+-- a call before the first set-up, by what it asks
+abbrev pub byFirst : Asks → List ℕ → List ℕ → Next
+byFirst Asks.SetUp ns s = setsUp (take 16 (map lowOf (drop 0 ns))) (take 16 (map lowOf (drop 16 ns))) none
+byFirst Asks.Figures ns s = tells (firstsIn s) (secondsIn s) none
+byFirst Asks.Uart ns s = says (noUart s) none
 
 -- ---- laws
 
@@ -80,45 +74,30 @@ take-within k l =
     take-all (min k (length l)) l (omega arith) ∙ sym (take-all k l h))
     (side k (length l))
 
--- a call before the first set-up
-pub first-setup : (n : Name) (ns : List ℕ) (last : ℕ) (bytes fault : List ℕ) (device : Option (Uart ℕ ℕ)) → isSetup n ≡ true
-    → carriedOut (commandOf Setup ns last bytes) fault device ≡ carriedOut (commandOf n ns last bytes) fault device
-first-setup Setup ns last bytes fault device e = refl
-first-setup Read ns last bytes fault device e = cc
-first-setup Write ns last bytes fault device e = cc
-first-setup WriteRow ns last bytes fault device e = cc
-first-setup Receive ns last bytes fault device e = cc
-first-setup Wake ns last bytes fault device e = cc
-first-setup Watch ns last bytes fault device e = cc
-first-setup Reset ns last bytes fault device e = cc
-first-setup PowerDown ns last bytes fault device e = cc
-first-setup Clock ns last bytes fault device e = cc
-first-setup TakeTx ns last bytes fault device e = cc
-first-setup TakeWritten ns last bytes fault device e = cc
-first-setup HasLeft ns last bytes fault device e = cc
-first-setup HostPending ns last bytes fault device e = cc
-
-pub first-other : (n : Name) (ns : List ℕ) (last : ℕ) (bytes fault : List ℕ) → isSetup n ≡ false
-    → says fault none ≡ carriedOut (commandOf n ns last bytes) fault none
-first-other Setup ns last bytes fault e = cc
-first-other Read ns last bytes fault e = refl
-first-other Write ns last bytes fault e = refl
-first-other WriteRow ns last bytes fault e = refl
-first-other Receive ns last bytes fault e = refl
-first-other Wake ns last bytes fault e = refl
-first-other Watch ns last bytes fault e = refl
-first-other Reset ns last bytes fault e = refl
-first-other PowerDown ns last bytes fault e = refl
-first-other Clock ns last bytes fault e = refl
-first-other TakeTx ns last bytes fault e = refl
-first-other TakeWritten ns last bytes fault e = refl
-first-other HasLeft ns last bytes fault e = refl
-first-other HostPending ns last bytes fault e = refl
+-- with no UART set up, by what the call is
+pub first-gives : (n : Name) (ns : List ℕ) (last : ℕ) (bytes s : List ℕ)
+    → byFirst (asksOf n) ns s ≡ carriedOut (commandOf n ns last bytes s) (noUart s) none
+first-gives Setup ns last bytes s = refl
+first-gives Read ns last bytes s = refl
+first-gives Write ns last bytes s = refl
+first-gives WriteRow ns last bytes s = refl
+first-gives Receive ns last bytes s = refl
+first-gives Wake ns last bytes s = refl
+first-gives Watch ns last bytes s = refl
+first-gives Reset ns last bytes s = refl
+first-gives PowerDown ns last bytes s = refl
+first-gives Clock ns last bytes s = refl
+first-gives TakeTx ns last bytes s = refl
+first-gives TakeWritten ns last bytes s = refl
+first-gives HasLeft ns last bytes s = refl
+first-gives HostPending ns last bytes s = refl
+first-gives Figures ns last bytes s = refl
 
 -- a UART is set up, so that no fault is answered
 pub carried-any : (c : Command) (f g : List ℕ) (u : Uart ℕ ℕ) → carriedOut c f (some u) ≡ carriedOut c g (some u)
 carried-any (setUp o w) f g u = refl
 carried-any (asks q) f g u = refl
+carried-any (figures starts ends) f g u = refl
 
 -- the line that was read
 module _ (input : Input) (line bytes : List ℕ) (device : Option (Uart ℕ ℕ)) where

@@ -8,9 +8,10 @@ use lib.Dec.{eqb}
 use lib.ListN.{take, drop, getD}
 use Rattle.text.specs.Ascii.{ascii}
 use Rattle.trace.specs.Low.{lowOf}
+use Rattle.trace.specs.Pairs.{firstsIn, secondsIn}
 use Rattle.trace.specs.declared.names.Name.{Name}
 use Rattle.trace.specs.declared.names.Name.the-variants.{Setup, Read, Write, WriteRow, Receive, Wake, Watch, Reset, PowerDown, Clock}
-use Rattle.trace.specs.declared.names.Name.the-variants.{TakeTx, TakeWritten, HasLeft, HostPending}
+use Rattle.trace.specs.declared.names.Name.the-variants.{TakeTx, TakeWritten, HasLeft, HostPending, Figures}
 use Rattle.model.specs.State.{Uart}
 use Rattle.model.specs.SetUp.{new, setUpReply}
 use Rattle.model.specs.Call.{Machine, Dated, Undated, Call, Written, Request, Asked, Ask, Reply, reads, writes, does, takes, left}
@@ -23,6 +24,8 @@ use Rattle.model.specs.declared.Taken.{Taken}
 use Rattle.answers.specs.Reports.{reportText}
 use Rattle.answers.specs.Replies.{refusalText, setUpText, readText, writeText, rowText, doneText, handOutText, hasLeftText}
 use Rattle.answers.specs.Replies.{hostPendingText}
+use Rattle.answers.specs.LineFigures.{figuresText}
+use Rattle.figures.specs.Figures.{figuresOf}
 
 -- ---- the lent buffer of a hand-out
 
@@ -45,27 +48,30 @@ pub data Command : Type 0 where
   -- sixteen offsets and sixteen reset words
   setUp : List ℕ → List ℕ → Command
   asks : Ask → Command
+  -- the starts and the ends of frames
+  figures : List ℕ → List ℕ → Command
 
 abbrev pub call : Request → Command
 call c = asks (Asked.call c)
 
--- the numbers of the line, its last word where that is a number, and its bytes
-abbrev pub commandOf : Name → List ℕ → ℕ → List ℕ → Command
-commandOf Setup ns last bytes = setUp (take 16 (map lowOf (drop 0 ns))) (take 16 (map lowOf (drop 16 ns)))
-commandOf Read ns last bytes = call (Call.at (getD ns 0 0) (Dated.read (lowOf (getD ns 1 0))))
-commandOf Write ns last bytes =
+-- the numbers of the line, its last word where that is a number, its bytes, and the line itself, of which pairs are read
+abbrev pub commandOf : Name → List ℕ → ℕ → List ℕ → List ℕ → Command
+commandOf Setup ns last bytes s = setUp (take 16 (map lowOf (drop 0 ns))) (take 16 (map lowOf (drop 16 ns)))
+commandOf Read ns last bytes s = call (Call.at (getD ns 0 0) (Dated.read (lowOf (getD ns 1 0))))
+commandOf Write ns last bytes s =
     call (Call.at (getD ns 0 0) (Dated.write (record { offset = lowOf (getD ns 1 0); value = lowOf (getD ns 2 0) })))
-commandOf WriteRow ns last bytes = asks (Asked.row (getD ns 0 0) (take last bytes))
-commandOf Receive ns last bytes = call (Call.at (getD ns 0 0) (Dated.receive (getD ns 1 0) (take last bytes)))
-commandOf Wake ns last bytes = call (Call.at (getD ns 0 0) (Dated.machine Machine.wake))
-commandOf Watch ns last bytes = call (Call.at (getD ns 0 0) (Dated.machine (Machine.watch (eqb last 1))))
-commandOf Reset ns last bytes = call (Call.at (getD ns 0 0) (Dated.machine Machine.reset))
-commandOf PowerDown ns last bytes = call (Call.at (getD ns 0 0) (Dated.machine Machine.powerDown))
-commandOf Clock ns last bytes = call (Call.at (getD ns 0 0) (Dated.machine (Machine.clockChange (getD ns 1 0))))
-commandOf TakeTx ns last bytes = call (Call.at (getD ns 0 0) (Dated.takeTx (lentOf last)))
-commandOf TakeWritten ns last bytes = call (Call.undated (Undated.takeWritten (lentOf last)))
-commandOf HasLeft ns last bytes = call (Call.undated Undated.hasLeft)
-commandOf HostPending ns last bytes = call (Call.undated Undated.hostPending)
+commandOf WriteRow ns last bytes s = asks (Asked.row (getD ns 0 0) (take last bytes))
+commandOf Receive ns last bytes s = call (Call.at (getD ns 0 0) (Dated.receive (getD ns 1 0) (take last bytes)))
+commandOf Wake ns last bytes s = call (Call.at (getD ns 0 0) (Dated.machine Machine.wake))
+commandOf Watch ns last bytes s = call (Call.at (getD ns 0 0) (Dated.machine (Machine.watch (eqb last 1))))
+commandOf Reset ns last bytes s = call (Call.at (getD ns 0 0) (Dated.machine Machine.reset))
+commandOf PowerDown ns last bytes s = call (Call.at (getD ns 0 0) (Dated.machine Machine.powerDown))
+commandOf Clock ns last bytes s = call (Call.at (getD ns 0 0) (Dated.machine (Machine.clockChange (getD ns 1 0))))
+commandOf TakeTx ns last bytes s = call (Call.at (getD ns 0 0) (Dated.takeTx (lentOf last)))
+commandOf TakeWritten ns last bytes s = call (Call.undated (Undated.takeWritten (lentOf last)))
+commandOf HasLeft ns last bytes s = call (Call.undated Undated.hasLeft)
+commandOf HostPending ns last bytes s = call (Call.undated Undated.hostPending)
+commandOf Figures ns last bytes s = figures (firstsIn s) (secondsIn s)
 
 -- ---- the text of an answer
 
@@ -114,6 +120,11 @@ abbrev pub calls : Ask → List ℕ → Option (Uart ℕ ℕ) → Next
 calls q fault none = record { text = fault; device = none }
 calls q fault (some u) = record { text = answerText q (asked q u .answer); device = some (asked q u .state) }
 
+-- figures need no UART
+abbrev pub tells : List ℕ → List ℕ → Option (Uart ℕ ℕ) → Next
+tells starts ends before = record { text = figuresText (figuresOf starts ends); device = before }
+
 abbrev pub carriedOut : Command → List ℕ → Option (Uart ℕ ℕ) → Next
 carriedOut (setUp offsets resets) fault before = setsUp offsets resets before
 carriedOut (asks q) fault before = calls q fault before
+carriedOut (figures starts ends) fault before = tells starts ends before

@@ -1,5 +1,6 @@
 // The lines of a trace (docs/REPLAY.md), answered: each call is carried out on the UART that was set up last, and its answer is
 // put into a lent buffer.
+mod line_figures;
 pub mod lines;
 mod requests;
 mod set_up;

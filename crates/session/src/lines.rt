@@ -1,5 +1,6 @@
 // The answer to a line.
 use crate::Session;
+use crate::line_figures::line_figures;
 use crate::requests::carry_out;
 use crate::set_up::set_up;
 use answers::faults::put_fault;
@@ -7,6 +8,8 @@ use answers::faults::put_long;
 use text::input::Input;
 use text::parts::within;
 use text::words::next_word;
+use trace::asks::Asks;
+use trace::asks::asks_of;
 use trace::faults::Fault;
 use trace::faults::Reason;
 use trace::line::Line;
@@ -17,7 +20,7 @@ ghost use mathlib.Core.Bool.{false};
 ghost use Rattle.uart.specs.Whole.{Good};
 ghost use Rattle.answers.specs.Faults.{faultText};
 ghost use Rattle.session.specs.Answers.{GivesFirst};
-ghost use Rattle.session.specs.Lines.{says, bytesIn, answered, isSetup};
+ghost use Rattle.session.specs.Lines.{says, bytesIn, answered};
 ghost use Rattle.session.specs.Sessions.{standsFor, Wide, Gives};
 
 fn wrong(session: Session, s: &[u8], fault: Fault, out: &mut [u8]) -> Session
@@ -30,27 +33,6 @@ fn wrong(session: Session, s: &[u8], fault: Fault, out: &mut [u8]) -> Session
     session.with_output(at)
 }
 
-fn is_setup(name: Name) -> bool
-    ensures { λ r. ⌜ r ≡ isSetup name ⌝ }
-{
-    match name {
-        Name::Setup => true,
-        Name::Read => false,
-        Name::Write => false,
-        Name::WriteRow => false,
-        Name::Receive => false,
-        Name::Wake => false,
-        Name::Watch => false,
-        Name::Reset => false,
-        Name::PowerDown => false,
-        Name::Clock => false,
-        Name::TakeTx => false,
-        Name::TakeWritten => false,
-        Name::HasLeft => false,
-        Name::HostPending => false,
-    }
-}
-
 // A call before the first set-up.
 fn first_call(session: Session, s: &[u8], name: Name, numbers: [u64; 32], out: &mut [u8]) -> Session
     requires { ⌜ Good (session .uart) ⌝ }
@@ -58,20 +40,24 @@ fn first_call(session: Session, s: &[u8], name: Name, numbers: [u64; 32], out: &
     requires { ⌜ Wide (now out) (session .at) ⌝ }
     ensures { λ r. ⌜ GivesFirst name numbers (now (s .entry)) (now (out .entry)) (session .at) (now (out .exit)) r ⌝ }
 {
-    if is_setup(name) {
-        return set_up(session, numbers, out);
+    let asks = asks_of(name);
+    match asks {
+        Asks::SetUp => set_up(session, numbers, out),
+        Asks::Figures => line_figures(session, s, out),
+        Asks::Uart => {
+            let word = next_word(s, 0);
+            wrong(
+                session,
+                s,
+                Fault {
+                    reason: Reason::NoUart,
+                    start: word.start,
+                    end: word.end,
+                },
+                out,
+            )
+        }
     }
-    let word = next_word(s, 0);
-    wrong(
-        session,
-        s,
-        Fault {
-            reason: Reason::NoUart,
-            start: word.start,
-            end: word.end,
-        },
-        out,
-    )
 }
 
 // Puts the answer to the line at the front of `line`. A line that is no call changes nothing.
@@ -101,7 +87,7 @@ pub fn answer_line(
         Line::Wrong(fault) => wrong(session, s, fault, out),
         Line::Call(name, last) => {
             if session.ready {
-                carry_out(session, name, numbers, last, bytes, out)
+                carry_out(session, name, numbers, last, bytes, s, out)
             } else {
                 first_call(session, s, name, numbers, out)
             }

@@ -1,6 +1,7 @@
 // Each call and each row on a UART that was set up, carried out and answered.
 use crate::Session;
 use crate::in_use;
+use crate::line_figures::line_figures;
 use crate::set_up::set_up;
 use crate::take::take_tx;
 use crate::take::take_written;
@@ -102,20 +103,21 @@ fn host_pending(uart: Uart, at: usize, out: &mut [u8]) -> Session
     in_use(uart, next)
 }
 
-// Carries out a call or a row, with its numbers in the order of its words.
+// Carries out a call or a row, with its numbers in the order of its words, or what the line `s` asks beside them.
 pub fn carry_out(
     session: Session,
     name: Name,
     numbers: [u64; 32],
     last: usize,
     bytes: &[u8],
+    s: &[u8],
     out: &mut [u8],
 ) -> Session
     requires { ⌜ Good (session .uart) ⌝ }
     requires { ⌜ session .ready ≡ true ⌝ }
     requires { ⌜ Wide (now out) (session .at) ⌝ }
-    ensures { λ r. ⌜ Gives (carriedOut (commandOf name numbers last (now (bytes .entry))) [] (some (meaning (session .uart))))
-        (now (out .entry)) (session .at) (now (out .exit)) r ⌝ }
+    ensures { λ r. ⌜ Gives (carriedOut (commandOf name numbers last (now (bytes .entry)) (now (s .entry))) []
+        (some (meaning (session .uart)))) (now (out .entry)) (session .at) (now (out .exit)) r ⌝ }
 {
     let uart = session.uart;
     let at = session.at;
@@ -136,5 +138,6 @@ pub fn carry_out(
         Name::TakeWritten => take_written(uart, last, at, out),
         Name::HasLeft => has_left(uart, at, out),
         Name::HostPending => host_pending(uart, at, out),
+        Name::Figures => line_figures(session, s, out),
     }
 }

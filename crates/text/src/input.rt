@@ -89,7 +89,7 @@ fn gather(input: Input, chunk: &[u8], line: &mut [u8]) -> Input
 }
 
 // The next line, or what the chunk has of it. After a whole line another begins.
-pub fn next_line(mut input: Input, chunk: &[u8; 65536], line: &mut [u8; 16384]) -> Input
+pub fn next_line(mut input: Input, chunk: &[u8; 65536], line: &mut [u8; 65536]) -> Input
     ensures { λ r. ⌜ r ≡ gathered (length (now (line .entry))) (filled (now (chunk .entry)) (fresh input)) (fresh input) ⌝ }
     ensures { λ _. ⌜ now (line .exit) ≡ lineAfter (filled (now (chunk .entry)) (fresh input)) (fresh input)
         (now (line .entry)) ⌝ }

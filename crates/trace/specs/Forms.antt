@@ -3,9 +3,9 @@ use Prim.Native.Nat.{ℕ, _≤_}
 use native.Mathlib.Omega.{arith}
 use Rattle.trace.specs.declared.names.Name.{Name}
 use Rattle.trace.specs.declared.names.Name.the-variants.{Setup, Read, Write, WriteRow, Receive, Wake, Watch, Reset, PowerDown, Clock}
-use Rattle.trace.specs.declared.names.Name.the-variants.{TakeTx, TakeWritten, HasLeft, HostPending}
+use Rattle.trace.specs.declared.names.Name.the-variants.{TakeTx, TakeWritten, HasLeft, HostPending, Figures}
 use Rattle.trace.specs.declared.arguments.Last.{Last}
-use Rattle.trace.specs.declared.arguments.Last.the-variants.{None, Bit, Length, Bytes}
+use Rattle.trace.specs.declared.arguments.Last.the-variants.{None, Bit, Length, Bytes, Pairs}
 use Rattle.trace.specs.declared.arguments.Form.{Form}
 
 -- numbers, `count` in all, of which the first `wide` have 64 bits and the others 32; and a last word of another kind
@@ -27,6 +27,7 @@ formOf TakeTx = takes 1 1 Length
 formOf TakeWritten = takes 0 0 Length
 formOf HasLeft = takes 0 0 None
 formOf HostPending = takes 0 0 None
+formOf Figures = takes 0 0 Pairs
 
 -- ---- laws
 
@@ -47,3 +48,4 @@ count-fits TakeTx = omega arith
 count-fits TakeWritten = omega arith
 count-fits HasLeft = omega arith
 count-fits HostPending = omega arith
+count-fits Figures = omega arith

@@ -16,6 +16,7 @@ use Rattle.trace.specs.declared.number.Kind.{Kind}
 use Rattle.trace.specs.Forms.{formOf}
 use Rattle.trace.specs.Steps.{bytesIn, wrong, missing, wordAt}
 use Rattle.trace.specs.One.{numberAt}
+use Rattle.trace.specs.Pairs.{pairsAt}
 
 -- `0` is 48, `1` is 49
 abbrev pub bitIn : List ℕ → Word → Step
@@ -51,6 +52,7 @@ kindStep room s at Last.None = Step.To at 0
 kindStep room s at Last.Bit = bitAt s at
 kindStep room s at Last.Length = numberAt s at Kind.Length
 kindStep room s at Last.Bytes = bytesAt room s at
+kindStep room s at Last.Pairs = pairsAt s at .step
 
 abbrev pub lastAt : ℕ → List ℕ → ℕ → Name → Step
 lastAt room s at name = kindStep room s at (formOf name .last)
@@ -61,6 +63,7 @@ kindKept s at bytes Last.None = bytes
 kindKept s at bytes Last.Bit = bytes
 kindKept s at bytes Last.Length = bytes
 kindKept s at bytes Last.Bytes = bytesKept s at bytes
+kindKept s at bytes Last.Pairs = bytes
 
 abbrev pub lastKept : List ℕ → ℕ → Name → List ℕ → List ℕ
 lastKept s at name bytes = kindKept s at bytes (formOf name .last)

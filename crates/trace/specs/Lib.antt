@@ -1,10 +1,12 @@
 pub mod Names
+pub mod Asks
 pub mod Forms
 pub mod Steps
 pub mod One
+pub mod Stored
+pub mod Pairs
 pub mod Last
 pub mod Numbers
-pub mod Stored
 pub mod Low
 pub mod Lines
 pub mod Examples

@@ -10,7 +10,7 @@ use Rattle.text.specs.Pick.{pick}
 use Rattle.text.specs.Same.{sameBytes, same-equal}
 use Rattle.trace.specs.declared.names.Name.{Name}
 use Rattle.trace.specs.declared.names.Name.the-variants.{Setup, Read, Write, WriteRow, Receive, Wake, Watch, Reset, PowerDown, Clock}
-use Rattle.trace.specs.declared.names.Name.the-variants.{TakeTx, TakeWritten, HasLeft, HostPending}
+use Rattle.trace.specs.declared.names.Name.the-variants.{TakeTx, TakeWritten, HasLeft, HostPending, Figures}
 use Rattle.trace.specs.declared.names.Named.{Named}
 
 -- the letters of a name, in ASCII; `_` is 95
@@ -29,6 +29,7 @@ letters TakeTx = 116 ∷ 97 ∷ 107 ∷ 101 ∷ 95 ∷ 116 ∷ 120 ∷ []
 letters TakeWritten = 116 ∷ 97 ∷ 107 ∷ 101 ∷ 95 ∷ 119 ∷ 114 ∷ 105 ∷ 116 ∷ 116 ∷ 101 ∷ 110 ∷ []
 letters HasLeft = 104 ∷ 97 ∷ 115 ∷ 95 ∷ 108 ∷ 101 ∷ 102 ∷ 116 ∷ []
 letters HostPending = 104 ∷ 111 ∷ 115 ∷ 116 ∷ 95 ∷ 112 ∷ 101 ∷ 110 ∷ 100 ∷ 105 ∷ 110 ∷ 103 ∷ []
+letters Figures = 102 ∷ 105 ∷ 103 ∷ 117 ∷ 114 ∷ 101 ∷ 115 ∷ []
 
 -- the first of some calls whose name a word is
 unfoldable pub named : List Name → List ℕ → Named
@@ -38,7 +39,8 @@ named (n ∷ ns) word = pick (sameBytes word (letters n)) (Named.Call n) (named 
 -- the call of all that a word names; the order says nothing, as no two have the same name
 abbrev pub names : List Name
 names =
-    Read ∷ Write ∷ Receive ∷ WriteRow ∷ Wake ∷ TakeTx ∷ Clock ∷ Watch ∷ Reset ∷ PowerDown ∷ HasLeft ∷ HostPending ∷ TakeWritten ∷ Setup ∷ []
+    Read ∷ Write ∷ Receive ∷ WriteRow ∷ Wake ∷ TakeTx ∷ Clock ∷ Watch ∷ Reset ∷ PowerDown ∷ HasLeft ∷ HostPending ∷ TakeWritten ∷ Setup
+    ∷ Figures ∷ []
 
 abbrev pub nameOf : List ℕ → Named
 nameOf word = named names word
@@ -60,7 +62,7 @@ module _ (n : Name) (ns : List Name) (word : List ℕ) where
   is-other e r q = rw e q
 
 -- of the calls from the i-th on: the i-th, and another; and none is left after the last
-module _ (word : List ℕ) (i : ℕ) (d : Name) (h : i < 14) where
+module _ (word : List ℕ) (i : ℕ) (d : Name) (h : i < 15) where
   from-on : drop i names ≡ getD names i d ∷ drop (i + 1) names
   from-on = rw add-one (drop-cons names i d h)
 
@@ -70,7 +72,7 @@ module _ (word : List ℕ) (i : ℕ) (d : Name) (h : i < 14) where
   pub is-later : sameBytes word (letters (getD names i d)) ≡ false → named (drop i names) word ≡ named (drop (i + 1) names) word
   is-later e = ap (λ (ns : List Name). named ns word) from-on ∙ sym (is-other (getD names i d) (drop (i + 1) names) word e _ refl)
 
-pub is-past : (word : List ℕ) (i : ℕ) → i ≡ 14 → Named.Unknown ≡ named (drop i names) word
+pub is-past : (word : List ℕ) (i : ℕ) → i ≡ 15 → Named.Unknown ≡ named (drop i names) word
 is-past word i e = is-none word ∙ ap (λ (k : ℕ). named (drop k names) word) (sym e)
 
 -- a word is compared with a name's letters
@@ -95,6 +97,7 @@ letters-name TakeTx = refl
 letters-name TakeWritten = refl
 letters-name HasLeft = refl
 letters-name HostPending = refl
+letters-name Figures = refl
 
 named-letters : (ns : List Name) (word : List ℕ) (n : Name) → named ns word ≡ Named.Call n → word ≡ letters n
 unfolding named

@@ -1,4 +1,4 @@
-// What follows a call's name: numbers, and then a last word of another kind, or none. Of the numbers, `count` in all,
+// What follows a call's name: numbers, and then a last word of another kind, or pairs, or nothing. Of the numbers, `count` in all,
 // the first `wide` have 64 bits and the others 32.
 use crate::names::Name;
 ghost use mathlib.Core.Path.{_≡_};
@@ -11,6 +11,8 @@ pub enum Last {
     // A length of a lent buffer.
     Length,
     Bytes,
+    // Numbers of 64 bits in pairs, as many as the line has.
+    Pairs,
 }
 
 pub struct Form {
@@ -43,5 +45,6 @@ pub fn form_of(name: Name) -> Form
         Name::TakeWritten => takes(0, 0, Last::Length),
         Name::HasLeft => takes(0, 0, Last::None),
         Name::HostPending => takes(0, 0, Last::None),
+        Name::Figures => takes(0, 0, Last::Pairs),
     }
 }

@@ -5,6 +5,7 @@ use crate::faults::Reason;
 use crate::names::Name;
 use crate::number::Kind;
 use crate::number::read_one;
+use crate::pairs::read_pairs;
 use crate::step::Step;
 use crate::step::missing;
 use crate::step::wrong;
@@ -14,6 +15,7 @@ use text::names::same;
 use text::words::next_word;
 ghost use mathlib.Core.Path.{_≡_};
 ghost use lib.ListN.{length};
+ghost use Rattle.trace.specs.Pairs.{pairsAt};
 ghost use Rattle.trace.specs.Last.{bitAt, bytesAt, bytesKept, lastAt, lastKept};
 
 fn read_bit(s: &[u8], at: usize) -> Step
@@ -54,7 +56,16 @@ fn read_hex(s: &[u8], at: usize, bytes: &mut [u8]) -> Step
     }
 }
 
-// Reads the last word, where the call has one of another kind.
+// How many pairs there are. The numbers are read and not kept: whoever carries the call out reads them again.
+fn count_pairs(s: &[u8], at: usize) -> Step
+    ensures { λ r. ⌜ r ≡ pairsAt (now (s .entry)) at .step ⌝ }
+{
+    let mut firsts = [0u64; 1];
+    let mut seconds = [0u64; 1];
+    read_pairs(s, at, &mut firsts, &mut seconds)
+}
+
+// Reads what stands last, where the call has something of another kind.
 pub fn read_last(s: &[u8], at: usize, name: Name, bytes: &mut [u8]) -> Step
     ensures { λ r. ⌜ r ≡ lastAt (length (now (bytes .entry))) (now (s .entry)) at name ⌝ }
     ensures { λ _. ⌜ now (bytes .exit) ≡ lastKept (now (s .entry)) at name (now (bytes .entry)) ⌝ }
@@ -66,5 +77,6 @@ pub fn read_last(s: &[u8], at: usize, name: Name, bytes: &mut [u8]) -> Step
         Last::Bit => read_bit(s, at),
         Last::Length => read_one(s, at, Kind::Length),
         Last::Bytes => read_hex(s, at, bytes),
+        Last::Pairs => count_pairs(s, at),
     }
 }

@@ -19,6 +19,7 @@ pub enum Name {
     TakeWritten,
     HasLeft,
     HostPending,
+    Figures,
 }
 
 // The call that a word names, or that it names none.
@@ -28,7 +29,7 @@ pub enum Named {
 }
 
 // The calls of which a trace has most come first.
-const NAMES: [Name; 14] = [
+const NAMES: [Name; 15] = [
     Name::Read,
     Name::Write,
     Name::Receive,
@@ -43,6 +44,7 @@ const NAMES: [Name; 14] = [
     Name::HostPending,
     Name::TakeWritten,
     Name::Setup,
+    Name::Figures,
 ];
 
 // Whether a word is a call's name.
@@ -64,6 +66,7 @@ fn is_name(word: &[u8], name: Name) -> bool
         Name::TakeWritten => same(word, b"take_written"),
         Name::HasLeft => same(word, b"has_left"),
         Name::HostPending => same(word, b"host_pending"),
+        Name::Figures => same(word, b"figures"),
     }
 }
 
@@ -72,7 +75,7 @@ pub fn name_of(word: &[u8]) -> Named
     ensures { λ r. ⌜ r ≡ nameOf (now (word .entry)) ⌝ }
 {
     let mut i = 0;
-    while i < 14 {
+    while i < 15 {
         let name = NAMES[i];
         if is_name(word, name) {
             return Named::Call(name);

@@ -1,7 +1,7 @@
 //! The port's answers as lines of the replay format. `uart_box::answers` writes the published Rust's in the same form.
 use std::fmt;
 use std::io::Write;
-use wondraxu::{Notice, Refusal, Report, Row};
+use wondraxu::{Figures, Notice, Refusal, Report, Row};
 
 fn put(out: &mut Vec<u8>, text: fmt::Arguments<'_>) {
     // Writing to a `Vec` does not fail.
@@ -54,6 +54,16 @@ pub fn has_left(out: &mut Vec<u8>, has_left: bool) {
 
 pub fn host_pending(out: &mut Vec<u8>, count: usize) {
     put(out, format_args!("0 host_pending={count}\n"));
+}
+
+pub fn figures(out: &mut Vec<u8>, figures: Figures) {
+    let Figures { busy, shortest, longest, quiet, at, mean, remainder } = figures;
+    put(out, format_args!("0 busy={busy} shortest={shortest} longest={longest} quiet={quiet} at="));
+    match at {
+        Some(place) => put(out, format_args!("{place}")),
+        None => out.push(b'-'),
+    }
+    put(out, format_args!(" mean={mean} remainder={remainder}\n"));
 }
 
 /// What follows a dated call's own result.

@@ -2,6 +2,7 @@
 use crate::Side;
 use crate::line;
 use uart_box::calls::{Call, LONGEST_BUFFER};
+use uart_box::figures::Frame;
 use wondraxu::{Answered, Refusal, Row, Uart};
 
 /// What a lent buffer holds before the call, and how far past its end it is looked at.
@@ -22,8 +23,10 @@ impl Default for Port {
 
 impl Side for Port {
     fn call(&mut self, call: &Call, out: &mut Vec<u8>) {
-        if let Call::Setup(setup) = call {
-            return self.set_up(setup.offsets, setup.reset_words, out);
+        match call {
+            Call::Setup(setup) => return self.set_up(setup.offsets, setup.reset_words, out),
+            Call::Figures { frames } => return figures(out, frames),
+            _ => {}
         }
         let Some(uart) = &mut self.uart else {
             return line::no_uart(out);
@@ -52,7 +55,7 @@ impl Side for Port {
             }
             Call::HasLeft => undated(out, uart.has_left(), line::has_left),
             Call::HostPending => undated(out, uart.host_pending(), line::host_pending),
-            Call::Setup(_) => {}
+            Call::Setup(_) | Call::Figures { .. } => {}
         }
     }
 }
@@ -95,6 +98,11 @@ fn dated<T>(out: &mut Vec<u8>, answered: Answered<T>, result: impl FnOnce(&mut V
         }
         Err(refusal) => line::refused(out, refusal),
     }
+}
+
+fn figures(out: &mut Vec<u8>, frames: &[Frame]) {
+    let frames: Vec<(u64, u64)> = frames.iter().map(|frame| (frame.start, frame.end)).collect();
+    undated(out, wondraxu::figures(&frames), line::figures);
 }
 
 fn row(out: &mut Vec<u8>, answered: Result<Row, Refusal>) {

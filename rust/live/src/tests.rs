@@ -67,6 +67,11 @@ fn each_wrong_field_is_caught() {
         ("rest=kept", "rest=changed"),
         ("has_left=1", "has_left=0"),
         ("host_pending=3", "host_pending=2"),
+        (" longest=1 ", " longest=2 "),
+        (" quiet=0 at=0 ", " quiet=0 at=- "),
+        (" at=1 ", " at=2 "),
+        (" remainder=1\n", " remainder=0\n"),
+        ("\n9\n", "\n8\n"),
         ("\n5\n", "\n6\n"),
         ("\n8\n", "\n0\n"),
     ];

@@ -1,5 +1,6 @@
 //! Structs and parameters as the proved crates declare them: the text of both sides, word for word.
 use crate::plain::{FLIGHT, HOST, LEFT, RECEIVED, RUNS};
+use crate::FRAMES;
 use std::collections::BTreeMap;
 use std::fs;
 use std::path::Path;
@@ -37,12 +38,12 @@ fn structs(text: &str) -> Declared {
 #[test]
 fn the_structs_are_those_of_the_proved_crates() {
     let files = ["model/src/lib.rt", "queue/src/lib.rt", "ffi/src/lib.rt", "ffi/src/results.rt"];
-    let more = ["ffi/src/notices.rt", "ffi/src/answers.rt", "exports/src/new.rt"];
+    let more = ["ffi/src/notices.rt", "ffi/src/answers.rt", "ffi/src/line_figures.rt", "exports/src/new.rt"];
     let theirs: Declared = files.iter().chain(&more).flat_map(|file| structs(&proved(file))).collect();
     let mut ours = structs(include_str!("../plain.rs"));
     // The caller's own: the library is lent its fields one by one.
     assert!(ours.remove("Slots").is_some());
-    assert_eq!(ours.len(), 13);
+    assert_eq!(ours.len(), 14);
     for (name, fields) in &ours {
         assert_eq!(Some(fields), theirs.get(name), "{name}");
     }
@@ -55,6 +56,8 @@ fn as_exported(parameters: &str) -> String {
         .replace("'b ", "")
         .replace("bytes: &[u8]", "bytes: *const u8, count: usize")
         .replace("out: &mut [u8]", "out: *mut u8, length: usize")
+        .replace("starts: &[u64]", "starts: *const u64, starts_count: usize")
+        .replace("ends: &[u64]", "ends: *const u64, ends_count: usize")
 }
 
 /// The parameters and the result of each function: `(...) -> ...`, without lifetimes.
@@ -98,10 +101,16 @@ fn declared() -> Declared {
 #[test]
 fn the_parameters_are_those_of_the_proved_crates() {
     let (theirs, ours) = (exported(), declared());
-    // Fourteen calls, and the version.
-    assert_eq!(ours.len(), 15);
+    // Fifteen calls, and the version.
+    assert_eq!(ours.len(), 16);
     for (name, signature) in &ours {
         assert_eq!(Some(signature), theirs.get(name), "{name}");
     }
     assert_eq!(ours.len(), theirs.len());
+}
+
+#[test]
+fn the_longest_list_is_that_of_the_proved_crate() {
+    let line = format!("pub const FRAMES: usize = {FRAMES};");
+    assert!(proved("figures/src/frames.rt").contains(&line), "the proved crate lacks: {line}");
 }

@@ -1,7 +1,7 @@
 //! Every field of the core has the value that document 01 gives it: a field that the two sides place differently is seen.
 use super::{bench, counted, done, queues, Queues, CLK_CONF, FIFO, INT_ENA, STATUS};
-use crate::plain::{Cursor, PlainCore, PlainDate, RegisterMap, Words};
-use crate::{Notice, Uart, BUFFER};
+use crate::plain::{Cursor, PlainCore, PlainDate, PlainFigures, RegisterMap, Words};
+use crate::{calls, Notice, Uart, BUFFER};
 
 const NONE: PlainDate = PlainDate { set: false, at: 0 };
 
@@ -194,4 +194,29 @@ fn a_start_that_is_not_heard() {
     let core = counted(&uart);
     assert_eq!((core.on_the_line, core.heard, core.byte, core.line_free_at), (true, false, 6, 13_440));
     assert_eq!(uart.host_pending(), Ok(1));
+}
+
+/// No two figures of the four frames are the same. One frame has no place, and a refusal nothing but its number.
+#[test]
+fn figures() {
+    let none = PlainFigures {
+        number: 9,
+        placed: false,
+        busy: 0,
+        shortest: 0,
+        longest: 0,
+        quiet: 0,
+        at: 0,
+        mean: 0,
+        remainder: 0,
+    };
+    let (starts, ends) = ([3, 20, 60, 92], [10, 41, 72, 97]);
+    let one = PlainFigures { number: 0, busy: 7, shortest: 7, longest: 7, mean: 7, ..none };
+    assert_eq!(calls::figures(&starts[..1], &ends[..1]), one);
+    let four = PlainFigures { busy: 45, shortest: 5, longest: 21, mean: 11, remainder: 1, ..one };
+    assert_eq!(calls::figures(&starts, &ends), PlainFigures { placed: true, quiet: 20, at: 2, ..four });
+    assert_eq!(calls::figures(&starts, &ends[..3]), none);
+    assert_eq!(calls::figures(&starts[..3], &ends), none);
+    assert_eq!(calls::figures(&ends, &starts), none);
+    assert_eq!(calls::figures(&[], &[]), PlainFigures { number: 0, ..none });
 }

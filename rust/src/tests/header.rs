@@ -16,9 +16,11 @@ fn in_c(name: &str, of: &str) -> String {
         "PlainAnswer" => "struct wondraxu_answer ",
         "PlainRowAnswer" => "struct wondraxu_row_answer ",
         "PlainReply" => "struct wondraxu_reply ",
+        "PlainFigures" => "struct wondraxu_line_figures ",
         "PlainNew" => "struct wondraxu_set_up ",
         "Sixteen" => "struct wondraxu_sixteen ",
         "*const u8" => "const uint8_t *",
+        "*const u64" => "const uint64_t *",
         "*mut u8" => "uint8_t *",
         _ if of.starts_with("&mut [") => array(&of[5..]),
         _ if of.starts_with("&[") => return format!("const {}{name}", array(&of[1..])),
@@ -59,12 +61,13 @@ fn the_header_has_the_same_lengths() {
     for (name, length) in lengths {
         has(&format!("#define WONDRAXU_{name} {length} "));
     }
+    has(&format!("#define WONDRAXU_FRAMES {}\n", crate::FRAMES));
 }
 
 /// The names of the numbers, of the notices and of the modes, each with its number as the crate has it.
 #[test]
 fn the_header_has_the_same_numbers() {
-    for number in 1..=8 {
+    for number in 1..=9 {
         let refusal = Refusal::of(number).expect_err("a number above 0 is a refusal");
         has(&format!("    WONDRAXU_{} = {number}", upper(&format!("{refusal:?}"))));
     }

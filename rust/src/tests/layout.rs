@@ -1,6 +1,6 @@
 //! Sizes and offsets as Rust has them, in the form of rust/c/layout.c: both are held to rust/c/layout.out.
 use crate::plain::{
-    Cursor, PlainAnswer, PlainCore, PlainDate, PlainNew, PlainNotice, PlainReply, PlainReport, PlainRow,
+    Cursor, PlainAnswer, PlainCore, PlainDate, PlainFigures, PlainNew, PlainNotice, PlainReply, PlainReport, PlainRow,
     PlainRowAnswer, RegisterMap, Sixteen, Slots, Words,
 };
 use crate::Uart;
@@ -32,6 +32,7 @@ fn placed() -> String {
         lines!("report", PlainReport { level, wake, overflows, passes, noted, notices }),
         lines!("answer", PlainAnswer { core, reply, report }),
         lines!("row_answer", PlainRowAnswer { core, reply, report }),
+        lines!("line_figures", PlainFigures { number, placed, busy, shortest, longest, quiet, at, mean, remainder }),
         lines!("sixteen", Sixteen { words }),
         lines!("set_up", PlainNew { core, reply }),
         lines!("slots", Slots { gone_at, flight, tx, host, run_at, run_len, rx }),

@@ -1,6 +1,7 @@
 //! What the compiler cannot see: that the two sides place each field alike, and that `Uart` keeps what the calls give.
 mod declared;
 mod fields;
+mod figures;
 mod header;
 mod layout;
 mod notices;

@@ -25,11 +25,11 @@ fn refuses<T: Debug>(uart: &mut Uart, why: Refusal, call: impl FnOnce(&mut Uart)
 }
 
 #[test]
-fn numbers_are_those_of_document_01() {
+fn numbers_are_those_of_the_papers() {
     use Refusal::*;
-    let all =
+    let of_a_uart =
         [RepeatedOffset, DatePastEnd, DateWentBack, TransmitFull, HostFull, RunsFull, PeriodTooLong, BufferTooShort];
-    for (number, refusal) in (1..).zip(all) {
+    for (number, refusal) in (1..).zip(of_a_uart.into_iter().chain([UnfitList])) {
         assert_eq!(refusal.number(), number);
         assert_eq!(Refusal::of(u32::from(number)), Err(refusal));
         assert!(!refusal.to_string().is_empty());

@@ -1,11 +1,12 @@
 //! How much stack a call takes, measured: the stack below the caller is painted, the call is made, and the lowest byte that it
-//! changed is looked for. A line for each method of `wondraxu::Uart`: the most over a UART with nothing due and a busy one.
+//! changed is looked for. A line for each method of `wondraxu::Uart`: the most over a UART with nothing due and a busy one. Another
+//! for `figures`, of the longest list.
 #[allow(dead_code)]
 #[path = "../side.rs"]
 mod side;
 use std::arch::asm;
 use std::hint::black_box;
-use wondraxu::{BUFFER, Uart};
+use wondraxu::{BUFFER, FRAMES, Uart, figures};
 
 /// How far below the caller the stack is painted, in bytes.
 const PAINTED: usize = 32 * 1024;
@@ -16,7 +17,7 @@ const LATER: u64 = 1_000_000;
 
 type Method = fn(&mut Uart, &mut [u8], u64);
 
-const METHODS: [(&str, Method); 13] = [
+const METHODS: [(&str, Method); 14] = [
     ("read", |uart, _, now| every_offset(|offset| made(uart.read(now, offset)))),
     ("write", |uart, _, now| every_offset(|offset| made(uart.write(now, offset, 0x0849_C10C)))),
     ("write_row", |uart, out, now| made(uart.write_row(now, &out[..96]))),
@@ -30,6 +31,7 @@ const METHODS: [(&str, Method); 13] = [
     ("take_written", |uart, out, _| made(uart.take_written(out))),
     ("has_left", |uart, _, _| made(uart.has_left())),
     ("host_pending", |uart, _, _| made(uart.host_pending())),
+    ("figures", |_, _, _| made(figures(&[(0, 0); FRAMES]))),
 ];
 
 /// What a call answers is in memory, and goes nowhere.

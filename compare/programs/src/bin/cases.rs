@@ -1,4 +1,5 @@
-//! A trace as cases for the checker: each call beside the answer of the published Rust, as a claim that computes.
+//! A trace as cases for the checker: each call beside the answer of the published Rust, or each list of frames beside
+//! that of the box, as a claim that computes.
 use programs::usage;
 use std::io::{self, BufRead, Write};
 use uart_box::answers;
@@ -6,17 +7,21 @@ use uart_box::calls::{self, Call};
 use uart_box::session::Session;
 
 const USAGE: &str = "\
-usage: cases < TRACE > CASES
+usage: cases [--figures] < TRACE > CASES
 For each UART that the trace (docs/REPLAY.md) sets up: its calls with the answers of the published Rust, and the claim
-that the definition answers so. Lines that are no calls, and refused set-ups, are left out; a UART's calls end before
-the row that brings its rows above 250 writes. On standard error: how many calls there are, and how many of them are
-rows. compare/holds-definition runs it.
+that the definition answers so. Lines that are no calls, lists of frames and refused set-ups are left out; a UART's calls
+end before the row that brings its rows above 250 writes. On standard error: how many calls there are, and how many of
+them are rows. With --figures: for each list of frames the claim that the definition answers it as the box does, and
+nothing else. On standard error: how many lists there are, and how many of them are refused. compare/holds-definition
+runs it.
 ";
 
 /// The writes that the rows of one UART make at most: the checker needs much memory for them.
 const MOST_IN_ROWS: u64 = 250;
 const HEAD: &str = include_str!("../../../definition/cases.txt");
 const UNFOLDED: &str = include_str!("../../../definition/unfolded.txt");
+const FIGURES_HEAD: &str = include_str!("../../../definition/figures-cases.txt");
+const FIGURES_UNFOLDED: &str = include_str!("../../../definition/figures-unfolded.txt");
 /// The names of diag.rs's UartFeature in the order of the definition's numbers, from 30 on.
 const FEATURES: [&str; 11] = [
     "Loopback",
@@ -76,7 +81,7 @@ fn asked(call: &Call) -> Option<String> {
 /// A call as the definition writes it. A lent buffer holds the byte 165.
 fn request(call: &Call) -> Option<String> {
     Some(match call {
-        Call::Setup(_) | Call::WriteRow { .. } => return None,
+        Call::Setup(_) | Call::WriteRow { .. } | Call::Figures { .. } => return None,
         Call::Read { now, offset } => format!("Call.at {now} (Dated.read {offset})"),
         Call::Write { now, offset, value } => {
             format!("Call.at {now} (Dated.write (record {{ offset = {offset}; value = {value} }}))")
@@ -112,6 +117,11 @@ fn bytes_of(hex: &str) -> Vec<u64> {
 
 fn number(text: &str) -> u64 {
     text.parse().unwrap_or(u64::MAX)
+}
+
+/// 0 for none, and else one more than the number.
+fn or_none(text: &str) -> u64 {
+    if text == "-" { 0 } else { number(text) + 1 }
 }
 
 /// What stands after `name` in an answer's line.
@@ -153,8 +163,7 @@ fn result(call: &Call, line: &str) -> Vec<u64> {
 
 /// The numbers of what a dated call answers beside its own result.
 fn report(line: &str) -> Vec<u64> {
-    let wake = field(line, "wake=");
-    let wake = if wake == "-" { 0 } else { number(wake) + 1 };
+    let wake = or_none(field(line, "wake="));
     let rest = ["overflows=", "passes="].map(|name| number(field(line, name)));
     let notices: Vec<u64> = notices(line).into_iter().map(|(notice, _)| notice).collect();
     [vec![number(field(line, "level=")), wake, rest[0], rest[1], notices.len() as u64], notices].concat()
@@ -174,31 +183,48 @@ fn numbers(call: &Call, line: &str) -> Vec<u64> {
     [vec![0], result(call, line), report].concat()
 }
 
-fn parts(input: impl BufRead) -> io::Result<Vec<Part>> {
+/// The numbers of a list's figures, in the order of compare/definition/figures-numbers.txt.
+fn figures(line: &str) -> Vec<u64> {
+    if !line.starts_with("0 ") {
+        return vec![number(line)];
+    }
+    let of = |name| number(field(line, name));
+    let times = ["busy=", "shortest=", "longest=", "quiet="].map(of);
+    [&[0], &times[..], &[or_none(field(line, "at=")), of("mean="), of("remainder=")]].concat()
+}
+
+/// The calls of a trace, each with its answer's line.
+fn answered(input: impl BufRead) -> io::Result<Vec<(Call, String)>> {
     let mut session = Session::default();
-    let mut parts: Vec<Part> = Vec::new();
+    let mut answered = Vec::new();
     for line in input.split(b'\n') {
         let Ok(Some(call)) = calls::parse(&line?) else { continue };
         let Some(answer) = session.call(&call) else { continue };
         let mut text = Vec::new();
         answers::put(&mut text, &answer);
-        let text = String::from_utf8_lossy(&text).trim_end().to_owned();
-        if let Call::Setup(setup) = &call {
+        answered.push((call, String::from_utf8_lossy(&text).trim_end().to_owned()));
+    }
+    Ok(answered)
+}
+
+fn parts(answered: &[(Call, String)]) -> Vec<Part> {
+    let mut parts: Vec<Part> = Vec::new();
+    for (call, text) in answered {
+        if let Call::Setup(setup) = call {
             if text == "0" {
                 let set_up = format!("(new {} {})", list(setup.offsets.iter()), list(setup.reset_words.iter()));
                 parts.push(Part { set_up, cases: Vec::new(), rows: 0, in_rows: 0 });
             }
         } else if let Some(part) = parts.last_mut() {
-            part.add(&call, &text);
+            part.add(call, text);
         }
     }
     parts.retain(|part| !part.cases.is_empty());
-    Ok(parts)
+    parts
 }
 
-fn run() -> io::Result<()> {
-    let parts = parts(io::stdin().lock())?;
-    let mut out = io::stdout().lock();
+fn put_calls(out: &mut impl Write, answered: &[(Call, String)]) -> io::Result<()> {
+    let parts = parts(answered);
     write!(out, "{HEAD}")?;
     for (at, part) in parts.iter().enumerate() {
         let (cases, count) = (part.cases.join("\n    ∷ "), part.cases.len());
@@ -207,17 +233,48 @@ fn run() -> io::Result<()> {
         writeln!(out, "unfolding calls{at} {}", UNFOLDED.trim_end())?;
         writeln!(out, "equal{at} = refl")?;
     }
-    out.flush()?;
     let total: usize = parts.iter().map(|part| part.cases.len()).sum();
     eprintln!("{total} {}", parts.iter().map(|part| part.rows).sum::<usize>());
     Ok(())
 }
 
-fn main() {
-    if let Some(word) = usage::words(USAGE).first() {
-        usage::bad("cases", &format!("no word is taken: {word}"), USAGE);
+fn put_lists(out: &mut impl Write, answered: &[(Call, String)]) -> io::Result<()> {
+    let (mut lists, mut refused) = (0, 0);
+    write!(out, "{FIGURES_HEAD}")?;
+    for (call, text) in answered {
+        let Call::Figures { frames } = call else { continue };
+        let starts = list(frames.iter().map(|frame| frame.start));
+        let ends = list(frames.iter().map(|frame| frame.end));
+        let wanted = figures(text);
+        writeln!(out, "\nequal{lists} : figuresNumbers (figuresOf {starts} {ends}) ≡ {}", list(wanted.iter()))?;
+        writeln!(out, "unfolding {}", FIGURES_UNFOLDED.trim_end())?;
+        writeln!(out, "equal{lists} = refl")?;
+        lists += 1;
+        refused += usize::from(wanted[0] != 0);
     }
-    if let Err(error) = run() {
+    eprintln!("{lists} {refused}");
+    Ok(())
+}
+
+fn run(of_figures: bool) -> io::Result<()> {
+    let answered = answered(io::stdin().lock())?;
+    let mut out = io::stdout().lock();
+    if of_figures {
+        put_lists(&mut out, &answered)?;
+    } else {
+        put_calls(&mut out, &answered)?;
+    }
+    out.flush()
+}
+
+fn main() {
+    let words = usage::words(USAGE);
+    let of_figures = match words.iter().map(String::as_str).collect::<Vec<_>>()[..] {
+        [] => false,
+        ["--figures"] => true,
+        _ => usage::bad("cases", &format!("no such words: {}", words.join(" ")), USAGE),
+    };
+    if let Err(error) = run(of_figures) {
         usage::fail("cases", &error.to_string());
     }
 }

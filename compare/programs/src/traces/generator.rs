@@ -8,6 +8,8 @@ use uart_box::the_box::{Answer, Sight};
 /// The lines so far, and the UART as they leave it.
 pub struct Generator {
     pub random: Random,
+    /// For lists of frames alone: the other calls of a trace do not depend on them.
+    pub frame_random: Random,
     session: Session,
     text: Vec<u8>,
     calls: u64,
@@ -20,6 +22,7 @@ impl Generator {
     pub fn new(seed: u64, calls: u64, name: &str) -> Generator {
         Generator {
             random: Random::new(seed, name),
+            frame_random: Random::new(seed, &format!("{name}, frames")),
             session: Session::default(),
             text: Vec::new(),
             calls: 0,

@@ -1,6 +1,7 @@
 //! Random traces that aim: each profile brings the UART to a kind of edge and asks around it.
 mod dates;
 mod every_cycle;
+mod figures;
 mod fills;
 mod generator;
 mod numbers;

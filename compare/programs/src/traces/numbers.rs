@@ -1,4 +1,4 @@
-//! Every number of document 01 on both sides of its limit, and in pairs for the order of the tests.
+//! Every number on both sides of its limit, and in pairs for the order of the tests.
 use super::generator::Generator;
 use super::registers::{self, *};
 use super::steps::EVEN;
@@ -19,6 +19,7 @@ impl Generator {
         for _ in 0..12 {
             let now = self.any_date();
             self.refusable(now);
+            self.figures_in(3);
             if self.random.chance(30) {
                 self.step(&EVEN);
             }

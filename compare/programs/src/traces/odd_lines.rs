@@ -1,7 +1,7 @@
 //! Lines that are no calls, lines that are passed over, and calls in unusual but right writing.
 use super::generator::Generator;
 use super::steps::EVEN;
-use uart_box::calls::Call;
+use uart_box::calls::{Call, LONGEST_LINE};
 
 const WRONG: [&str; 52] = [
     "red 1 2",
@@ -74,6 +74,7 @@ impl Generator {
             165..=180 => self.line(b"read\t1 2"),
             _ => self.line(b"wake 1\r"),
         }
+        self.figures_in(5);
         self.step(&EVEN);
     }
 
@@ -99,24 +100,26 @@ impl Generator {
         self.line(line.as_bytes());
     }
 
-    /// A line of 16,383 to 16,385 bytes: a call, a row as long, a comment or spaces.
+    /// A line of 65,535 to 65,537 bytes: a call, a row or a hand-over as long, a comment or spaces; then, perhaps, frames.
     fn long_line(&mut self) {
-        let length = 16_383 + self.random.below(3) as usize;
+        let length = LONGEST_LINE - 1 + self.random.below(3) as usize;
         let now = self.date();
-        let start = match self.random.below(4) {
+        let start = match self.random.below(5) {
             0 => format!("read {now} {}", self.offsets[1]),
             1 => "# long".to_owned(),
-            2 => self.long_row(now, length),
+            2 => Call::WriteRow { now, bytes: self.filling(length, &format!("write_row {now} ")) }.line(),
+            3 => Call::Receive { now, at: now, bytes: self.filling(length, &format!("receive {now} {now} ")) }.line(),
             _ => String::new(),
         };
-        let line = format!("{start}{}", " ".repeat(length - start.len()));
+        let line = start.clone() + &" ".repeat(length - start.len());
         self.line(line.as_bytes());
+        if self.frame_random.chance(50) {
+            self.long_figures();
+        }
     }
 
-    /// As many bytes as fit into a line of `length`.
-    fn long_row(&mut self, now: u64, length: usize) -> String {
-        let start = format!("write_row {now} ");
-        let bytes = self.random.bytes((length - start.len()) / 2);
-        Call::WriteRow { now, bytes }.line()
+    /// As many bytes as fit after `start` into a line of `length`.
+    fn filling(&mut self, length: usize, start: &str) -> Vec<u8> {
+        self.random.bytes((length - start.len()) / 2)
     }
 }

@@ -17,7 +17,7 @@ pub struct Profile {
     scenes: u64,
 }
 
-pub const PROFILES: [Profile; 17] = [
+pub const PROFILES: [Profile; 18] = [
     Profile {
         name: "mixed",
         aim: "all calls, dates on and around each instant",
@@ -125,6 +125,13 @@ pub const PROFILES: [Profile; 17] = [
         scene: Generator::odd_line,
         scenes: 40,
     },
+    Profile {
+        name: "figures",
+        aim: "lists of none to 1,100 frames, touching, empty, of 64 bits, with equal stretches, refused",
+        begin: perhaps,
+        scene: Generator::figures,
+        scenes: 40,
+    },
 ];
 
 /// The profile of that name.
@@ -149,6 +156,13 @@ impl Profile {
 }
 
 fn nothing(_: &mut Generator) {}
+
+/// A UART or none: `figures` needs none.
+fn perhaps(g: &mut Generator) {
+    if g.random.chance(60) {
+        g.set_up_bench();
+    }
+}
 
 fn bench(g: &mut Generator) {
     g.set_up_bench();
@@ -200,6 +214,7 @@ fn other_map(g: &mut Generator) {
 }
 
 fn mixed(g: &mut Generator) {
+    g.figures_in(2);
     match g.random.below(300) {
         0 => g.fill_receive_fifo(),
         1 => g.fill_in_flight(),

@@ -12,12 +12,12 @@ returns : tie.Need-returns
 unfolding entryText
 returns c =
     let start = c .before .before .before .before .before .before .before .before .before .before .before .before .before .before
-    .before in
+    .before .before in
     let a = start .args in
     let name = c .before .before .before .before .before .before .before .before .before .before .before .put-name .ensures in
     puts-both _ _ _ _ _ _ _ _
     (puts-both _ _ _ _ _ _ _ _
-    (λ _. put-same _ _ _ _ _ _ (ap letters (sym (name-kept (a .map) (a .all) (a .last) (a .bytes .now) (a .name)))) name)
+    (λ _. put-same _ _ _ _ _ _ (ap letters (sym (name-kept (a .map) (a .all) (a .last) (a .bytes .now) (a .s .now) (a .name)))) name)
     (c .before .before .before .before .before .before .before .put-words .ensures))
     (λ _. c .before .before .put .ensures) (start .pre .1)
 

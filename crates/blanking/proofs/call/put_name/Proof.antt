@@ -1,5 +1,5 @@
 -- `call::put_name` meets its contract. Assumes nothing.
-use mathlib.Core.Path.{ap, sym}
+use mathlib.Core.Path.{refl, ap, sym}
 use Rattle.trace.specs.Names.{letters}
 use Rattle.blanking.specs.Puts.{put-same}
 use borrow.Author.Needs.{needs}
@@ -76,19 +76,22 @@ returns-14 c =
     put-same _ _ _ _ _ _ (ap letters (sym (c .before .before .before .before .before .enum-told14 .given .1)))
     (c .before .before .put14 .ensures)
 
+returns-15 : tie.Need-returns-15
+returns-15 c =
+    put-same _ _ _ _ _ _ (ap letters (sym (c .before .before .before .before .before .enum-told15 .given .1)))
+    (c .before .before .put15 .ensures)
+
 pub put-name-spec : {M : Type 1} → statement M
 put-name-spec =
-    tie.close (tie.spec (λ c. search needs) (λ c. search needs) (λ c κs. search needs) (λ c. search needs)
-    (λ c. search needs) (λ c κs. search needs) (λ c. search needs) (λ c. search needs) (λ c κs. search needs)
-    (λ c. search needs) (λ c. search needs) (λ c κs. search needs) (λ c. search needs) (λ c. search needs)
-    (λ c κs. search needs) (λ c. search needs) (λ c. search needs) (λ c κs. search needs) (λ c. search needs)
-    (λ c. search needs) (λ c κs. search needs) (λ c. search needs) (λ c. search needs) (λ c κs. search needs)
-    (λ c. search needs) (λ c. search needs) (λ c κs. search needs) (λ c. search needs) (λ c. search needs)
-    (λ c κs. search needs) (λ c. search needs) (λ c. search needs) (λ c κs. search needs) (λ c. search needs)
-    (λ c. search needs) (λ c κs. search needs) (λ c. search needs) (λ c. search needs) (λ c κs. search needs)
-    (λ c. search needs) (λ c. search needs) (λ c κs. search needs)
-    (λ c. search needs) returns (λ c. search needs) returns-2 (λ c. search needs) returns-3 (λ c. search needs)
-    returns-4 (λ c. search needs) returns-5 (λ c. search needs) returns-6 (λ c. search needs) returns-7
-    (λ c. search needs) returns-8 (λ c. search needs) returns-9 (λ c. search needs) returns-10 (λ c. search needs)
-    returns-11 (λ c. search needs) returns-12 (λ c. search needs) returns-13
-    (λ c. search needs) returns-14)
+    tie.close (tie.spec (λ c. c .match .keys1) (λ c. refl) (λ c κs. tt) (λ c. c .match .keys2) (λ c. refl)
+    (λ c κs. tt) (λ c. c .match .keys3) (λ c. refl) (λ c κs. tt) (λ c. c .match .keys4) (λ c. refl) (λ c κs. tt)
+    (λ c. c .match .keys5) (λ c. refl) (λ c κs. tt) (λ c. c .match .keys6) (λ c. refl) (λ c κs. tt)
+    (λ c. c .match .keys7) (λ c. refl) (λ c κs. tt) (λ c. c .match .keys8) (λ c. refl) (λ c κs. tt)
+    (λ c. c .match .keys9) (λ c. refl) (λ c κs. tt) (λ c. c .match .keys10) (λ c. refl) (λ c κs. tt)
+    (λ c. c .match .keys11) (λ c. refl) (λ c κs. tt) (λ c. c .match .keys12) (λ c. refl) (λ c κs. tt)
+    (λ c. c .match .keys13) (λ c. refl) (λ c κs. tt) (λ c. c .match .keys14) (λ c. refl) (λ c κs. tt)
+    (λ c. c .match .keys15) (λ c. refl) (λ c κs. tt) (λ c. search needs) returns (λ c. search needs) returns-2
+    (λ c. search needs) returns-3 (λ c. search needs) returns-4 (λ c. search needs) returns-5 (λ c. search needs)
+    returns-6 (λ c. search needs) returns-7 (λ c. search needs) returns-8 (λ c. search needs) returns-9
+    (λ c. search needs) returns-10 (λ c. search needs) returns-11 (λ c. search needs) returns-12
+    (λ c. search needs) returns-13 (λ c. search needs) returns-14 (λ c. search needs) returns-15)

@@ -11,7 +11,7 @@ returns : tie.Need-returns
 returns c =
     let count = c .before .before .before .before .before .before .before .args .count in
     let room = c .before .before .before .before .before .before .before .pre in
-    put-same _ _ _ _ _ _ (ap hexText (zeros-front 8192 count room)) (c .before .before .put-bytes .ensures)
+    put-same _ _ _ _ _ _ (ap hexText (zeros-front 32768 count room)) (c .before .before .put-bytes .ensures)
 
 pub put-zeros-spec : {M : Type 1} → statement M
 put-zeros-spec =

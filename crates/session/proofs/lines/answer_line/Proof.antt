@@ -74,9 +74,9 @@ returns-4 c =
     let kept = got .1 .1 ∙ bytes-as (a .input) (a .line .now) (a .bytes .now) d short count in
     let name = c .before .before .before .before .before .before .before .read2 .given .0 .0 in
     let last = c .before .before .before .before .before .before .before .read2 .given .0 .1 .0 in
-    let cmd = commandOf name (numbersIn s) last (bytesAfter s (a .bytes .now)) in
+    let cmd = commandOf name (numbersIn s) last (bytesAfter s (a .bytes .now)) s in
     let u = meaning (a .session .uart) in (
-      gives-as (ap₂ (λ (ns : List ℕ) (bs : List ℕ). carriedOut (commandOf name ns last bs) [] (some u)) (got .1 .0) (got .1 .1)
+      gives-as (ap₂ (λ (ns : List ℕ) (bs : List ℕ). carriedOut (commandOf name ns last bs s) [] (some u)) (got .1 .0) (got .1 .1)
           ∙ carried-any cmd [] (noUart s) u
           ∙ ap (carriedOut cmd (noUart s)) (sym (is-ready (a .session) (c .before .before .before .before .before .if2 .taken)))
           ∙ same)
@@ -98,8 +98,8 @@ returns-5 c =
     let kept = got .1 .1 ∙ bytes-as (a .input) (a .line .now) (a .bytes .now) d short count in
     let name = c .before .before .before .before .before .before .read2 .given .0 .0 in
     let last = c .before .before .before .before .before .before .read2 .given .0 .1 .0 in
-    let cmd = commandOf name (numbersIn s) last (bytesAfter s (a .bytes .now)) in (
-      gives-as (ap (λ (ns : List ℕ). carriedOut (commandOf name ns last (bytesAfter s (a .bytes .now))) (noUart s) none) (got .1 .0)
+    let cmd = commandOf name (numbersIn s) last (bytesAfter s (a .bytes .now)) s in (
+      gives-as (ap (λ (ns : List ℕ). carriedOut (commandOf name ns last (bytesAfter s (a .bytes .now)) s) (noUart s) none) (got .1 .0)
           ∙ ap (carriedOut cmd (noUart s)) (sym (not-ready (a .session) (c .before .before .before .before .if2 .left)))
           ∙ same)
           (c .before .before .first-call .ensures last (bytesAfter s (a .bytes .now))),

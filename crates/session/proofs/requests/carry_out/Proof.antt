@@ -12,29 +12,30 @@ use Rattle.model.specs.Call.{Machine, Dated, Call, Asked, reads, writes, does, 
 use Rattle.model.specs.Laws.StepCases.{step-cases}
 use Rattle.uart.specs.Whole.{meaning}
 use Rattle.answers.specs.Replies.{readText, writeText, rowText, doneText}
-use Rattle.session.specs.Requests.{commandOf, setsUp, calls, carriedOut}
-use Rattle.session.specs.Answers.{call-asked, row-asked, gives, said, gives-as, is-ready}
+use Rattle.trace.specs.Pairs.{firstsIn, secondsIn}
+use Rattle.session.specs.Requests.{setsUp, calls, tells}
+use Rattle.session.specs.Answers.{call-asked, row-asked, gives, said, gives-as, told-as, is-ready}
 use Rattle.session.proofs.requests.carry_out.Statement.{statement}
 use Rattle.session.proofs.requests.carry_out.Tie as tie
 
 returns : tie.Need-returns
 returns c =
     let far = c .before .before .before .before .before .before in
-    let a = far .before .before .before .args in
+    let a = far .before .before .before .before .args in
     gives-as (ap (setsUp (take 16 (map lowOf (drop 0 (a .t3)))) (take 16 (map lowOf (drop 16 (a .t3))))) (is-ready (a .session)
-    (far .before .before .before .pre .1 .0))
-    ∙ sym (ap (λ (n : Name). carriedOut (commandOf n (a .t3) (a .last) (a .bytes .now)) [] (some (meaning (a .session .uart))))
-    (c .before .before .before .before .enum-told .given .1)))
+    (far .before .before .before .before .pre .1 .0))
+    ∙ told-as (a .t3) (a .last) (a .bytes .now) (a .s .now) (meaning (a .session .uart))
+    (c .before .before .before .before .enum-told .given .1))
     (c .before .before .set-up .ensures)
 
 returns-2 : tie.Need-returns-2
 returns-2 c =
     let far = c .before .before .before .before .before .before .before .before in
-    let a = far .before .before .before .args in
+    let a = far .before .before .before .before .args in
     gives-as (ap (λ (k : ℕ). calls (Asked.call (Call.at (getD (a .t3) 0 0) (Dated.read k))) [] (some (meaning (a .session .uart))))
     (c .before .before .before .before .before .low .ensures)
-    ∙ sym (ap (λ (n : Name). carriedOut (commandOf n (a .t3) (a .last) (a .bytes .now)) [] (some (meaning (a .session .uart))))
-    (c .before .before .before .before .before .before .enum-told2 .given .1)))
+    ∙ told-as (a .t3) (a .last) (a .bytes .now) (a .s .now) (meaning (a .session .uart))
+    (c .before .before .before .before .before .before .enum-told2 .given .1))
     (gives (c .before .before .before .before .read .ensures) (Asked.call (Call.at (getD (a .t3) 0 0)
     (Dated.read (c .before .before .before .before .before .low .result)))) reads
     (call-asked _ _ ∙ step-cases _ .read _ _) (said (c .before .before .before .before .read .ensures)
@@ -43,12 +44,12 @@ returns-2 c =
 returns-3 : tie.Need-returns-3
 returns-3 c =
     let far = c .before .before .before .before .before .before .before .before .before in
-    let a = far .before .before .before .args in
+    let a = far .before .before .before .before .args in
     gives-as (ap₂ (λ (o : ℕ) (v : ℕ). calls (Asked.call (Call.at (getD (a .t3) 0 0) (Dated.write (record { offset = o; value = v })))) []
     (some (meaning (a .session .uart)))) (c .before .before .before .before .before .before .low2 .ensures)
     (c .before .before .before .before .before .low3 .ensures)
-    ∙ sym (ap (λ (n : Name). carriedOut (commandOf n (a .t3) (a .last) (a .bytes .now)) [] (some (meaning (a .session .uart))))
-    (c .before .before .before .before .before .before .before .enum-told3 .given .1)))
+    ∙ told-as (a .t3) (a .last) (a .bytes .now) (a .s .now) (meaning (a .session .uart))
+    (c .before .before .before .before .before .before .before .enum-told3 .given .1))
     (gives (c .before .before .before .before .write .ensures) (Asked.call (Call.at (getD (a .t3) 0 0)
     (Dated.write (record {
       offset = c .before .before .before .before .before .before .low2 .result;
@@ -60,11 +61,11 @@ returns-3 c =
 returns-4 : tie.Need-returns-4
 returns-4 c =
     let far = c .before .before .before .before .before .before .before .before in
-    let a = far .before .before .before .args in
+    let a = far .before .before .before .before .args in
     gives-as (ap (λ (l : List ℕ). calls (Asked.row (getD (a .t3) 0 0) l) [] (some (meaning (a .session .uart))))
     (c .before .before .before .before .before .front .ensures)
-    ∙ sym (ap (λ (n : Name). carriedOut (commandOf n (a .t3) (a .last) (a .bytes .now)) [] (some (meaning (a .session .uart))))
-    (c .before .before .before .before .before .before .enum-told4 .given .1)))
+    ∙ told-as (a .t3) (a .last) (a .bytes .now) (a .s .now) (meaning (a .session .uart))
+    (c .before .before .before .before .before .before .enum-told4 .given .1))
     (gives (c .before .before .before .before .write-row .ensures) (Asked.row (getD (a .t3) 0 0)
     (c .before .before .before .before .before .front .result .now)) rows
     (row-asked _ _ _) (said (c .before .before .before .before .write-row .ensures)
@@ -73,11 +74,11 @@ returns-4 c =
 returns-5 : tie.Need-returns-5
 returns-5 c =
     let far = c .before .before .before .before .before .before .before .before in
-    let a = far .before .before .before .args in
+    let a = far .before .before .before .before .args in
     gives-as (ap (λ (l : List ℕ). calls (Asked.call (Call.at (getD (a .t3) 0 0) (Dated.receive (getD (a .t3) 1 0) l))) []
     (some (meaning (a .session .uart)))) (c .before .before .before .before .before .front2 .ensures)
-    ∙ sym (ap (λ (n : Name). carriedOut (commandOf n (a .t3) (a .last) (a .bytes .now)) [] (some (meaning (a .session .uart))))
-    (c .before .before .before .before .before .before .enum-told5 .given .1)))
+    ∙ told-as (a .t3) (a .last) (a .bytes .now) (a .s .now) (meaning (a .session .uart))
+    (c .before .before .before .before .before .before .enum-told5 .given .1))
     (gives (c .before .before .before .before .receive .ensures) (Asked.call (Call.at (getD (a .t3) 0 0)
     (Dated.receive (getD (a .t3) 1 0) (c .before .before .before .before .before .front2 .result .now)))) does
     (call-asked _ _ ∙ step-cases _ .receive _ _ _) (said (c .before .before .before .before .receive .ensures)
@@ -86,9 +87,9 @@ returns-5 c =
 returns-6 : tie.Need-returns-6
 returns-6 c =
     let far = c .before .before .before .before .before .before .before in
-    let a = far .before .before .before .args in
-    gives-as (sym (ap (λ (n : Name). carriedOut (commandOf n (a .t3) (a .last) (a .bytes .now)) [] (some (meaning (a .session .uart))))
-    (c .before .before .before .before .before .enum-told6 .given .1)))
+    let a = far .before .before .before .before .args in
+    gives-as (told-as (a .t3) (a .last) (a .bytes .now) (a .s .now) (meaning (a .session .uart))
+    (c .before .before .before .before .before .enum-told6 .given .1))
     (gives (c .before .before .before .before .wake .ensures) (Asked.call (Call.at (getD (a .t3) 0 0) (Dated.machine Machine.wake))) does
     (call-asked _ _ ∙ step-cases _ .machine _ _)
     (said (c .before .before .before .before .wake .ensures) doneText) (c .before .before .after-done2 .ensures))
@@ -96,9 +97,9 @@ returns-6 c =
 returns-7 : tie.Need-returns-7
 returns-7 c =
     let far = c .before .before .before .before .before .before .before in
-    let a = far .before .before .before .args in
-    gives-as (sym (ap (λ (n : Name). carriedOut (commandOf n (a .t3) (a .last) (a .bytes .now)) [] (some (meaning (a .session .uart))))
-    (c .before .before .before .before .before .enum-told7 .given .1)))
+    let a = far .before .before .before .before .args in
+    gives-as (told-as (a .t3) (a .last) (a .bytes .now) (a .s .now) (meaning (a .session .uart))
+    (c .before .before .before .before .before .enum-told7 .given .1))
     (gives (c .before .before .before .before .watch .ensures)
     (Asked.call (Call.at (getD (a .t3) 0 0) (Dated.machine (Machine.watch (eqb (a .last) 1))))) does
     (call-asked _ _ ∙ step-cases _ .machine _ _)
@@ -107,19 +108,20 @@ returns-7 c =
 returns-8 : tie.Need-returns-8
 returns-8 c =
     let far = c .before .before .before .before .before .before .before in
-    let a = far .before .before .before .args in
-    gives-as (sym (ap (λ (n : Name). carriedOut (commandOf n (a .t3) (a .last) (a .bytes .now)) [] (some (meaning (a .session .uart))))
-    (c .before .before .before .before .before .enum-told8 .given .1)))
-    (gives (c .before .before .before .before .reset .ensures) (Asked.call (Call.at (getD (a .t3) 0 0) (Dated.machine Machine.reset))) does
+    let a = far .before .before .before .before .args in
+    gives-as (told-as (a .t3) (a .last) (a .bytes .now) (a .s .now) (meaning (a .session .uart))
+    (c .before .before .before .before .before .enum-told8 .given .1))
+    (gives (c .before .before .before .before .reset .ensures) (Asked.call (Call.at (getD (a .t3) 0 0)
+    (Dated.machine Machine.reset))) does
     (call-asked _ _ ∙ step-cases _ .machine _ _)
     (said (c .before .before .before .before .reset .ensures) doneText) (c .before .before .after-done4 .ensures))
 
 returns-9 : tie.Need-returns-9
 returns-9 c =
     let far = c .before .before .before .before .before .before .before in
-    let a = far .before .before .before .args in
-    gives-as (sym (ap (λ (n : Name). carriedOut (commandOf n (a .t3) (a .last) (a .bytes .now)) [] (some (meaning (a .session .uart))))
-    (c .before .before .before .before .before .enum-told9 .given .1)))
+    let a = far .before .before .before .before .args in
+    gives-as (told-as (a .t3) (a .last) (a .bytes .now) (a .s .now) (meaning (a .session .uart))
+    (c .before .before .before .before .before .enum-told9 .given .1))
     (gives (c .before .before .before .before .power-down .ensures)
     (Asked.call (Call.at (getD (a .t3) 0 0) (Dated.machine Machine.powerDown))) does
     (call-asked _ _ ∙ step-cases _ .machine _ _)
@@ -128,9 +130,9 @@ returns-9 c =
 returns-10 : tie.Need-returns-10
 returns-10 c =
     let far = c .before .before .before .before .before .before .before in
-    let a = far .before .before .before .args in
-    gives-as (sym (ap (λ (n : Name). carriedOut (commandOf n (a .t3) (a .last) (a .bytes .now)) [] (some (meaning (a .session .uart))))
-    (c .before .before .before .before .before .enum-told10 .given .1)))
+    let a = far .before .before .before .before .args in
+    gives-as (told-as (a .t3) (a .last) (a .bytes .now) (a .s .now) (meaning (a .session .uart))
+    (c .before .before .before .before .before .enum-told10 .given .1))
     (gives (c .before .before .before .before .clock-change .ensures)
     (Asked.call (Call.at (getD (a .t3) 0 0) (Dated.machine (Machine.clockChange (getD (a .t3) 1 0))))) does
     (call-asked _ _ ∙ step-cases _ .machine _ _)
@@ -139,34 +141,44 @@ returns-10 c =
 returns-11 : tie.Need-returns-11
 returns-11 c =
     let far = c .before .before .before .before .before .before in
-    let a = far .before .before .before .args in
-    gives-as (sym (ap (λ (n : Name). carriedOut (commandOf n (a .t3) (a .last) (a .bytes .now)) [] (some (meaning (a .session .uart))))
-    (c .before .before .before .before .enum-told11 .given .1)))
+    let a = far .before .before .before .before .args in
+    gives-as (told-as (a .t3) (a .last) (a .bytes .now) (a .s .now) (meaning (a .session .uart))
+    (c .before .before .before .before .enum-told11 .given .1))
     (c .before .before .take-tx .ensures)
 
 returns-12 : tie.Need-returns-12
 returns-12 c =
     let far = c .before .before .before .before .before .before in
-    let a = far .before .before .before .args in
-    gives-as (sym (ap (λ (n : Name). carriedOut (commandOf n (a .t3) (a .last) (a .bytes .now)) [] (some (meaning (a .session .uart))))
-    (c .before .before .before .before .enum-told12 .given .1)))
+    let a = far .before .before .before .before .args in
+    gives-as (told-as (a .t3) (a .last) (a .bytes .now) (a .s .now) (meaning (a .session .uart))
+    (c .before .before .before .before .enum-told12 .given .1))
     (c .before .before .take-written .ensures)
 
 returns-13 : tie.Need-returns-13
 returns-13 c =
     let far = c .before .before .before .before .before .before in
-    let a = far .before .before .before .args in
-    gives-as (sym (ap (λ (n : Name). carriedOut (commandOf n (a .t3) (a .last) (a .bytes .now)) [] (some (meaning (a .session .uart))))
-    (c .before .before .before .before .enum-told13 .given .1)))
+    let a = far .before .before .before .before .args in
+    gives-as (told-as (a .t3) (a .last) (a .bytes .now) (a .s .now) (meaning (a .session .uart))
+    (c .before .before .before .before .enum-told13 .given .1))
     (c .before .before .has-left .ensures)
 
 returns-14 : tie.Need-returns-14
 returns-14 c =
     let far = c .before .before .before .before .before .before in
-    let a = far .before .before .before .args in
-    gives-as (sym (ap (λ (n : Name). carriedOut (commandOf n (a .t3) (a .last) (a .bytes .now)) [] (some (meaning (a .session .uart))))
-    (c .before .before .before .before .enum-told14 .given .1)))
+    let a = far .before .before .before .before .args in
+    gives-as (told-as (a .t3) (a .last) (a .bytes .now) (a .s .now) (meaning (a .session .uart))
+    (c .before .before .before .before .enum-told14 .given .1))
     (c .before .before .host-pending .ensures)
+
+returns-15 : tie.Need-returns-15
+returns-15 c =
+    let far = c .before .before .before .before .before .before in
+    let a = far .before .before .before .before .args in
+    gives-as (ap (tells (firstsIn (a .s .now)) (secondsIn (a .s .now))) (is-ready (a .session)
+    (far .before .before .before .before .pre .1 .0))
+    ∙ told-as (a .t3) (a .last) (a .bytes .now) (a .s .now) (meaning (a .session .uart))
+    (c .before .before .before .before .enum-told15 .given .1))
+    (c .before .before .line-figures .ensures)
 
 pub carry-out-spec : {M : Type 1} → statement M
 carry-out-spec =
@@ -179,8 +191,8 @@ carry-out-spec =
     (λ c κs. search needs) (λ c κs. search needs) (λ c. search needs) (λ c κs. search needs) (λ c κs. search needs)
     (λ c. search needs) (λ c κs. search needs) (λ c κs. search needs) (λ c. search needs) (λ c κs. search needs)
     (λ c. search needs) (λ c κs. search needs) (λ c. search needs) (λ c κs. search needs) (λ c. search needs)
-    (λ c κs. search needs) (λ c. search needs) returns (λ c. search needs) returns-2 (λ c. search needs) returns-3
-    (λ c. search needs) returns-4 (λ c. search needs) returns-5 (λ c. search needs) returns-6 (λ c. search needs)
-    returns-7 (λ c. search needs) returns-8 (λ c. search needs) returns-9 (λ c. search needs) returns-10
-    (λ c. search needs) returns-11 (λ c. search needs) returns-12 (λ c. search needs) returns-13 (λ c. search needs)
-    returns-14)
+    (λ c κs. search needs) (λ c. search needs) (λ c κs. search needs) (λ c. search needs) returns
+    (λ c. search needs) returns-2 (λ c. search needs) returns-3 (λ c. search needs) returns-4 (λ c. search needs)
+    returns-5 (λ c. search needs) returns-6 (λ c. search needs) returns-7 (λ c. search needs) returns-8
+    (λ c. search needs) returns-9 (λ c. search needs) returns-10 (λ c. search needs) returns-11 (λ c. search needs)
+    returns-12 (λ c. search needs) returns-13 (λ c. search needs) returns-14 (λ c. search needs) returns-15)

@@ -88,6 +88,12 @@ enum-told-14 c = c .match .keys14
 takes-requires-14 : tie.Need-takes-requires-14
 takes-requires-14 c κs = tt
 
+enum-told-15 : tie.Need-enum-told-15
+enum-told-15 c = c .match .keys15
+
+takes-requires-15 : tie.Need-takes-requires-15
+takes-requires-15 c κs = tt
+
 returns : tie.Need-returns
 unfolding formOf
 returns c = c .takes .ensures ∙ sym (ap formOf (c .before .enum-told .given .1))
@@ -144,11 +150,16 @@ returns-14 : tie.Need-returns-14
 unfolding formOf
 returns-14 c = c .takes14 .ensures ∙ sym (ap formOf (c .before .enum-told14 .given .1))
 
+returns-15 : tie.Need-returns-15
+unfolding formOf
+returns-15 c = c .takes15 .ensures ∙ sym (ap formOf (c .before .enum-told15 .given .1))
+
 pub form-of-spec : {M : Type 1} → statement M
 form-of-spec =
     tie.close (tie.spec enum-told takes-requires enum-told-2 takes-requires-2 enum-told-3 takes-requires-3 enum-told-4
     takes-requires-4 enum-told-5 takes-requires-5 enum-told-6 takes-requires-6 enum-told-7 takes-requires-7 enum-told-8
     takes-requires-8 enum-told-9 takes-requires-9 enum-told-10 takes-requires-10 enum-told-11 takes-requires-11
-    enum-told-12 takes-requires-12 enum-told-13 takes-requires-13 enum-told-14 takes-requires-14 returns returns-2
+    enum-told-12 takes-requires-12 enum-told-13 takes-requires-13 enum-told-14 takes-requires-14 enum-told-15
+    takes-requires-15 returns returns-2
     returns-3 returns-4 returns-5 returns-6 returns-7 returns-8 returns-9 returns-10 returns-11 returns-12 returns-13
-    returns-14)
+    returns-14 returns-15)

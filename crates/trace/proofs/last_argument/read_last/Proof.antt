@@ -30,6 +30,12 @@ enum-told-4 c = c .match .keys4
 read-hex-requires : tie.Need-read-hex-requires
 read-hex-requires c κs = tt
 
+enum-told-5 : tie.Need-enum-told-5
+enum-told-5 c = c .match .keys5
+
+count-pairs-requires : tie.Need-count-pairs-requires
+count-pairs-requires c κs = tt
+
 returns : tie.Need-returns
 returns c =
     let a = c .before .before .before .before .before .args in
@@ -65,7 +71,16 @@ returns-4 c =
       c .before .before .read-hex .ensures .1 ∙ sym (ap (kindKept (a .s .now) (a .at) (a .bytes .now)) last),
     )
 
+returns-5 : tie.Need-returns-5
+returns-5 c =
+    let a = c .before .before .before .before .before .before .args in
+    let last = sym (ap (λ (f : Form). f .last) (c .before .before .before .form-of .ensures)) ∙ c .before .enum-told5 .given .1 in (
+      c .count-pairs .ensures ∙ sym (ap (kindStep (length (a .bytes .now)) (a .s .now) (a .at)) last),
+      sym (ap (kindKept (a .s .now) (a .at) (a .bytes .now)) last),
+    )
+
 pub read-last-spec : {M : Type 1} → statement M
 read-last-spec =
     tie.close (tie.spec form-of-requires enum-told enum-told-2 read-bit-requires enum-told-3 read-one-requires
-    enum-told-4 read-hex-requires returns returns-2 returns-3 same-length returns-4)
+    enum-told-4 read-hex-requires enum-told-5 count-pairs-requires returns returns-2 returns-3 same-length returns-4
+    returns-5)

@@ -130,6 +130,15 @@ slice-aggregate-same-14 c = refl
 same-requires-14 : tie.Need-same-requires-14
 same-requires-14 c κs = tt
 
+enum-told-15 : tie.Need-enum-told-15
+enum-told-15 c = c .match .keys15
+
+slice-aggregate-same-15 : tie.Need-slice-aggregate-same-15
+slice-aggregate-same-15 c = refl
+
+same-requires-15 : tie.Need-same-requires-15
+same-requires-15 c κs = tt
+
 returns : tie.Need-returns
 returns c = is-spelled _ _ _ (c .before .before .enum-told .given .1) _ (c .same .ensures)
 
@@ -172,6 +181,9 @@ returns-13 c = is-spelled _ _ _ (c .before .before .enum-told13 .given .1) _ (c 
 returns-14 : tie.Need-returns-14
 returns-14 c = is-spelled _ _ _ (c .before .before .enum-told14 .given .1) _ (c .same14 .ensures)
 
+returns-15 : tie.Need-returns-15
+returns-15 c = is-spelled _ _ _ (c .before .before .enum-told15 .given .1) _ (c .same15 .ensures)
+
 pub is-name-spec : {M : Type 1} → statement M
 is-name-spec =
     tie.close (tie.spec enum-told slice-aggregate-same same-requires enum-told-2 slice-aggregate-same-2 same-requires-2
@@ -180,6 +192,7 @@ is-name-spec =
     slice-aggregate-same-7 same-requires-7 enum-told-8 slice-aggregate-same-8 same-requires-8 enum-told-9
     slice-aggregate-same-9 same-requires-9 enum-told-10 slice-aggregate-same-10 same-requires-10 enum-told-11
     slice-aggregate-same-11 same-requires-11 enum-told-12 slice-aggregate-same-12 same-requires-12 enum-told-13
-    slice-aggregate-same-13 same-requires-13 enum-told-14 slice-aggregate-same-14 same-requires-14 returns returns-2
+    slice-aggregate-same-13 same-requires-13 enum-told-14 slice-aggregate-same-14 same-requires-14 enum-told-15
+    slice-aggregate-same-15 same-requires-15 returns returns-2
     returns-3 returns-4 returns-5 returns-6 returns-7 returns-8 returns-9 returns-10 returns-11 returns-12 returns-13
-    returns-14)
+    returns-14 returns-15)

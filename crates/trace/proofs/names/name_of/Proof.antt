@@ -9,10 +9,10 @@ use Rattle.trace.proofs.names.name_of.Statement.{statement}
 use Rattle.trace.proofs.names.name_of.Tie as tie
 
 abbrev Inv-loop : tie.InvT-loop
-Inv-loop word i₀ i = (i ≤ 14) × (nameOf word ≡ named (drop i names) word)
+Inv-loop word i₀ i = (i ≤ 15) × (nameOf word ≡ named (drop i names) word)
 
 abbrev μ-loop : tie.MeasureT-loop
-μ-loop word i₀ i = 14 - i
+μ-loop word i₀ i = 15 - i
 
 loop-holds : tie.Need-loop-holds Inv-loop μ-loop
 loop-holds c = (omega arith, refl)
@@ -29,7 +29,7 @@ loop-again c =
 
 returns-2 : tie.Need-returns-2 Inv-loop μ-loop
 returns-2 c =
-    let e : c .before .loop .i ≡ 14 = omega arith in
+    let e : c .before .loop .i ≡ 15 = omega arith in
     is-past _ _ e ∙ sym (c .before .loop .inv .1)
 
 pub name-of-spec : {M : Type 1} → statement M
