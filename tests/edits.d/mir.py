@@ -335,13 +335,18 @@ class Inputs:
     def slice(self, kind):
         chance = self.chance
         if kind == ['tyInt', 8] and chance.random() < .6:
-            number = chance.choice(self.pool)
-            text = chance.choice(self.words + [b'%d' % number, b'0x%x' % number, b'0X%X' % number])
+            text = self.text()
             if text and chance.random() < .3:
                 at = chance.randrange(len(text))
                 text = text[:at] + bytes([chance.choice(self.pool) & 255])[:chance.randrange(2)] + text[at + 1:]
+            elif chance.random() < .3:  # a line of several words
+                text = b' '.join([text] + [self.text() for _ in range(chance.randint(1, 5))])
             return Array(text)
         return self.array(kind, chance.choice([n for n in self.pool if n < 2000]))
+
+    def text(self):
+        number = self.chance.choice(self.pool)
+        return self.chance.choice(self.words + [b'%d' % number, b'0x%x' % number, b'0X%X' % number])
 
 
 class Known:
