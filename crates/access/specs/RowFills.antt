@@ -19,9 +19,9 @@ use Rattle.model.specs.Registers.{Access, sent, dropped, sendByte}
 use Rattle.model.specs.Tests.{dateEnd, transmitFull}
 use Rattle.model.specs.Limits.{Within}
 use Rattle.model.specs.Laws.Choose.{choose-false}
-use Rattle.model.specs.Rows.Still.{Still}
-use Rattle.model.specs.Rows.Next
-use Rattle.model.specs.Rows.Next.{joined}
+use Rattle.theorems.specs.Rows.Still.{Still}
+use Rattle.theorems.specs.Rows.Next
+use Rattle.theorems.specs.Rows.Next.{joined}
 use Rattle.model.specs.declared.Date.{Date}
 use Rattle.model.specs.declared.Write.{Write}
 use Rattle.queue.specs.Cursors.{Held, backOf, pushed}

@@ -18,7 +18,7 @@ use Rattle.model.specs.Tests.{dateEnd, transmitFull, periodLimit}
 use Rattle.model.specs.Limits.{Within}
 use Rattle.model.specs.Row.{timesOf, writes, summed, rowLimit}
 use Rattle.model.specs.Calls.{Outcome}
-use Rattle.model.specs.Rows.Still.{Still}
+use Rattle.theorems.specs.Rows.Still.{Still}
 use Rattle.model.specs.declared.Refusal.{Refusal}
 use Rattle.model.specs.Replies.{noReport}
 use Rattle.model.specs.declared.Row.{Row}

@@ -21,8 +21,8 @@ use Rattle.model.specs.Limits.{Within}
 use Rattle.model.specs.Laws.Plans.{settleAt}
 use Rattle.model.specs.Laws.Choose.{choose-true, choose-false, choose-ind}
 use Rattle.model.specs.Keeps.Kept.{settle-keeps}
-use Rattle.model.specs.Rows.Still.{Still}
-use Rattle.model.specs.Rows.First.{LastAfter, send-still}
+use Rattle.theorems.specs.Rows.Still.{Still}
+use Rattle.theorems.specs.Rows.First.{LastAfter, send-still}
 use Rattle.model.specs.declared.Control.{Control}
 use Rattle.model.specs.declared.Date.{Date}
 use Rattle.model.specs.declared.Date.the-variants.{At}

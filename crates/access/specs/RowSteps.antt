@@ -24,10 +24,10 @@ use Rattle.model.specs.Laws.Plans.{settleAt}
 use Rattle.model.specs.Laws.Choose.{choose-true, choose-false}
 use Rattle.model.specs.Keeps.Kept.{settle-keeps}
 use Rattle.model.specs.Keeps.EachCall.{send-within}
-use Rattle.model.specs.Rows.Still.{Still}
-use Rattle.model.specs.Rows.Next
+use Rattle.theorems.specs.Rows.Still.{Still}
+use Rattle.theorems.specs.Rows.Next
 use Rattle.model.specs.Rows.Notices.{report-notes}
-use Rattle.model.specs.Rows.Next.{written-carried, written-dropped, written-next, next-still}
+use Rattle.theorems.specs.Rows.Next.{written-carried, written-dropped, written-next, next-still}
 use Rattle.model.specs.declared.Unsupported.{Unsupported}
 use Rattle.model.specs.declared.Unsupported.the-variants.{UartOverflow, UartClock}
 use Rattle.model.specs.declared.Words.{Words}

@@ -16,7 +16,7 @@ use Rattle.model.specs.Tests.{dateEnd, transmitFull}
 use Rattle.model.specs.Calls.{Outcome}
 use Rattle.model.specs.Row.{Count, countedAll, timesOf, writes, leftBy, summed, rowLimit}
 use Rattle.model.specs.Laws.Choose.{choose-true, choose-false}
-use Rattle.model.specs.Rows.Still.{Still}
+use Rattle.theorems.specs.Rows.Still.{Still}
 use Rattle.model.specs.Rows.Within.{full-writes}
 use Rattle.model.specs.declared.Row.{Row}
 use Rattle.model.specs.declared.Write.{Write}

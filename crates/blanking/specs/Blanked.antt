@@ -7,7 +7,7 @@ use Rattle.model.specs.Numbers.{choose, without}
 use Rattle.model.specs.Map.{registerOf}
 use Rattle.model.specs.SetUp.{fifoCounts}
 use Rattle.model.specs.Call.{Dated, Undated, Call, Written, Request, Asked, Ask}
-use Rattle.model.specs.TwoRuns.Unused.{takesWord}
+use Rattle.model.specs.Unused.{takesWord}
 use Rattle.figures.specs.declared.report.LineFigures.{LineFigures}
 
 -- every byte is replaced by 0

@@ -2,7 +2,7 @@
 use registers::places::Place;
 use registers::places::place_of;
 ghost use mathlib.Core.Path.{_≡_};
-ghost use Rattle.model.specs.TwoRuns.Unused.{takesWord};
+ghost use Rattle.model.specs.Unused.{takesWord};
 ghost use Rattle.registers.specs.Places.{registerAt};
 ghost use Rattle.blanking.specs.Blanked.{blankWord, blankResets};
 

@@ -9,4 +9,4 @@ pub mod Dated
 pub mod Access
 pub mod EachCall
 pub mod Runs
-pub mod Widths
+pub mod MapKept

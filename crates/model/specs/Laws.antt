@@ -7,3 +7,4 @@ pub mod Events
 pub mod AccessCases
 pub mod Plans
 pub mod StepCases
+pub mod Placed

@@ -17,6 +17,7 @@ pub mod SetUp
 pub mod Call
 pub mod Run
 pub mod Limits
+pub mod Unused
 pub mod Widths
 pub mod Manual
 pub mod Marks
@@ -24,8 +25,6 @@ pub mod Laws
 pub mod Keeps
 pub mod Ends
 pub mod Refuses
-pub mod TwoRuns
 pub mod MeetsManual
 pub mod ShutsOut
-pub mod TwoSteps
 pub mod Rows

@@ -1,5 +1,6 @@
 -- What calls answer: document 01's numbers and values for each case of a reply, and the report of a dated call.
 -- Assumes nothing.
+use mathlib.Core.Path.{_≡_}
 use Prim.Native.Nat.{ℕ, _-_}
 use mathlib.Core.Bool.{false}
 use mathlib.Core.List.{List, _++_, map}
@@ -43,6 +44,10 @@ noticePlaces = 8
 
 unfoldable pub notices : List Unsupported → List Notice
 notices ns = map (λ n. record { what = n }) ns ++ replicate (noticePlaces - length ns) unused
+
+-- a report with these notices and no other
+abbrev pub Notes : Report → List Unsupported → Type 0
+Notes r ns = (r .notices ≡ notices ns) × (r .noted ≡ length ns)
 
 -- a mode's number, from 0
 abbrev pub modeNumber : Feature → ℕ

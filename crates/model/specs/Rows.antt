@@ -1,11 +1,5 @@
--- A row: the laws of one write after another at one date.
-pub mod Still
-pub mod Levels
-pub mod Next
-pub mod First
+-- A row: what it is in calls, its counts and notices, and that it keeps a state within the limits.
+pub mod Notices
 pub mod Within
 pub mod Calls
 pub mod Counts
-pub mod Notices
-pub mod Settlings
-pub mod Marks

@@ -22,6 +22,7 @@ use Rattle.model.specs.Calls.{afterSettling, outcome, carried, dated}
 use Rattle.model.specs.Limits.{All, flightDates, Fits}
 use Rattle.model.specs.Laws.Lists.{lastOf, chain-take, chain-snoc, all-take, all-snoc, all-last, map-take}
 use Rattle.model.specs.Laws.Choose.{choose-ind}
+use Rattle.model.specs.Laws.Plans.{settleAt}
 use Rattle.model.specs.Laws.AccessCases.{readRegister-ind, writeRegister-ind}
 use Rattle.model.specs.Keeps.Parts.{FlightWithin, Parts, putFlight, putRx}
 use Rattle.model.specs.Keeps.Kept.{Kept, settle-keeps}
@@ -109,7 +110,9 @@ module _ {H W : Type 0} where
       → Parts (outcome (some now) (Calls.writePlaced now at v u) u .state)
   unfolding outcome carried Calls.writePlaced afterSettling
   writePlaced-parts now at v u p =
-      dated-parts Write.Refused _ u p now none (λ h _. concluded-parts _ (writeRegister-parts at v _ (settleAt-parts now u h p)))
+      let s : Uart H W = settleAt now u .state in
+      dated-parts Write.Refused _ u p now none
+      (λ h _. concluded-parts (writeRegister at v s) (writeRegister-parts at v s (settleAt-parts now u h p)))
 
   -- ---- send
 

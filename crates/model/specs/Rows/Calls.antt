@@ -12,7 +12,7 @@ use lib.Seq.{length-take-le}
 use borrow.Author.Tests.{eqb-true, lt-leb, le-ltb}
 use Rattle.model.specs.State.{Uart}
 use Rattle.model.specs.Events.{total}
-use Rattle.model.specs.Replies.{number, notices, noReport, report, writeNumber}
+use Rattle.model.specs.Replies.{number, Notes, notices, noReport, report, writeNumber}
 use Rattle.model.specs.Map.{Register, isFifo, registerOf}
 use Rattle.model.specs.Registers.{sendByte, concluded}
 use Rattle.model.specs.Tests.{dateEnd, refuseIf, refuseDate}
@@ -29,8 +29,7 @@ use Rattle.model.specs.Laws.Lists.{all-take}
 use Rattle.model.specs.Laws.Plans.{replied}
 use Rattle.model.specs.Keeps.Runs.{stateAfter}
 use Rattle.model.specs.Refuses.Carried.{send-proper}
-use Rattle.model.specs.TwoRuns.Agree.{Notes}
-use Rattle.model.specs.TwoRuns.MapKept.{step-kept}
+use Rattle.model.specs.Keeps.MapKept.{step-kept}
 use Rattle.model.specs.MeetsManual.Answers.{InTime}
 use Rattle.model.specs.declared.Refusal.{Refusal}
 use Rattle.model.specs.declared.Refusal.the-variants.{DatePastEnd, DateWentBack}

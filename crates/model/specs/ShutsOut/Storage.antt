@@ -23,7 +23,7 @@ use Rattle.model.specs.Keeps.Kept.{settle-keeps}
 use Rattle.model.specs.Keeps.Rest.{settleTo-words}
 use Rattle.model.specs.MeetsManual.Answers.{InTime, settled, read-answer, write-answer}
 use Rattle.model.specs.ShutsOut.Notices.{conf0-answer}
-use Rattle.model.specs.TwoRuns.Unused.{takesWord}
+use Rattle.model.specs.Unused.{takesWord}
 use Rattle.model.specs.declared.RegisterMap.{RegisterMap}
 use Rattle.model.specs.declared.Words.{Words}
 use Rattle.model.specs.declared.Write.{Write}

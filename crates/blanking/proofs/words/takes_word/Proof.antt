@@ -2,7 +2,7 @@
 use mathlib.Core.Path.{_≡_, refl}
 use mathlib.Core.Bool.{true, false}
 use mathlib.Core.List.{[], _∷_}
-use Rattle.model.specs.TwoRuns.Unused.{takesWord}
+use Rattle.model.specs.Unused.{takesWord}
 use Rattle.registers.specs.Places.{registerAt}
 use Rattle.registers.proofs.Tags.{place-keys}
 use Rattle.blanking.proofs.words.takes_word.Statement.{statement}
