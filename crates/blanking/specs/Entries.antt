@@ -14,7 +14,8 @@ use Rattle.trace.specs.declared.names.Name.the-variants.{TakeTx, TakeWritten, H
 use Rattle.model.specs.Call.{Machine, Dated, Undated, Call, Request, Asked, Ask}
 use Rattle.trace.specs.Pairs.{firstsIn, secondsIn}
 use Rattle.figures.specs.Figures.{figuresOf}
-use Rattle.blanking.specs.Blanked.{blankResets, blankedAsked, blankStarts, blankEnds}
+use Rattle.figures.specs.declared.report.LineFigures.{LineFigures}
+use Rattle.theorems.specs.Blanked.{blankResets, blankedAsked}
 
 -- a set-up by its offsets and reset words, what is asked of the UART that is set up, or frames
 pub data Entry : Type 0 where
@@ -44,6 +45,15 @@ entryOf TakeWritten ns last bs s = call (Call.undated (Undated.takeWritten (repl
 entryOf HasLeft ns last bs s = call (Call.undated Undated.hasLeft)
 entryOf HostPending ns last bs s = call (Call.undated Undated.hostPending)
 entryOf Figures ns last bs s = Entry.figures (firstsIn s) (secondsIn s)
+
+-- frames are dates, which are kept; of frames that are refused nothing is: one frame that ends before it starts stands for them
+unfoldable pub blankStarts : LineFigures → List ℕ → List ℕ
+blankStarts (LineFigures.Figures f) starts = starts
+blankStarts LineFigures.Refused starts = 1 ∷ []
+
+unfoldable pub blankEnds : LineFigures → List ℕ → List ℕ
+blankEnds (LineFigures.Figures f) ends = ends
+blankEnds LineFigures.Refused ends = 0 ∷ []
 
 -- the same without a client's bytes, for the register map that is set up
 unfoldable pub blankedEntry : List ℕ → Entry → Entry

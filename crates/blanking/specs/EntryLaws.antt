@@ -20,10 +20,10 @@ use Rattle.trace.specs.Pairs.{firstsIn, secondsIn}
 use Rattle.figures.specs.Figures.{figuresOf}
 use Rattle.figures.specs.Exactly.{Result, result}
 use Rattle.figures.specs.declared.report.LineFigures.{LineFigures}
-use Rattle.blanking.specs.Blanked.{blankByte, blankWord, blankWritten, blankResets, blanked, blankedAsked, blankStarts, blankEnds}
+use Rattle.theorems.specs.Blanked.{blankByte, blankWord, blankWritten, blankResets, blanked, blankedAsked}
 use Rattle.blanking.specs.Entries.{entryOf, blankedEntry, number, numbers, pairs, bitNumber, machineWords, callWords, entryWords}
 use Rattle.blanking.specs.Entries.{machineName, callName}
-use Rattle.blanking.specs.Entries.{entryName, entryText}
+use Rattle.blanking.specs.Entries.{entryName, entryText, blankStarts, blankEnds}
 use Rattle.blanking.specs.Puts.{Puts}
 
 -- one number more

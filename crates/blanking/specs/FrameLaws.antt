@@ -10,8 +10,7 @@ use Rattle.figures.specs.Figures.{figuresOf}
 use Rattle.figures.specs.Exactly.{Unfit, refused-exactly, first-decide, Result, result}
 use Rattle.figures.specs.declared.report.Figures.{Figures}
 use Rattle.figures.specs.declared.report.LineFigures.{LineFigures}
-use Rattle.blanking.specs.Blanked.{blankStarts, blankEnds}
-use Rattle.blanking.specs.Entries.{number, pairs}
+use Rattle.blanking.specs.Entries.{number, pairs, blankStarts, blankEnds}
 
 -- what is put out of the frames of a line
 abbrev pub frames : List ℕ → List ℕ

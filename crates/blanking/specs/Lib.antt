@@ -1,10 +1,7 @@
--- A list of calls without a client's bytes, that it times as the list it was made from, and the text of its lines.
-pub mod Blanked
-pub mod TimesAlike
+-- What is left of a line without a client's bytes, and its text.
 pub mod Puts
 pub mod Entries
 pub mod EntryLaws
 pub mod FrameLaws
 pub mod Lines
 pub mod LineLaws
-mod Examples

@@ -19,7 +19,7 @@ ghost use Rattle.text.specs.Output.{Put};
 ghost use Rattle.text.specs.HexText.{hexText};
 ghost use Rattle.trace.specs.Low.{lowOf};
 ghost use Rattle.trace.specs.Names.{letters};
-ghost use Rattle.blanking.specs.Blanked.{blankByte, blankWord, blankResets};
+ghost use Rattle.theorems.specs.Blanked.{blankByte, blankWord, blankResets};
 ghost use Rattle.blanking.specs.Entries.{entryOf, blankedEntry, number, numbers, bitNumber};
 ghost use Rattle.blanking.specs.Entries.{entryWords, entryText};
 ghost use Rattle.blanking.specs.Puts.{Puts};

@@ -4,7 +4,7 @@ use registers::places::place_of;
 ghost use mathlib.Core.Path.{_≡_};
 ghost use Rattle.model.specs.Unused.{takesWord};
 ghost use Rattle.registers.specs.Places.{registerAt};
-ghost use Rattle.blanking.specs.Blanked.{blankWord, blankResets};
+ghost use Rattle.theorems.specs.Blanked.{blankWord, blankResets};
 
 // STATUS bits 0-9, RXFIFO_CNT, and 16-25, TXFIFO_CNT.
 const FIFO_COUNTS: u32 = 0x03FF03FF;

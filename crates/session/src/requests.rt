@@ -24,7 +24,7 @@ ghost use mathlib.Core.Bool.{true};
 ghost use mathlib.Core.Option.{some};
 ghost use mathlib.Core.List.{[]};
 ghost use lib.ListN.{take};
-ghost use Rattle.model.specs.Call.{Undated, Call, Asked};
+ghost use Rattle.model.specs.Call.{Dated, Undated, Call, Asked};
 ghost use Rattle.uart.specs.Whole.{Good, meaning};
 ghost use Rattle.answers.specs.Replies.{readText, writeText, rowText, doneText};
 ghost use Rattle.session.specs.Requests.{commandOf, calls, carriedOut};
@@ -82,6 +82,39 @@ fn after_done(after: AfterDone, at: usize, out: &mut [u8]) -> Session
     in_use(uart, next)
 }
 
+fn write_row(
+    uart: Uart,
+    cycle: u64,
+    bytes: &[u8],
+    count: usize,
+    at: usize,
+    out: &mut [u8],
+) -> Session
+    requires { ⌜ Good uart ⌝ }
+    requires { ⌜ Wide (now out) at ⌝ }
+    ensures { λ r. ⌜ Gives (calls (Asked.row cycle (take count (now (bytes .entry)))) [] (some (meaning uart)))
+        (now (out .entry)) at (now (out .exit)) r ⌝ }
+{
+    after_row(uart.write_row(cycle, front(bytes, count)), at, out)
+}
+
+fn receive(
+    uart: Uart,
+    cycle: u64,
+    date: u64,
+    bytes: &[u8],
+    count: usize,
+    at: usize,
+    out: &mut [u8],
+) -> Session
+    requires { ⌜ Good uart ⌝ }
+    requires { ⌜ Wide (now out) at ⌝ }
+    ensures { λ r. ⌜ Gives (calls (Asked.call (Call.at cycle (Dated.receive date (take count (now (bytes .entry)))))) []
+        (some (meaning uart))) (now (out .entry)) at (now (out .exit)) r ⌝ }
+{
+    after_done(uart.receive(cycle, date, front(bytes, count)), at, out)
+}
+
 fn has_left(uart: Uart, at: usize, out: &mut [u8]) -> Session
     requires { ⌜ Good uart ⌝ }
     ensures { λ r. ⌜ Gives (calls (Asked.call (Call.undated Undated.hasLeft)) [] (some (meaning uart)))
@@ -127,8 +160,8 @@ pub fn carry_out(
         Name::Setup => set_up(session, numbers, out),
         Name::Read => after_read(uart.read(now, low(second)), at, out),
         Name::Write => after_write(uart.write(now, low(second), low(numbers[2])), at, out),
-        Name::WriteRow => after_row(uart.write_row(now, front(bytes, last)), at, out),
-        Name::Receive => after_done(uart.receive(now, second, front(bytes, last)), at, out),
+        Name::WriteRow => write_row(uart, now, bytes, last, at, out),
+        Name::Receive => receive(uart, now, second, bytes, last, at, out),
         Name::Wake => after_done(uart.wake(now), at, out),
         Name::Watch => after_done(uart.watch(now, last == 1), at, out),
         Name::Reset => after_done(uart.reset(now), at, out),

@@ -1,6 +1,6 @@
 -- `call::put_set_up` meets its contract. Assumes nothing.
 use mathlib.Core.Path.{ap, _∙_}
-use Rattle.blanking.specs.Blanked.{blankResets}
+use Rattle.theorems.specs.Blanked.{blankResets}
 use Rattle.blanking.specs.Entries.{numbers}
 use Rattle.blanking.specs.Puts.{puts-same, puts-both}
 use borrow.Author.Needs.{needs}

@@ -1,6 +1,6 @@
 -- `call::put_words` meets its contract, name by name. Assumes nothing.
 use mathlib.Core.Path.{ap, sym}
-use Rattle.blanking.specs.Blanked.{blankWritten, blanked, blankedAsked}
+use Rattle.theorems.specs.Blanked.{blankWritten, blanked, blankedAsked}
 use Rattle.blanking.specs.Entries.{entryOf, blankedEntry, number, machineWords, callWords, entryWords}
 use Rattle.blanking.specs.EntryLaws.{lent-length, two-same, write-same, of-name}
 use Rattle.blanking.specs.Puts.{puts-same, put-nothing}

@@ -1,7 +1,7 @@
 -- `words::blank_resets` meets its contract. Assumes nothing.
 use mathlib.Core.Path.{refl}
 use borrow.Author.Needs.{needs}
-use Rattle.blanking.specs.Blanked.{blankResets}
+use Rattle.theorems.specs.Blanked.{blankResets}
 use Rattle.blanking.proofs.words.blank_resets.Statement.{statement}
 use Rattle.blanking.proofs.words.blank_resets.Tie as tie
 

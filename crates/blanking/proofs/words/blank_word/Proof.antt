@@ -3,7 +3,7 @@ use mathlib.Core.Path.{sym, ap, _∙_}
 use borrow.Author.Needs.{needs}
 use Rattle.model.specs.Laws.Choose.{choose-true, choose-false}
 use Rattle.model.specs.Unused.{takesWord}
-use Rattle.blanking.specs.Blanked.{blankWord}
+use Rattle.theorems.specs.Blanked.{blankWord}
 use Rattle.blanking.proofs.words.blank_word.Statement.{statement}
 use Rattle.blanking.proofs.words.blank_word.Tie as tie
 

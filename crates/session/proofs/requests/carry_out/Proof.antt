@@ -1,20 +1,19 @@
 -- `requests::carry_out` meets its contract: each call, and the row, is what its name asks for. Assumes nothing.
-use mathlib.Core.Path.{ap, ap₂, sym, _∙_}
+use mathlib.Core.Path.{ap, ap₂, _∙_}
 use mathlib.Core.Option.{some}
-use mathlib.Core.List.{List, [], map}
+use mathlib.Core.List.{[], map}
 use Prim.Native.Nat.{ℕ}
 use lib.Dec.{eqb}
 use lib.ListN.{take, drop, getD}
 use borrow.Author.Needs.{needs}
 use Rattle.trace.specs.Low.{lowOf}
-use Rattle.trace.specs.declared.names.Name.{Name}
-use Rattle.model.specs.Call.{Machine, Dated, Call, Asked, reads, writes, does, rows}
+use Rattle.model.specs.Call.{Machine, Dated, Call, Asked, reads, writes, does}
 use Rattle.model.specs.Laws.StepCases.{step-cases}
 use Rattle.uart.specs.Whole.{meaning}
-use Rattle.answers.specs.Replies.{readText, writeText, rowText, doneText}
+use Rattle.answers.specs.Replies.{readText, writeText, doneText}
 use Rattle.trace.specs.Pairs.{firstsIn, secondsIn}
 use Rattle.session.specs.Requests.{setsUp, calls, tells}
-use Rattle.session.specs.Answers.{call-asked, row-asked, gives, said, gives-as, told-as, is-ready}
+use Rattle.session.specs.Answers.{call-asked, gives, said, gives-as, told-as, is-ready}
 use Rattle.session.proofs.requests.carry_out.Statement.{statement}
 use Rattle.session.proofs.requests.carry_out.Tie as tie
 
@@ -60,29 +59,19 @@ returns-3 c =
 
 returns-4 : tie.Need-returns-4
 returns-4 c =
-    let far = c .before .before .before .before .before .before .before .before in
+    let far = c .before .before .before .before .before .before in
     let a = far .before .before .before .before .args in
-    gives-as (ap (λ (l : List ℕ). calls (Asked.row (getD (a .t3) 0 0) l) [] (some (meaning (a .session .uart))))
-    (c .before .before .before .before .before .front .ensures)
-    ∙ told-as (a .t3) (a .last) (a .bytes .now) (a .s .now) (meaning (a .session .uart))
-    (c .before .before .before .before .before .before .enum-told4 .given .1))
-    (gives (c .before .before .before .before .write-row .ensures) (Asked.row (getD (a .t3) 0 0)
-    (c .before .before .before .before .before .front .result .now)) rows
-    (row-asked _ _ _) (said (c .before .before .before .before .write-row .ensures)
-    rowText) (c .before .before .after-row .ensures))
+    gives-as (told-as (a .t3) (a .last) (a .bytes .now) (a .s .now) (meaning (a .session .uart))
+    (c .before .before .before .before .enum-told4 .given .1))
+    (c .before .before .write-row .ensures)
 
 returns-5 : tie.Need-returns-5
 returns-5 c =
-    let far = c .before .before .before .before .before .before .before .before in
+    let far = c .before .before .before .before .before .before in
     let a = far .before .before .before .before .args in
-    gives-as (ap (λ (l : List ℕ). calls (Asked.call (Call.at (getD (a .t3) 0 0) (Dated.receive (getD (a .t3) 1 0) l))) []
-    (some (meaning (a .session .uart)))) (c .before .before .before .before .before .front2 .ensures)
-    ∙ told-as (a .t3) (a .last) (a .bytes .now) (a .s .now) (meaning (a .session .uart))
-    (c .before .before .before .before .before .before .enum-told5 .given .1))
-    (gives (c .before .before .before .before .receive .ensures) (Asked.call (Call.at (getD (a .t3) 0 0)
-    (Dated.receive (getD (a .t3) 1 0) (c .before .before .before .before .before .front2 .result .now)))) does
-    (call-asked _ _ ∙ step-cases _ .receive _ _ _) (said (c .before .before .before .before .receive .ensures)
-    doneText) (c .before .before .after-done .ensures))
+    gives-as (told-as (a .t3) (a .last) (a .bytes .now) (a .s .now) (meaning (a .session .uart))
+    (c .before .before .before .before .enum-told5 .given .1))
+    (c .before .before .receive .ensures)
 
 returns-6 : tie.Need-returns-6
 returns-6 c =
@@ -92,7 +81,7 @@ returns-6 c =
     (c .before .before .before .before .before .enum-told6 .given .1))
     (gives (c .before .before .before .before .wake .ensures) (Asked.call (Call.at (getD (a .t3) 0 0) (Dated.machine Machine.wake))) does
     (call-asked _ _ ∙ step-cases _ .machine _ _)
-    (said (c .before .before .before .before .wake .ensures) doneText) (c .before .before .after-done2 .ensures))
+    (said (c .before .before .before .before .wake .ensures) doneText) (c .before .before .after-done .ensures))
 
 returns-7 : tie.Need-returns-7
 returns-7 c =
@@ -103,7 +92,7 @@ returns-7 c =
     (gives (c .before .before .before .before .watch .ensures)
     (Asked.call (Call.at (getD (a .t3) 0 0) (Dated.machine (Machine.watch (eqb (a .last) 1))))) does
     (call-asked _ _ ∙ step-cases _ .machine _ _)
-    (said (c .before .before .before .before .watch .ensures) doneText) (c .before .before .after-done3 .ensures))
+    (said (c .before .before .before .before .watch .ensures) doneText) (c .before .before .after-done2 .ensures))
 
 returns-8 : tie.Need-returns-8
 returns-8 c =
@@ -114,7 +103,7 @@ returns-8 c =
     (gives (c .before .before .before .before .reset .ensures) (Asked.call (Call.at (getD (a .t3) 0 0)
     (Dated.machine Machine.reset))) does
     (call-asked _ _ ∙ step-cases _ .machine _ _)
-    (said (c .before .before .before .before .reset .ensures) doneText) (c .before .before .after-done4 .ensures))
+    (said (c .before .before .before .before .reset .ensures) doneText) (c .before .before .after-done3 .ensures))
 
 returns-9 : tie.Need-returns-9
 returns-9 c =
@@ -125,7 +114,7 @@ returns-9 c =
     (gives (c .before .before .before .before .power-down .ensures)
     (Asked.call (Call.at (getD (a .t3) 0 0) (Dated.machine Machine.powerDown))) does
     (call-asked _ _ ∙ step-cases _ .machine _ _)
-    (said (c .before .before .before .before .power-down .ensures) doneText) (c .before .before .after-done5 .ensures))
+    (said (c .before .before .before .before .power-down .ensures) doneText) (c .before .before .after-done4 .ensures))
 
 returns-10 : tie.Need-returns-10
 returns-10 c =
@@ -136,7 +125,7 @@ returns-10 c =
     (gives (c .before .before .before .before .clock-change .ensures)
     (Asked.call (Call.at (getD (a .t3) 0 0) (Dated.machine (Machine.clockChange (getD (a .t3) 1 0))))) does
     (call-asked _ _ ∙ step-cases _ .machine _ _)
-    (said (c .before .before .before .before .clock-change .ensures) doneText) (c .before .before .after-done6 .ensures))
+    (said (c .before .before .before .before .clock-change .ensures) doneText) (c .before .before .after-done5 .ensures))
 
 returns-11 : tie.Need-returns-11
 returns-11 c =
@@ -182,17 +171,17 @@ returns-15 c =
 
 pub carry-out-spec : {M : Type 1} → statement M
 carry-out-spec =
-    tie.close (tie.spec (λ c. search needs) (λ c. search needs) (λ c. search needs) (λ c κs. search needs)
-    (λ c. search needs) (λ c κs. search needs) (λ c κs. search needs) (λ c κs. search needs) (λ c. search needs)
-    (λ c κs. search needs) (λ c. search needs) (λ c κs. search needs) (λ c κs. search needs) (λ c κs. search needs)
-    (λ c. search needs) (λ c κs. search needs) (λ c κs. search needs) (λ c κs. search needs) (λ c. search needs)
-    (λ c κs. search needs) (λ c κs. search needs) (λ c κs. search needs) (λ c. search needs) (λ c κs. search needs)
-    (λ c κs. search needs) (λ c. search needs) (λ c κs. search needs) (λ c κs. search needs) (λ c. search needs)
-    (λ c κs. search needs) (λ c κs. search needs) (λ c. search needs) (λ c κs. search needs) (λ c κs. search needs)
-    (λ c. search needs) (λ c κs. search needs) (λ c κs. search needs) (λ c. search needs) (λ c κs. search needs)
-    (λ c. search needs) (λ c κs. search needs) (λ c. search needs) (λ c κs. search needs) (λ c. search needs)
-    (λ c κs. search needs) (λ c. search needs) (λ c κs. search needs) (λ c. search needs) returns
-    (λ c. search needs) returns-2 (λ c. search needs) returns-3 (λ c. search needs) returns-4 (λ c. search needs)
-    returns-5 (λ c. search needs) returns-6 (λ c. search needs) returns-7 (λ c. search needs) returns-8
-    (λ c. search needs) returns-9 (λ c. search needs) returns-10 (λ c. search needs) returns-11 (λ c. search needs)
-    returns-12 (λ c. search needs) returns-13 (λ c. search needs) returns-14 (λ c. search needs) returns-15)
+    tie.close (tie.spec (λ c. search needs) (λ c. search needs) (λ c. c .match .keys1) (λ c κs. search needs)
+    (λ c. c .match .keys2) (λ c κs. tt) (λ c κs. search needs) (λ c κs. search needs) (λ c. c .match .keys3)
+    (λ c κs. tt) (λ c. search needs) (λ c κs. tt) (λ c κs. search needs) (λ c κs. search needs) (λ c. c .match .keys4)
+    (λ c κs. search needs) (λ c. c .match .keys5) (λ c κs. search needs) (λ c. c .match .keys6) (λ c κs. search needs)
+    (λ c κs. search needs) (λ c. c .match .keys7) (λ c κs. search needs) (λ c κs. search needs) (λ c. c .match .keys8)
+    (λ c κs. search needs) (λ c κs. search needs) (λ c. c .match .keys9) (λ c κs. search needs) (λ c κs. search needs)
+    (λ c. c .match .keys10) (λ c κs. search needs) (λ c κs. search needs) (λ c. c .match .keys11)
+    (λ c κs. search needs) (λ c. c .match .keys12) (λ c κs. search needs) (λ c. c .match .keys13)
+    (λ c κs. search needs) (λ c. c .match .keys14) (λ c κs. search needs) (λ c. c .match .keys15)
+    (λ c κs. search needs) (λ c. search needs) returns (λ c. search needs) returns-2 (λ c. search needs) returns-3
+    (λ c. search needs) returns-4 (λ c. search needs) returns-5 (λ c. search needs) returns-6 (λ c. search needs)
+    returns-7 (λ c. search needs) returns-8 (λ c. search needs) returns-9 (λ c. search needs) returns-10
+    (λ c. search needs) returns-11 (λ c. search needs) returns-12 (λ c. search needs) returns-13 (λ c. search needs)
+    returns-14 (λ c. search needs) returns-15)

@@ -8,7 +8,6 @@ use Rattle.model.specs.Map.{registerOf}
 use Rattle.model.specs.SetUp.{fifoCounts}
 use Rattle.model.specs.Call.{Dated, Undated, Call, Written, Request, Asked, Ask}
 use Rattle.model.specs.Unused.{takesWord}
-use Rattle.figures.specs.declared.report.LineFigures.{LineFigures}
 
 -- every byte is replaced by 0
 unfoldable pub blankByte : ℕ → ℕ
@@ -46,12 +45,3 @@ blankedAsked offsets (Asked.row now bs) = Asked.row now (map blankByte bs)
 -- the list that is sent out
 abbrev pub blankedList : List ℕ → List Ask → List Ask
 blankedList offsets cs = map (blankedAsked offsets) cs
-
--- frames are dates, which are kept; of frames that are refused nothing is: one frame that ends before it starts stands for them
-unfoldable pub blankStarts : LineFigures → List ℕ → List ℕ
-blankStarts (LineFigures.Figures f) starts = starts
-blankStarts LineFigures.Refused starts = 1 ∷ []
-
-unfoldable pub blankEnds : LineFigures → List ℕ → List ℕ
-blankEnds (LineFigures.Figures f) ends = ends
-blankEnds LineFigures.Refused ends = 0 ∷ []

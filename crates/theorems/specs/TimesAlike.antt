@@ -14,11 +14,11 @@ use Rattle.model.specs.Call.{Dated, Undated, Call, Written, Request, Asked, Ask
 use Rattle.model.specs.SetUp.{wordsAmong, new}
 use Rattle.model.specs.Run.{run}
 use Rattle.model.specs.Refuses.FifoPlace.{first-is-fifo, fifo-is-first}
 use Rattle.theorems.specs.TwoRuns.Alike.{Each, Alike, AskedAlike, fifoOffset}
 use Rattle.theorems.specs.TwoRuns.Agree.{Agreeing}
 use Rattle.model.specs.Unused.{takesWord, SameInUse}
 use Rattle.theorems.specs.TwoRuns.InUse.{AlikeInUse, runs-agree-in-use}
-use Rattle.blanking.specs.Blanked.{blankByte, blankWord, blankWritten, blankResets, blanked, blankedAsked, blankedList}
+use Rattle.theorems.specs.Blanked.{blankByte, blankWord, blankWritten, blankResets, blanked, blankedAsked, blankedList}
 
 length-blank : (bs : List ℕ) → length bs ≡ length (map blankByte bs)
 length-blank [] = refl

@@ -5,7 +5,7 @@ use mathlib.Core.List.{List, [], _∷_}
 use Rattle.model.specs.Numbers.{choose}
 use Rattle.model.specs.Map.{registerOf, registerAmong}
 use Rattle.model.specs.Call.{Dated, Written, Call, Asked, Ask}
-use Rattle.blanking.specs.Blanked.{blankByte, blankWord, blankWritten, blanked, blankedAsked, blankedList}
+use Rattle.theorems.specs.Blanked.{blankByte, blankWord, blankWritten, blanked, blankedAsked, blankedList}
 
 -- offset 0 is FIFO, 4 INT_RAW and 12 INT_ENA
 abbrev offsets : List ℕ
