@@ -2,10 +2,10 @@
 use mathlib.Core.Path.{_≡_, refl, sym, ap, ap₂, subst, _∙_}
 use mathlib.Core.Bool.{false}
 use mathlib.Core.List.{List, [], _∷_}
-use Prim.Native.Nat.{ℕ, zero, suc, _+_, _-_, _<_, _≤_}
+use Prim.Native.Nat.{ℕ, suc, _+_, _-_, _<_, _≤_}
 use native.Mathlib.Omega.{arith}
 use lib.Dec.{ltb}
-use lib.ListN.{length, drop, getD, set, length-append, length-set}
+use lib.ListN.{length, getD, set, length-append, length-set}
 use borrow.Author.Tests.{le-ltb, lt-leb}
 use Rattle.dates.specs.Dates.{subcycles}
 use Rattle.model.specs.Numbers.{earliest, inCycles}
@@ -16,7 +16,7 @@ use Rattle.model.specs.Line.{fifoBytes}
 use Rattle.model.specs.Settle.{emptyThreshold}
 use Rattle.model.specs.Arm.{belowThresholdAt}
 use Rattle.model.specs.Registers.{Access, sent, dropped, sendByte}
-use Rattle.model.specs.Tests.{dateEnd, transmitFull}
+use Rattle.model.specs.Tests.{transmitFull}
 use Rattle.model.specs.Limits.{Within}
 use Rattle.model.specs.Laws.Choose.{choose-false}
 use Rattle.theorems.specs.Rows.Still.{Still}

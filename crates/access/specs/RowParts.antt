@@ -1,15 +1,12 @@
 -- A row over a core and its arrays: what the parts of `write_row` give. Assumes nothing.
-use mathlib.Core.Path.{_≡_, refl, sym, ap, ap₂, subst, _∙_}
+use mathlib.Core.Path.{_≡_}
 use mathlib.Core.Bool.{Bool, true, false, _&&_, not}
-use mathlib.Core.List.{List, [], _∷_}
-use Prim.Native.Nat.{ℕ, zero, suc, _+_, _-_, _*_, _<_, _≤_, min}
-use native.Mathlib.Omega.{arith}
+use mathlib.Core.List.{List, _∷_}
+use Prim.Native.Nat.{ℕ, suc, _+_, _-_, _*_, _<_, _≤_, min}
 use lib.Dec.{ltb}
 use lib.ListN.{length, drop, take, getD, replicate}
-use borrow.Author.Tests.{leb-false, ltb-true, ltb-false, lt-ltb}
 use Rattle.model.specs.Numbers.{choose, dueBy}
 use Rattle.model.specs.State
-use Rattle.model.specs.State.{Sent}
 use Rattle.model.specs.Timing.{unmodelledSource}
 use Rattle.model.specs.Line.{fifoBytes}
 use Rattle.model.specs.Settle.{settlingDate}
@@ -23,7 +20,7 @@ use Rattle.model.specs.declared.Refusal.{Refusal}
 use Rattle.model.specs.Replies.{noReport}
 use Rattle.model.specs.declared.Row.{Row}
 use Rattle.model.specs.declared.Source.{Source}
-use Rattle.queue.specs.Cursors.{Held, slotOf}
+use Rattle.queue.specs.Cursors.{slotOf}
 use Rattle.queue.specs.Laws.{elems-length}
 use Rattle.device.specs.Holds.{Arrays, flightOf, abs, Shape, Ok}
 use Rattle.device.specs.declared.Core.{Core}

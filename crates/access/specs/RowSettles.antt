@@ -1,10 +1,10 @@
 -- The writes of a row that settle, one by one. Assumes nothing.
 use mathlib.Core.Path.{_≡_, refl, sym, ap, ap₂, subst, _∙_}
-use mathlib.Core.Bool.{Bool, true, false, not, _&&_, true≢false, false≢true}
+use mathlib.Core.Bool.{Bool, true, false, true≢false, false≢true}
 use mathlib.Core.List.{List, [], _∷_}
-use Prim.Native.Nat.{ℕ, zero, suc, _+_, _-_, _*_, _<_, _≤_}
+use Prim.Native.Nat.{ℕ, zero, suc, _+_, _-_, _<_, _≤_}
 use native.Mathlib.Omega.{arith}
-use lib.Dec.{ltb, leb}
+use lib.Dec.{ltb}
 use lib.ListN.{length, drop, take, getD, length-append}
 use borrow.Author.Tests.{ltb-true, lt-ltb, leb-false}
 use Rattle.dates.specs.Dates.{subcycles}
@@ -28,7 +28,7 @@ use Rattle.model.specs.declared.Date.{Date}
 use Rattle.model.specs.declared.Date.the-variants.{At}
 use Rattle.model.specs.declared.Write.{Write}
 use Rattle.replies.specs.declared.notices.Notices.{Notices}
-use Rattle.device.specs.Holds.{Arrays, flightOf, abs, Shape, Ok}
+use Rattle.device.specs.Holds.{Arrays, abs}
 use Rattle.device.specs.Settles.{Settles}
 use Rattle.device.specs.declared.Core.{Core}
 use Rattle.calls.specs.Answers.{Accesses}

@@ -1,18 +1,18 @@
 -- One write more of a row: on a still state the byte joins those in flight or is dropped; else it settles first. Assumes nothing.
-use mathlib.Core.Path.{_≡_, refl, sym, ap, ap₂, subst, _∙_}
-use mathlib.Core.Bool.{Bool, true, false}
+use mathlib.Core.Path.{_≡_, refl, sym, ap, subst, _∙_}
+use mathlib.Core.Bool.{true, false}
 use mathlib.Core.List.{List, [], _∷_}
 use Prim.Native.Nat.{ℕ, zero, suc, _+_, _<_, _≤_}
 use native.Mathlib.Omega.{arith}
 use lib.Dec.{ltb}
 use lib.ListN.{length, drop, getD}
-use borrow.Author.Tests.{ltb-true, lt-ltb, le-ltb}
+use borrow.Author.Tests.{ltb-true}
 use Rattle.model.specs.State
 use Rattle.model.specs.State.{Sent}
 use Rattle.model.specs.Events.{passesIn, overflowsIn}
 use Rattle.model.specs.Timing.{unmodelledSource}
 use Rattle.model.specs.Line.{fifoBytes, raiseIf}
-use Rattle.model.specs.Settle.{assertLevels, drive, levels, settlingDate}
+use Rattle.model.specs.Settle.{assertLevels, drive, levels}
 use Rattle.model.specs.Arm.{arm}
 use Rattle.model.specs.Replies.{report, writeNumber}
 use Rattle.model.specs.Registers.{Access, sourceNotes, sent, dropped, sendByte, concluded}

@@ -1,25 +1,21 @@
 -- A whole row: the writes that settle, those that do not and those that are dropped are the definition's. Assumes nothing.
-use mathlib.Core.Path.{_≡_, refl, sym, ap, ap₂, subst, _∙_}
+use mathlib.Core.Path.{_≡_, refl, sym, ap, ap₂, _∙_}
 use mathlib.Core.Bool.{Bool, true, false}
 use mathlib.Core.List.{List, [], _∷_, _++_, map, append-nil}
-use Prim.Native.Nat.{ℕ, zero, suc, _+_, _-_, _*_, _<_, _≤_, min}
+use Prim.Native.Nat.{ℕ, zero, suc, _+_, _-_, _<_, _≤_, min}
 use native.Mathlib.Omega.{arith}
 use lib.Dec.{ltb}
 use lib.ListN.{length, drop, take, length-replicate}
 use borrow.Author.Tests.{leb-false, lt-leb, ltb-true, ltb-false}
 use Rattle.model.specs.Numbers.{choose}
 use Rattle.model.specs.State
-use Rattle.model.specs.Events.{total}
 use Rattle.model.specs.Line.{fifoBytes}
 use Rattle.model.specs.Replies
 use Rattle.model.specs.Tests.{dateEnd, transmitFull}
-use Rattle.model.specs.Calls.{Outcome}
-use Rattle.model.specs.Row.{Count, countedAll, timesOf, writes, leftBy, summed, rowLimit}
+use Rattle.model.specs.Row.{Count, countedAll, timesOf, writes, summed, rowLimit}
 use Rattle.model.specs.Laws.Choose.{choose-true, choose-false}
-use Rattle.theorems.specs.Rows.Still.{Still}
 use Rattle.model.specs.Rows.Within.{full-writes}
 use Rattle.model.specs.declared.Row.{Row}
-use Rattle.model.specs.declared.Write.{Write}
 use Rattle.replies.specs.Reports.{report-of}
 use Rattle.device.specs.Holds.{Arrays, abs, Shape}
 use Rattle.device.specs.declared.Core.{Core}

@@ -1,6 +1,6 @@
 -- A call or a row that a line names, and its answer by the definition: the text, and the UART after it. Assumes nothing.
 use Prim.Native.Nat.{ℕ, zero, suc, _%_, min}
-use mathlib.Core.Bool.{Bool, true, false}
+use mathlib.Core.Bool.{true}
 use mathlib.Core.Option.{Option, none, some}
 use mathlib.Core.List.{List, [], _∷_, _++_, map}
 use lib.Bits.{bitXor}
@@ -14,9 +14,9 @@ use Rattle.trace.specs.declared.names.Name.the-variants.{Setup, Read, Write, Wr
 use Rattle.trace.specs.declared.names.Name.the-variants.{TakeTx, TakeWritten, HasLeft, HostPending, Figures}
 use Rattle.model.specs.State.{Uart}
 use Rattle.model.specs.SetUp.{new, setUpReply}
-use Rattle.model.specs.Call.{Machine, Dated, Undated, Call, Written, Request, Asked, Ask, Reply, reads, writes, does, takes, left}
+use Rattle.model.specs.Call.{Machine, Dated, Undated, Call, Request, Asked, Ask, Reply, reads, writes, does, takes, left}
 use Rattle.model.specs.Call.{pends, rows, Answer}
-use Rattle.model.specs.Replies.{asRead, Take}
+use Rattle.model.specs.Replies.{asRead}
 use Rattle.model.specs.Run.{asked}
 use Rattle.model.specs.declared.Report.{Report}
 use Rattle.model.specs.declared.SetUp.{SetUp}

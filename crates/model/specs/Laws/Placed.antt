@@ -3,7 +3,7 @@
 use mathlib.Core.Path.{_≡_, refl, ap}
 use Prim.Native.Nat.{ℕ, _%_}
 use mathlib.Core.Option.{some}
-use mathlib.Core.List.{List, [], _∷_}
+use mathlib.Core.List.{List}
 use Rattle.model.specs.Numbers.{choose}
 use Rattle.model.specs.State.{Uart}
 use Rattle.model.specs.Map.{Register, isFifo, registerOf}

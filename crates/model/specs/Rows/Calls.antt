@@ -1,25 +1,24 @@
 -- What a row is, in calls: the state that it leaves, its passes, overflows and notices, and what its settlings find are those of its
 -- writes made one by one, its number is its first write's, and an empty one changes nothing. Assumes nothing.
-use mathlib.Core.Path.{_≡_, refl, sym, ap, ap₂, subst, _∙_}
+use mathlib.Core.Path.{_≡_, refl, sym, ap, ap₂, _∙_}
 use Prim.Native.Nat.{ℕ, zero, suc, _+_, _%_, _≤_, _<_, suc-le-suc}
 use native.Mathlib.Omega.{arith}
 use mathlib.Core.Bool.{Bool, decide}
 use mathlib.Core.Option.{Option, none, some}
 use mathlib.Core.List.{List, [], _∷_, _++_, map, flatMap}
-use lib.Dec.{eqb}
 use lib.ListN.{length, take, length-map}
 use lib.Seq.{length-take-le}
-use borrow.Author.Tests.{eqb-true, lt-leb, le-ltb}
+use borrow.Author.Tests.{lt-leb, le-ltb}
 use Rattle.model.specs.State.{Uart}
 use Rattle.model.specs.Events.{total}
-use Rattle.model.specs.Replies.{number, Notes, notices, noReport, report, writeNumber}
+use Rattle.model.specs.Replies.{Notes, notices, noReport, report, writeNumber}
 use Rattle.model.specs.Map.{Register, isFifo, registerOf}
-use Rattle.model.specs.Registers.{sendByte, concluded}
+use Rattle.model.specs.Registers.{concluded}
 use Rattle.model.specs.Tests.{dateEnd, refuseIf, refuseDate}
 use Rattle.model.specs.Calls
 use Rattle.model.specs.Calls.{Outcome, refusing, unless, afterSettling, carried, outcome, send, writeAt}
 use Rattle.model.specs.Call
-use Rattle.model.specs.Call.{Dated, Call, dateOf, Request, Asked, Ask, Answer}
+use Rattle.model.specs.Call.{Dated, Call, dateOf, Request, Asked, Ask}
 use Rattle.model.specs.Row.{Count, countedAll, timesOf, notesOf, fifoWrite, writes, leftBy, summed, firstTest, row, rowNumber}
 use Rattle.model.specs.Row.{rowLimit}
 use Rattle.model.specs.Run.{Step, answering, planBy, plan, writing, step, askedBy, runBy, run, history}
@@ -30,7 +29,6 @@ use Rattle.model.specs.Laws.Plans.{replied}
 use Rattle.model.specs.Keeps.Runs.{stateAfter}
 use Rattle.model.specs.Refuses.Carried.{send-proper}
 use Rattle.model.specs.Keeps.MapKept.{step-kept}
-use Rattle.model.specs.MeetsManual.Answers.{InTime}
 use Rattle.model.specs.declared.Refusal.{Refusal}
 use Rattle.model.specs.declared.Refusal.the-variants.{DatePastEnd, DateWentBack}
 use Rattle.model.specs.declared.Row.{Row}

@@ -3,7 +3,7 @@ use mathlib.Core.Path.{_≡_, refl, sym, ap, subst, _∙_}
 use Prim.Native.Nat.{ℕ, _≤_, _<_}
 use native.Mathlib.Nat.{le-refl}
 use mathlib.Core.Bool.{Bool, false}
-use mathlib.Core.List.{List, [], _∷_, _++_, map-append}
+use mathlib.Core.List.{List, map-append}
 use lib.Dec.{ltb}
 use lib.ListN.{length}
 use Rattle.dates.specs.Dates.{subcycles}
@@ -13,12 +13,12 @@ use Rattle.model.specs.Setters.{withWake, withControl, withInFlight}
 use Rattle.model.specs.Line.{fifoBytes, raiseIf, timeoutAt}
 use Rattle.model.specs.Settle.{assertLevels, drive, intStatus, settlingDate, levels, settingsOf}
 use Rattle.model.specs.Arm.{lastGone, arm}
-use Rattle.model.specs.Registers.{Access, goneAt, sent, dropped, sendByte, concluded}
+use Rattle.model.specs.Registers.{Access, sent, dropped, sendByte, concluded}
 use Rattle.model.specs.Calls.{dated}
 use Rattle.model.specs.Laws.Plans.{settleAt}
 use Rattle.model.specs.Laws.Choose.{choose-ind}
 use Rattle.model.specs.Laws.Lists.{all-snoc}
-use Rattle.model.specs.Limits.{Chain, All, flightDates}
+use Rattle.model.specs.Limits.{Chain, flightDates}
 use Rattle.model.specs.Keeps.Kept.{settle-keeps}
 use Rattle.model.specs.Ends.NothingDue.{NothingLeft, settle-nothing-left}
 use Rattle.theorems.specs.TwoSteps.Levels.{levels-dressed, levels-again}

@@ -1,23 +1,23 @@
 -- Levels and wake where one byte more is in flight: no level rises that had not, and of the instants that ask for a wake only the one at
 -- which the transmit FIFO falls below its threshold can be new. Assumes nothing.
-use mathlib.Core.Path.{_≡_, refl, sym, ap, ap₂, subst, _∙_}
-use Prim.Native.Nat.{ℕ, zero, suc, _+_, _-_, _≤_, _<_}
+use mathlib.Core.Path.{_≡_, refl, sym, ap, subst, _∙_}
+use Prim.Native.Nat.{ℕ, _-_, _≤_}
 use native.Mathlib.Omega.{arith}
 use mathlib.Core.Bool.{Bool, true, false, false≢true, not}
-use mathlib.Core.List.{List, [], _∷_, _++_}
+use mathlib.Core.List.{List, [], _∷_}
 use lib.Dec.{eqb}
 use lib.ListN.{length}
 use lib.Bits.{bitAnd}
-use Rattle.model.specs.Numbers.{choose, onlyIf, earliest, inCycles}
+use Rattle.model.specs.Numbers.{choose, earliest, inCycles}
 use Rattle.model.specs.State.{Sent, Uart, lineOf}
-use Rattle.model.specs.Setters.{withIntRaw, withLine, withLevel, withWake, withControl, withInFlight}
+use Rattle.model.specs.Setters.{withIntRaw, withLine, withLevel, withControl, withInFlight}
 use Rattle.model.specs.Line.{RXFIFO-FULL, TXFIFO-EMPTY, raiseIf}
-use Rattle.model.specs.Settle.{aboveFull, belowEmpty, assertLevels, intStatus, drive, levels, settingsOf, emptyThreshold}
-use Rattle.model.specs.Arm.{nthGone, lastGone, belowThresholdAt, nextLanding, landingOf, instants, armed, armAll, arm}
+use Rattle.model.specs.Settle.{aboveFull, belowEmpty, assertLevels, intStatus, drive, levels}
+use Rattle.model.specs.Arm.{armAll}
 use Rattle.model.specs.Limits.{All, nil, cons}
 use Rattle.theorems.specs.TwoSteps.Raises.{raises, raises-swap, raises-within}
 use Rattle.theorems.specs.TwoSteps.Levels.{empty-less}
-use Rattle.model.specs.ShutsOut.Wakes.{cycleOf, InTimeFor, Earliest, in-cycles, armAll-earliest}
+use Rattle.model.specs.ShutsOut.Wakes.{cycleOf, InTimeFor, armAll-earliest}
 use Rattle.model.specs.declared.Date.{Date}
 use Rattle.model.specs.declared.Date.the-variants.{None, At}
 

@@ -1,6 +1,6 @@
 -- Rows on the bench, with the answers that N1's sentences give, as rows of one list, and one claim over the list. Assumes nothing.
 use mathlib.Core.Path.{_≡_, refl}
-use Prim.Native.Nat.{ℕ, _*_}
+use Prim.Native.Nat.{ℕ}
 use mathlib.Core.Bool.{decide}
 use mathlib.Core.List.{List, [], _∷_, map, flatMap}
 use lib.ListN.{length, replicate}
@@ -16,9 +16,9 @@ use Rattle.model.specs.Settle.{departures, passes, aboveFull, inFifo, emptyThre
 use Rattle.model.specs.Settle.{settlingDate, levels, leveled, settingsOf, settleTo, settle}
 use Rattle.model.specs.Arm.{called, nthGone, lastGone, belowThresholdAt, nextStart, landingOf, nextLanding, instants}
 use Rattle.model.specs.Arm.{armAll, arm}
-use Rattle.model.specs.Replies.{number, notices, noReport, report, word, byte, readNumber, writeNumber}
+use Rattle.model.specs.Replies.{number, notices, noReport, report, readNumber, writeNumber}
 use Rattle.model.specs.Replies.{doneNumber, takenNumber, noticeNumbers}
-use Rattle.model.specs.Map.{Register, fifo, intClr, shown, stored, conf1, intRaw, status, fsmStatus, registers, registerAmong}
+use Rattle.model.specs.Map.{fsmStatus, registers, registerAmong}
 use Rattle.model.specs.Map.{registerOf, valueOf, placeAmong, wordsBy, replaced}
 use Rattle.model.specs.Registers.{noteIf, sourceNotes, statusWord, looks, pop, shownIn, readRegister, readLooking, readAt}
 use Rattle.model.specs.Registers.{conf0Notes, storedNotes, startsAt, goneAt, sent, dropped, sendByte, resetFifos, storing, clearing}
@@ -32,7 +32,7 @@ use Rattle.model.specs.Calls
 use Rattle.model.specs.Row
 use Rattle.model.specs.Row.{leftBy, summed, firstTest, row, counted, countedAll, timesOf}
 use Rattle.model.specs.SetUp.{wordsAmong, mapOf, newControl, new}
-use Rattle.model.specs.Call.{wake, Dated, receive, machine, at, dateOf, Request, Reply, reads, writes, does}
+use Rattle.model.specs.Call.{wake, receive, machine, at, dateOf, writes}
 use Rattle.model.specs.Run.{numberOf, stepped, replying, planBy, writing, plan, step}
 use Rattle.model.specs.declared.Date.{Date}
 use Rattle.model.specs.declared.Date.the-variants.{At}
@@ -40,7 +40,6 @@ use Rattle.model.specs.declared.Unsupported.{Unsupported}
 use Rattle.model.specs.declared.Unsupported.the-variants.{UartOverflow, UartClock}
 use Rattle.model.specs.Marks.{benchWords, offset, bench, Hold}
 use Rattle.model.specs.declared.Row as Declared
-use Rattle.model.specs.declared.Report.{Report}
 
 -- a source without a frequency, and a divider of 0
 unfoldable pub sourceless : Uart ℕ ℕ

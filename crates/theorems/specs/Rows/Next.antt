@@ -18,8 +18,8 @@ use Rattle.model.specs.Settle.{settlingDate, emptyThreshold, settingsOf, assert
 use Rattle.model.specs.Arm.{nthGone, lastGone, belowThresholdAt, landingOf, nextLanding, instants, armAll, arm}
 use Rattle.model.specs.Replies.{report}
 use Rattle.model.specs.Registers.{sourceNotes, Access, goneAt, sent, dropped, sendByte, concluded}
-use Rattle.model.specs.Tests.{dateEnd, pastEnd, wentBack, transmitFull, refuseIf, refuseDate}
-use Rattle.model.specs.Calls.{Outcome, refusalBy, unless, afterSettling, carried, outcome, send}
+use Rattle.model.specs.Tests.{dateEnd, transmitFull, refuseIf, refuseDate}
+use Rattle.model.specs.Calls.{Outcome, unless, afterSettling, carried, outcome, send}
 use Rattle.model.specs.Row.{fifoWrite}
 use Rattle.model.specs.Limits.{All, nil, cons, flightDates, Fits}
 use Rattle.model.specs.Laws.Lists.{lastOf, all-snoc}

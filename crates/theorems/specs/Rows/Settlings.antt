@@ -1,16 +1,15 @@
 -- Demand 1 of the settlings of a row, one for each write that is made: each is bounded and leaves nothing due, and they find all that
 -- the row reports. Assumes a state within the limits.
-use mathlib.Core.Path.{_≡_, refl, sym, ap, ap₂, subst, _∙_}
+use mathlib.Core.Path.{_≡_, refl, ap₂}
 use Prim.Native.Nat.{ℕ}
 use native.Mathlib.Omega.{arith}
-use mathlib.Core.Bool.{Bool, true, false}
+use mathlib.Core.Bool.{true}
 use mathlib.Core.Option.{Option, none, some}
 use mathlib.Core.List.{List, [], _∷_, _++_, flatMap}
 use lib.Dec.{eqb}
 use lib.ListN.{take}
 use borrow.Author.Tests.{eqb-true}
 use Rattle.model.specs.State.{Uart}
-use Rattle.model.specs.Events.{Event}
 use Rattle.model.specs.Replies.{number, writeNumber}
 use Rattle.model.specs.Settle.{settle}
 use Rattle.model.specs.Tests.{refuseDate}

@@ -5,11 +5,11 @@ use Prim.Native.Nat.{ℕ, zero, suc, _+_, _-_, _*_, _<_}
 use native.Mathlib.Omega.{arith}
 use mathlib.Core.Bool.{Bool, true, false, _&&_, and-false}
 use mathlib.Core.Option.{Option, none, some}
-use mathlib.Core.List.{List, [], _∷_, _++_, map, append-nil}
-use lib.Dec.{leb, ltb, eqb}
-use lib.ListN.{length, take, drop}
+use mathlib.Core.List.{List, [], _∷_, map, append-nil}
+use lib.Dec.{ltb, eqb}
+use lib.ListN.{length, take}
 use borrow.Author.Tests.{lt-leb, lt-ltb, ne-eqb}
-use Rattle.dates.specs.Dates.{later, earlier}
+use Rattle.dates.specs.Dates.{earlier}
 use Rattle.model.specs.Numbers.{choose, dueBy}
 use Rattle.model.specs.State.{Sent, Run, OnTheLine, Uart, lineOf}
 use Rattle.model.specs.Setters.{withLineOf, withControl, withLast}
@@ -17,13 +17,13 @@ use Rattle.model.specs.Events.{departure, nothing, goesOn}
 use Rattle.model.specs.Line.{raiseIf, timeoutAt}
 use Rattle.model.specs.Settle.{gone, txDone, leave, depart, departures, Pass}
 use Rattle.model.specs.Settle.{nothingDue, inFrame, beforeStart, idle, lineFree, passOn}
-use Rattle.model.specs.Settle.{pass, Settled, found, ended, passesFrom, pending, passes, settlingDate, levels, leveled, settingsOf}
+use Rattle.model.specs.Settle.{pass, found, ended, passesFrom, pending, passes, settlingDate, levels, leveled, settingsOf}
 use Rattle.model.specs.Settle.{settleTo, settle}
 use Rattle.model.specs.Arm.{arm}
 use Rattle.model.specs.Calls.{dated}
 use Rattle.model.specs.Laws.Plans.{settleAt}
 use Rattle.model.specs.Laws.Choose.{choose-true, choose-false}
-use Rattle.model.specs.Limits.{All, nil, cons, flightDates}
+use Rattle.model.specs.Limits.{All, cons, flightDates}
 use Rattle.model.specs.Ends.Passes.{After, LineQuiet}
 use Rattle.model.specs.Ends.NothingDue.{NothingLeft}
 use Rattle.model.specs.declared.Date.{Date}

@@ -13,7 +13,6 @@ use Rattle.model.specs.declared.Report.{Report}
 use Rattle.model.specs.declared.Row.{Row}
 use Rattle.model.specs.declared.Source.{Source}
 use Rattle.model.specs.declared.Taken.{Taken}
-use Rattle.model.specs.declared.Unsupported.{Unsupported}
 use Rattle.model.specs.declared.Unsupported.the-variants.{UartEmptyRead, UartReceiveClock}
 
 module _ (fifo : ℕ) (cs ds : List Ask) where

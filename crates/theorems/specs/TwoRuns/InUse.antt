@@ -11,10 +11,10 @@ use Rattle.model.specs.Laws.Choose.{choose-false}
 use Rattle.model.specs.State.{Uart}
 use Rattle.model.specs.Map.{isFifo, registerOf}
 use Rattle.model.specs.SetUp.{mapOf, new}
-use Rattle.model.specs.Call.{Dated, Call, Request, given, hostOf, Asked, Ask}
-use Rattle.model.specs.Run.{step, askedBy, runBy, asked, run}
+use Rattle.model.specs.Call.{Dated, Call, Request, given, Asked, Ask}
+use Rattle.model.specs.Run.{askedBy, runBy, asked, run}
 use Rattle.model.specs.Refuses.FifoPlace.{first-is-fifo}
-use Rattle.theorems.specs.TwoRuns.Alike.{Each, Alike, AskedAlike, fifoOffset, fifoBytesOf, givenBy, hostGiven, fifoGiven}
+use Rattle.theorems.specs.TwoRuns.Alike.{Each, Alike, AskedAlike, fifoOffset, givenBy, hostGiven, fifoGiven}
 use Rattle.theorems.specs.TwoRuns.Renamed.{itself, mapAnswer, withBytesOf}
 use Rattle.theorems.specs.TwoRuns.Agree.{Agreeing}
 use Rattle.theorems.specs.TwoRuns.Numbered.{withoutRest}

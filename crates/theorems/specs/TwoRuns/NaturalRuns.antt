@@ -4,14 +4,14 @@ use Prim.Native.Nat.{ℕ, _+_}
 use mathlib.Core.Option.{Option, some}
 use mathlib.Core.List.{List, [], _∷_, _++_, map, flatMap, map-append}
 use lib.Dec.{eqb}
-use lib.ListN.{length, take, length-map}
+use lib.ListN.{take, length-map}
 use Rattle.model.specs.Numbers.{choose}
 use Rattle.model.specs.State.{Uart}
 use Rattle.model.specs.Events.{total}
 use Rattle.model.specs.Replies.{report, writeNumber}
 use Rattle.model.specs.Tests.{refuseDate}
-use Rattle.model.specs.Calls.{Outcome, unless, send}
-use Rattle.model.specs.Row.{rowLimit, countedAll, timesOf, notesOf, fifoWrite, writes, leftBy, summed, firstTest, row}
+use Rattle.model.specs.Calls.{Outcome, unless}
+use Rattle.model.specs.Row.{rowLimit, notesOf, fifoWrite, writes, leftBy, summed, firstTest, row}
 use Rattle.model.specs.Call.{Asked, rows}
 use Rattle.model.specs.Run.{answering, askedBy, runBy}
 use Rattle.model.specs.Laws.Choose.{choose-nat}

@@ -17,7 +17,7 @@ use Rattle.model.specs.Refuses.FifoPlace.{after-first}
 use Rattle.model.specs.Call.{Dated, Undated, Call, Written, Request, given, hostOf, Asked, Ask}
 use Rattle.model.specs.Laws.Placed.{Put, Placed, changedDated, changedUndated, changed, changedAsked, putAt, placed, placedAsked}
 use Rattle.theorems.specs.TwoRuns.Alike.{Each, Alike, same, hostBytes, fifoWord, lentToTakeTx, lentToTakeWritten, AskedAlike}
-use Rattle.theorems.specs.TwoRuns.Alike.{fifoBytesOf, givenBy, hostGiven, fifoGiven}
+use Rattle.theorems.specs.TwoRuns.Alike.{givenBy, hostGiven, fifoGiven}
 use Rattle.theorems.specs.TwoRuns.Renamed.{itself, forget}
 use Rattle.theorems.specs.TwoRuns.NaturalCalls.{mapPut, mapPlaced}
 use Rattle.theorems.specs.TwoRuns.NaturalRuns.{mapAsked}

@@ -8,7 +8,7 @@ use Rattle.theorems.specs.TwoRuns.Renamed.{mapUart, mapReceiving}
 use Rattle.model.specs.SetUp.{mapOf, new}
 use Rattle.model.specs.Limits.{All}
 use Rattle.model.specs.Replies.{word, byte, noValue, refused, Take}
-use Rattle.model.specs.Call.{Request, hostOf, Asked, Ask, Reply, reads, writes, does, takes, left, pends, rows, Answer}
+use Rattle.model.specs.Call.{Request, Asked, Ask, Reply, reads, writes, does, takes, left, pends, rows, Answer}
 use Rattle.model.specs.Run.{run}
 use Rattle.theorems.specs.TwoRuns.Alike.{Each, Alike, AskedAlike, fifoOffset, givenBy, hostGiven, fifoGiven, hostByte, writeByte}
 use Rattle.theorems.specs.TwoRuns.Renamed.{itself, forget, mapReadOf}
