@@ -19,7 +19,7 @@ use registers::{places, words};
 use replies::notices::Notices;
 
 // A core after a read, its value and its notices.
-#[derive(Drop)]
+#[derive(Clone, Copy)]
 pub struct PlaceRead {
     pub core: Core,
     pub reply: Read,

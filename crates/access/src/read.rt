@@ -20,7 +20,7 @@ use replies::refusals::Verdict;
 use replies::report;
 
 #[repr(C)]
-#[derive(Drop)]
+#[derive(Clone, Copy)]
 pub struct ReadCore {
     pub core: Core,
     pub reply: Read,

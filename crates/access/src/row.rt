@@ -30,7 +30,7 @@ const FLIGHT_LIMIT: usize = 129;
 const SENT_LIMIT: usize = 1152;
 
 #[repr(C)]
-#[derive(Drop)]
+#[derive(Clone, Copy)]
 pub struct RowCore {
     pub core: Core,
     pub reply: Row,
@@ -38,7 +38,7 @@ pub struct RowCore {
 }
 
 // What the writes so far come to, and whether the next one settles.
-#[derive(Drop)]
+#[derive(Clone, Copy)]
 struct RowSoFar {
     core: Core,
     made: usize,

@@ -18,7 +18,7 @@ use registers::words;
 use replies::notices::Notices;
 
 // A core after a write, whether the write is accepted, and its notices.
-#[derive(Drop)]
+#[derive(Clone, Copy)]
 pub struct PlaceWrite {
     pub core: Core,
     pub reply: Write,

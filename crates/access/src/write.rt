@@ -25,7 +25,7 @@ use replies::refusals::Verdict;
 use replies::report;
 
 #[repr(C)]
-#[derive(Drop)]
+#[derive(Clone, Copy)]
 pub struct WriteCore {
     pub core: Core,
     pub reply: Write,

@@ -1,6 +1,8 @@
 // One mixed workload over the parts of a UART, as a program that embeds it would call: firmware sends a row, a host answers
 // with one, an interrupt handler reads it, and a console takes what was sent. compare/programs/src/bin/workload.rs does the
 // same on the published Rust.
+#![tactic(auto)]
+
 mod notes;
 mod steps;
 
@@ -16,7 +18,7 @@ use libc::STDOUT_FILENO;
 use model::{Read, SetUp, Taken};
 use uart::Uart;
 
-#[derive(Drop)]
+#[derive(Clone, Copy)]
 struct Tally {
     core: Core,
     notes: Notes,

@@ -2,7 +2,7 @@
 ghost use Rattle.std.specs.Prelude.{◌≡◌};
 ghost use Rattle.bench_mixed.specs.Notes.{kept_of, added, looked};
 
-#[derive(Drop)]
+#[derive(Clone, Copy)]
 pub struct Notes {
     pub sum: u64,
     pub raised: u32,

@@ -7,7 +7,7 @@ use crate::notes::Notes;
 
 pub const STEPS: u64 = 13402;
 
-#[derive(Drop)]
+#[derive(Clone, Copy)]
 pub enum Step {
     // A read at an offset.
     Look(u32),

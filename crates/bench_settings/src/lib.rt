@@ -1,5 +1,6 @@
 // Document 01's bench settings, for the programs that test and measure: offsets and reset words in the order of set-up, and the
 // offsets of some places.
+#![tactic(auto)]
 
 pub const FIFO: u32 = 0;
 

@@ -1,4 +1,6 @@
 // 1,000 host bytes that land in one settling at document 01's bench settings, and a settling with nothing due.
+#![tactic(auto)]
+
 mod show;
 
 ghost use Rattle.std.specs.Prelude.{◌≡◌, length};

@@ -15,7 +15,7 @@ use text::parts::within;
 const FULL: usize = 65408;
 
 // The trace so far, and what is put out of it.
-#[derive(Drop)]
+#[derive(Clone, Copy)]
 pub struct Session {
     pub trace: Trace,
     pub output: Output,

@@ -1,6 +1,8 @@
 // Takes a client's bytes out of a trace of the replay format (docs/REPLAY.md): the same calls, with every host byte, every byte of a
 // row, every word written to FIFO or to a place that takes none, and every reset word that is not used replaced. It only reads and
 // writes: what is put out for a line stands in the crate blanking.
+#![tactic(auto)]
+
 mod input;
 mod output;
 mod usage;

@@ -55,7 +55,7 @@ fn put_set_up(out: &mut [u8], at: usize, all: [u64; 32]) -> usize
 }
 
 // The numbers of a write.
-#[derive(Drop)]
+#[derive(Clone, Copy)]
 struct Numbers {
     date: u64,
     offset: u32,

@@ -18,7 +18,7 @@ use trace::low::sixteen;
 use trace::names::Name;
 
 // The register map, once a UART is set up; the lines so far, and those left out.
-#[derive(Drop)]
+#[derive(Clone, Copy)]
 pub struct Trace {
     pub offsets: [u32; 16],
     pub ready: bool,
@@ -27,7 +27,7 @@ pub struct Trace {
 }
 
 // What a line leaves: the trace after it, and the place after its text.
-#[derive(Drop)]
+#[derive(Clone, Copy)]
 pub struct Blanked {
     pub trace: Trace,
     pub at: usize,

@@ -7,7 +7,7 @@ use model::{Done, Refusal, Report};
 use replies::report;
 
 #[repr(C)]
-#[derive(Drop)]
+#[derive(Clone, Copy)]
 pub struct DoneCore {
     pub core: Core,
     pub reply: Done,

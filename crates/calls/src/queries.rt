@@ -10,14 +10,14 @@ use device::Core;
 use line::Receiving;
 
 #[repr(C)]
-#[derive(Drop)]
+#[derive(Clone, Copy)]
 pub struct HasLeft {
     pub number: u32,
     pub has_left: bool,
 }
 
 #[repr(C)]
-#[derive(Drop)]
+#[derive(Clone, Copy)]
 pub struct HostPending {
     pub number: u32,
     pub count: usize,

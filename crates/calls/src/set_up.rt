@@ -93,7 +93,7 @@ pub fn new_core(offsets: [u32; 16], resets: [u32; 16]) -> Core
 }
 
 // A new core, and what set-up answers.
-#[derive(Drop)]
+#[derive(Clone, Copy)]
 pub struct NewParts {
     pub core: Core,
     pub reply: SetUp,

@@ -1,5 +1,6 @@
 // Dates in cycles and in subcycles, held at the last one that fits 64 bits. Carried over from
 // inkemu's uart.rs (`SUBCYCLES`, `saturating_add`, `saturating_mul`, `div_ceil`, `max`, `min`) and changed.
+#![tactic(auto)]
 
 ghost use Rattle.std.specs.Prelude.{◌≡◌};
 ghost use Rattle.dates.specs.Dates as Dates;

@@ -1,5 +1,6 @@
 // The Deadline: the cycle at which the UART asks to be called. It keeps the earliest, and a call at or after it clears it.
 // Carried over from inkemu's ctx.rs and changed: no event is scheduled here.
+#![tactic(auto)]
 
 ghost use Rattle.std.specs.Prelude.{◌≡◌};
 ghost use Rattle.model.specs.Numbers.{in_cycles};
@@ -9,7 +10,7 @@ ghost use Rattle.deadline.specs.Changes.{armed_at, called_at};
 use model::Date;
 
 #[repr(C)]
-#[derive(Drop)]
+#[derive(Clone, Copy)]
 pub struct Deadline {
     pub due: Date,
 }

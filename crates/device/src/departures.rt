@@ -27,7 +27,7 @@ pub fn gone(gone_at: &[u64; 129], flight: Cursor, date: u64) -> usize
 }
 
 // The cursors of the bytes in flight and of those that have left.
-#[derive(Drop)]
+#[derive(Clone, Copy)]
 pub struct Transmitter {
     pub flight: Cursor,
     pub tx: Cursor,

@@ -1,6 +1,8 @@
 // The UART over parts: its numbers and marks with a cursor for each queue, the slots of the queues in arrays lent beside them; and
 // how it settles: bytes leave, bytes land, the wake is armed. What is decided stands in `line`; here the bytes follow. Carried
 // over from inkemu's uart.rs and changed: the queues are rings in fixed slots.
+#![tactic(auto)]
+
 pub mod arm;
 mod departures;
 mod pass;
@@ -14,7 +16,7 @@ use queue::Cursor;
 
 // All but the arrays.
 #[repr(C)]
-#[derive(Drop)]
+#[derive(Clone, Copy)]
 pub struct Core {
     pub map: RegisterMap,
     pub control: Control,

@@ -8,7 +8,7 @@ use model::{Line, Settings};
 use queue::Cursor;
 
 // What a pass changes beside the arrays.
-#[derive(Drop)]
+#[derive(Clone, Copy)]
 pub struct Reception {
     pub line: Line,
     pub receiving: Receiving,
@@ -18,7 +18,7 @@ pub struct Reception {
     pub rx: Cursor,
 }
 
-#[derive(Drop)]
+#[derive(Clone, Copy)]
 pub struct Pass {
     pub reception: Reception,
     pub found: Found,

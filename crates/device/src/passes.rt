@@ -11,7 +11,7 @@ use line::Receiving;
 use model::{Date, Settings, Words};
 
 // The line after its passes, how many were made, and the bytes lost with UartRxOverflow.
-#[derive(Drop)]
+#[derive(Clone, Copy)]
 pub struct Passes {
     pub reception: Reception,
     pub passes: u64,

@@ -11,7 +11,7 @@ use crate::{Core, departures};
 use model::Line;
 
 #[repr(C)]
-#[derive(Drop)]
+#[derive(Clone, Copy)]
 pub struct SettleCore {
     pub core: Core,
     pub passes: u64,

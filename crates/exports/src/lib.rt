@@ -1,5 +1,7 @@
 // The calls for Rust and C, a module for each: the core in plain numbers by value, the slots of the queues by pointer. rust/build-lib
 // makes an object of each module.
+#![tactic(auto)]
+
 pub mod clock_change;
 pub mod line_figures;
 pub mod new;

@@ -7,14 +7,14 @@ use ffi::results::PlainReply;
 
 // Sixteen words, in the order of set-up.
 #[repr(C)]
-#[derive(Drop)]
+#[derive(Clone, Copy)]
 pub struct Sixteen {
     pub words: [u32; 16],
 }
 
 // A new core. Where set-up is refused it is not one to call.
 #[repr(C)]
-#[derive(Drop)]
+#[derive(Clone, Copy)]
 pub struct PlainNew {
     pub core: PlainCore,
     pub reply: PlainReply,

@@ -14,7 +14,7 @@ use host::answers::TakeCore;
 use model::Report;
 
 #[repr(C)]
-#[derive(Drop)]
+#[derive(Clone, Copy)]
 pub struct PlainAnswer {
     pub core: PlainCore,
     pub reply: PlainReply,
@@ -23,7 +23,7 @@ pub struct PlainAnswer {
 
 // That of a row.
 #[repr(C)]
-#[derive(Drop)]
+#[derive(Clone, Copy)]
 pub struct PlainRowAnswer {
     pub core: PlainCore,
     pub reply: PlainRow,

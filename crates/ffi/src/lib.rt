@@ -1,4 +1,6 @@
 // The core, replies, reports and figures in plain numbers, as Rust and C hold them: an exported function may neither take nor give an enum.
+#![tactic(auto)]
+
 pub mod answers;
 pub mod line_figures;
 pub mod notices;
@@ -15,7 +17,7 @@ use queue::Cursor;
 
 // A date, or none: `at` is 0 while `set` is false.
 #[repr(C)]
-#[derive(Drop)]
+#[derive(Clone, Copy)]
 pub struct PlainDate {
     pub set: bool,
     pub at: u64,
@@ -23,7 +25,7 @@ pub struct PlainDate {
 
 // What `Core` holds. A source is one more than its SCLK_SEL, 0 for none.
 #[repr(C)]
-#[derive(Drop)]
+#[derive(Clone, Copy)]
 pub struct PlainCore {
     pub map: RegisterMap,
     pub words: Words,
@@ -106,7 +108,7 @@ fn receiving_of(on_the_line: bool, timed_on: u32, heard: bool) -> Receiving
 }
 
 // What is on the line beside its byte, in plain numbers.
-#[derive(Drop)]
+#[derive(Clone, Copy)]
 struct OnTheLine {
     on: bool,
     timed_on: u32,

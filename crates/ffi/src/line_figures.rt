@@ -8,7 +8,7 @@ use figures::report::{LineFigures, Place};
 const UNFIT_LIST: u32 = 9;
 
 #[repr(C)]
-#[derive(Drop)]
+#[derive(Clone, Copy)]
 pub struct PlainFigures {
     // 0 for done, or the number of a refusal: then all else is 0.
     pub number: u32,
@@ -25,7 +25,7 @@ pub struct PlainFigures {
 }
 
 // A place, or none: `at` is 0 while `placed` is false.
-#[derive(Drop)]
+#[derive(Clone, Copy)]
 struct PlainPlace {
     placed: bool,
     at: u64,

@@ -6,7 +6,7 @@ ghost use Rattle.ffi.specs.Notes.{plain_unsupported, plain_notices, plain_all};
 use model::{Feature, Notice, Unsupported};
 
 #[repr(C)]
-#[derive(Drop)]
+#[derive(Clone, Copy)]
 pub struct PlainNotice {
     pub what: u32,
     pub which: u32,

@@ -11,7 +11,7 @@ use model::{Done, Read, Refusal, Report, Row, SetUp, Taken, Write};
 use replies::refusals::number_of;
 
 #[repr(C)]
-#[derive(Drop)]
+#[derive(Clone, Copy)]
 pub struct PlainReply {
     // 0 for done, or document 01's number of a refusal.
     pub number: u32,
@@ -23,7 +23,7 @@ pub struct PlainReply {
 
 // The reply of a row.
 #[repr(C)]
-#[derive(Drop)]
+#[derive(Clone, Copy)]
 pub struct PlainRow {
     // 0 for done, or document 01's number of a refusal.
     pub number: u32,
@@ -36,7 +36,7 @@ pub struct PlainRow {
 
 // The report of a dated call; that of a refused or an undated one is fixed, with nothing in it.
 #[repr(C)]
-#[derive(Drop)]
+#[derive(Clone, Copy)]
 pub struct PlainReport {
     pub level: bool,
     // In cycles.

@@ -6,7 +6,7 @@ ghost use Rattle.figures.specs.Pass.{Follows, begun, shorter_of, gap_to, next_pl
 use crate::report::{Figures, Place};
 
 // `end` is where the last of them ended, and `place` that of the frame before the longest quiet stretch; both are 0 at first.
-#[derive(Drop)]
+#[derive(Clone, Copy)]
 pub struct SoFar {
     pub frames: usize,
     pub end: u64,
@@ -100,7 +100,7 @@ fn place_in(frames: usize, place: usize) -> Place
 }
 
 // The mean frame.
-#[derive(Drop)]
+#[derive(Clone, Copy)]
 struct Mean {
     quotient: u64,
     remainder: u64,

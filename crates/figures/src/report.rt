@@ -1,14 +1,14 @@
 // What is reported of a line.
 
 // The place of the frame before the longest quiet stretch, from 0. With fewer than two frames there is none.
-#[derive(Drop)]
+#[derive(Clone, Copy)]
 pub enum Place {
     None,
     At(usize),
 }
 
 // In subcycles, but for the place. The mean frame has a quotient and a remainder.
-#[derive(Drop)]
+#[derive(Clone, Copy)]
 pub struct Figures {
     pub busy: u64,
     pub shortest: u64,
@@ -20,7 +20,7 @@ pub struct Figures {
 }
 
 // The figures, or that the frames are refused.
-#[derive(Drop)]
+#[derive(Clone, Copy)]
 pub enum LineFigures {
     Figures(Figures),
     Refused,

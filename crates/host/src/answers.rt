@@ -7,7 +7,7 @@ use model::{Refusal, Report, Taken};
 use replies::report;
 
 #[repr(C)]
-#[derive(Drop)]
+#[derive(Clone, Copy)]
 pub struct TakeCore {
     pub core: Core,
     pub reply: Taken,

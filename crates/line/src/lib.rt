@@ -1,5 +1,7 @@
 // Every decision about the line, on numbers and marks alone: a frame's start and the fate of its byte, the idle line and its timeout, a
 // pass, levels and the interrupt, the next instant. No byte is in it. Carried over from inkemu's uart.rs and changed.
+#![tactic(auto)]
+
 pub mod fate;
 mod frame;
 pub mod idle;
@@ -11,14 +13,14 @@ pub mod pass;
 use model::{Fate, Frame, Line};
 
 // What is on the line beside its byte.
-#[derive(Drop)]
+#[derive(Clone, Copy)]
 pub enum Receiving {
     None,
     OnTheLine(Frame),
 }
 
 // What a pass found due.
-#[derive(Drop)]
+#[derive(Clone, Copy)]
 pub enum Found {
     NothingDue,
     TimedOut,
@@ -26,7 +28,7 @@ pub enum Found {
 }
 
 // What a pass does: the line's part after it, what it found, and whether a host byte started in it.
-#[derive(Drop)]
+#[derive(Clone, Copy)]
 pub struct Move {
     pub line: Line,
     pub receiving: Receiving,
@@ -35,7 +37,7 @@ pub struct Move {
 }
 
 // Which byte in flight leaves fewer in the transmit FIFO than its threshold.
-#[derive(Drop)]
+#[derive(Clone, Copy)]
 pub enum Below {
     // They are fewer already, or the threshold is 0.
     Never,

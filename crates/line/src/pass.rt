@@ -73,7 +73,7 @@ fn in_frame(settings: Settings, held: usize, date: u64, started: bool, f: Frame,
 }
 
 // What is on the line once a start that is due has come, and whether one has.
-#[derive(Drop)]
+#[derive(Clone, Copy)]
 pub struct FrameStart {
     pub receiving: Receiving,
     pub started: bool,

@@ -1,15 +1,16 @@
 // The plain structs and enums that a UART's control and its replies are made of. What they mean stands in specs/.
 // Names are uart.rs's and diag.rs's of inkemu (carried over, changed). Dates are in subcycles, 1/32 of a cycle, unless
 // a line says cycles.
+#![tactic(auto)]
 
-#[derive(Drop)]
+#[derive(Clone, Copy)]
 pub enum Date {
     None,
     At(u64),
 }
 
 // The SCLK_SEL that timed something though the model has no frequency for it: none, 0 or 2.
-#[derive(Drop)]
+#[derive(Clone, Copy)]
 pub enum Source {
     None,
     Sel0,
@@ -19,7 +20,7 @@ pub enum Source {
 // The nine stored words: uart.rs's CONFIG. CLKDIV and CLK_CONF set the baud rate; IDLE_CONF, RS485_CONF and AT_CMD_CHAR have no effect of
 // their own.
 #[repr(C)]
-#[derive(Drop)]
+#[derive(Clone, Copy)]
 pub struct Words {
     pub int_ena: u32,
     pub clkdiv: u32,
@@ -34,7 +35,7 @@ pub struct Words {
 
 // What set-up fixes: sixteen offsets in the order of the places, and the reset words that are used.
 #[repr(C)]
-#[derive(Drop)]
+#[derive(Clone, Copy)]
 pub struct RegisterMap {
     pub offsets: [u32; 16],
     pub reset: Words,
@@ -45,7 +46,7 @@ pub struct RegisterMap {
 }
 
 // What a pass on the receive line may change.
-#[derive(Drop)]
+#[derive(Clone, Copy)]
 pub struct Line {
     pub int_raw: u32,
     // The source without a frequency that timed what the receiver showed since the firmware last looked at it: a start bit or a
@@ -59,14 +60,14 @@ pub struct Line {
 }
 
 // How the byte on the line came: the source that timed its frame, and whether the receiver's clock ran at its start.
-#[derive(Drop)]
+#[derive(Clone, Copy)]
 pub struct Frame {
     pub timed_on: Source,
     pub heard: bool,
 }
 
 // All that the UART decides from: no byte is in it.
-#[derive(Drop)]
+#[derive(Clone, Copy)]
 pub struct Control {
     pub words: Words,
     pub line: Line,
@@ -85,7 +86,7 @@ pub struct Control {
 }
 
 // What the receiver reads of the registers and the clock. Times in subcycles.
-#[derive(Drop)]
+#[derive(Clone, Copy)]
 pub struct Settings {
     pub byte_time: u64,
     pub timeout_time: u64,
@@ -97,7 +98,7 @@ pub struct Settings {
 }
 
 // What became of a byte that landed.
-#[derive(Drop)]
+#[derive(Clone, Copy)]
 pub enum Fate {
     Stored,
     // 128 bytes were held.
@@ -111,7 +112,7 @@ pub enum Fate {
 }
 
 // The modes that the model refuses by name: diag.rs's UartFeature.
-#[derive(Drop)]
+#[derive(Clone, Copy)]
 pub enum Feature {
     Loopback,
     InvertedRx,
@@ -127,7 +128,7 @@ pub enum Feature {
 }
 
 // What a call notes besides UartRxOverflow, which is counted: diag.rs's Unsupported. A number is an SCLK_SEL.
-#[derive(Drop)]
+#[derive(Clone, Copy)]
 pub enum Unsupported {
     UartOverflow,
     UartEmptyRead,
@@ -136,13 +137,13 @@ pub enum Unsupported {
     UartFeature(Feature),
 }
 
-#[derive(Drop)]
+#[derive(Clone, Copy)]
 pub struct Notice {
     pub what: Unsupported,
 }
 
 // Why a call is refused; the numbers are 1 to 8 in this order.
-#[derive(Drop)]
+#[derive(Clone, Copy)]
 pub enum Refusal {
     RepeatedOffset,
     DatePastEnd,
@@ -155,7 +156,7 @@ pub enum Refusal {
 }
 
 // What a dated call answers beside its own result.
-#[derive(Drop)]
+#[derive(Clone, Copy)]
 pub struct Report {
     pub level: bool,
     // In cycles.
@@ -167,20 +168,20 @@ pub struct Report {
     pub noted: usize,
 }
 
-#[derive(Drop)]
+#[derive(Clone, Copy)]
 pub enum SetUp {
     Ready,
     Refused(Refusal),
 }
 
-#[derive(Drop)]
+#[derive(Clone, Copy)]
 pub enum Read {
     Value(u32),
     NoValue,
     Refused(Refusal),
 }
 
-#[derive(Drop)]
+#[derive(Clone, Copy)]
 pub enum Write {
     Accepted,
     NotAccepted,
@@ -188,28 +189,28 @@ pub enum Write {
 }
 
 // receive, wake, watch, reset, power_down and the clock change.
-#[derive(Drop)]
+#[derive(Clone, Copy)]
 pub enum Done {
     Done,
     Refused(Refusal),
 }
 
 // take_tx and take_written: how many bytes stand at the front of the lent buffer.
-#[derive(Drop)]
+#[derive(Clone, Copy)]
 pub enum Taken {
     Bytes(usize),
     Refused(Refusal),
 }
 
 // How many bytes of a row were written, and how often the first and the second notice of its report came.
-#[derive(Drop)]
+#[derive(Clone, Copy)]
 pub struct Made {
     pub count: usize,
     pub first: u64,
     pub second: u64,
 }
 
-#[derive(Drop)]
+#[derive(Clone, Copy)]
 pub enum Row {
     Made(Made),
     Refused(Refusal),

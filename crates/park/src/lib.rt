@@ -1,4 +1,6 @@
 // A UART parked: its state written as a form. What a form is stands in the crate `form`.
+#![tactic(auto)]
+
 mod control;
 mod head;
 mod marks;

@@ -1,5 +1,7 @@
 // Queues in fixed slots: a cursor says where the elements stand, and the slots are arrays beside it. One cursor serves the
 // five queues of the UART. Carried over from inkemu's uart.rs (its `VecDeque`s and `Vec`) and changed.
+#![tactic(auto)]
+
 pub mod copy;
 
 ghost use Rattle.std.specs.Prelude.{◌≡◌, ◌+◌, ◌-◌, ◌<◌, ◌≤◌, min};
@@ -11,7 +13,7 @@ ghost use Rattle.queue.specs.Cursors.{pushed_if, popped_if};
 // Where a queue starts in its slots and how many elements it holds. The elements stand in order from the slot `start` on,
 // and go on at slot 0 past the last slot.
 #[repr(C)]
-#[derive(Drop)]
+#[derive(Clone, Copy)]
 pub struct Cursor {
     pub start: usize,
     pub count: usize,

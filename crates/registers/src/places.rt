@@ -6,7 +6,7 @@ ghost use Rattle.model.specs.Registers.{looks as Registers·looks};
 ghost use Rattle.registers.specs.Places.{register_at};
 
 // A register's place, in the order of set-up; Unknown for an offset that the register map lacks.
-#[derive(Drop)]
+#[derive(Clone, Copy)]
 pub enum Place {
     Fifo,
     IntRaw,

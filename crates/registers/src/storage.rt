@@ -55,7 +55,7 @@ fn with_word(mut words: Words, place: Place, value: u32) -> Words
 }
 
 // The words after a write, and whether the place is held.
-#[derive(Drop)]
+#[derive(Clone, Copy)]
 pub struct StorageWrite {
     pub words: Words,
     pub accepted: bool,

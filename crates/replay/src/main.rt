@@ -1,5 +1,7 @@
 // Answers the calls of the replay format (docs/REPLAY.md) on standard input, a line for each, on standard output. It reads and
 // writes; what is answered is the crate `session`'s to say.
+#![tactic(auto)]
+
 mod input;
 mod usage;
 

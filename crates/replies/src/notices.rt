@@ -8,7 +8,7 @@ ghost use Rattle.replies.specs.Notices.{added, added_if, noted};
 use model::{Notice, Source, Unsupported};
 
 // The first `count` of these are notes of the call.
-#[derive(Drop)]
+#[derive(Clone, Copy)]
 pub struct Notices {
     pub list: [Notice; 8],
     pub count: usize,

@@ -28,7 +28,7 @@ const RUNS_LIMIT: usize = 64;
 const PERIOD_LIMIT: u64 = 1000000;
 
 // What the tests of a call say.
-#[derive(Drop)]
+#[derive(Clone, Copy)]
 pub enum Verdict {
     Passed,
     Refused(Refusal),
@@ -191,7 +191,7 @@ pub fn written_refusal(room: usize) -> Verdict
 }
 
 // The host's side of a receive: how many bytes wait, in how many runs, and the last run's date in subcycles.
-#[derive(Drop)]
+#[derive(Clone, Copy)]
 pub struct Waiting {
     pub bytes: usize,
     pub runs: usize,

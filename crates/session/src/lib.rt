@@ -1,5 +1,7 @@
 // The lines of a trace (docs/REPLAY.md), answered: each call is carried out on the UART that was set up last, and its answer is
 // put into a lent buffer.
+#![tactic(auto)]
+
 mod line_figures;
 pub mod lines;
 mod requests;
@@ -15,7 +17,7 @@ use uart::Uart;
 use uart::placeholder::stand_in;
 
 // Before the first set-up the UART is one that no call reaches. The output is filled up to `at`.
-#[derive(Drop)]
+#[derive(Clone, Copy)]
 pub struct Session {
     pub uart: Uart,
     pub ready: bool,

@@ -1,3 +1,5 @@
 // Standard input, a chunk at a time, and standard output, for the programs that read a trace.
+#![tactic(auto)]
+
 pub mod input;
 pub mod output;

@@ -5,7 +5,7 @@ use libc::STDOUT_FILENO;
 use text::parts::within;
 
 // It is filled up to `at`; nothing is put to it or written after a write that failed.
-#[derive(Drop)]
+#[derive(Clone, Copy)]
 pub struct Output {
     pub at: usize,
     pub failed: bool,

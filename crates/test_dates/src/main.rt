@@ -1,4 +1,5 @@
 // Runs the functions of `dates` on document 01's figures and on the edges of 64 bits, a line for each.
+#![tactic(auto)]
 
 fn number(n: u64) {
     io::write_all(1, b" ");

@@ -1,4 +1,6 @@
 // Runs the leaves on document 01's figures and on the edges: 0, 1, the limit, one past it, all ones. A line for each.
+#![tactic(auto)]
+
 mod bits;
 mod clocks;
 mod queues;

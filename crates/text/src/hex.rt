@@ -5,7 +5,7 @@ ghost use Rattle.text.specs.Hexes.{pair_value, pairs_read, pairs_stored, bytes_r
 use crate::digits::digit;
 use crate::names::same;
 
-#[derive(Drop)]
+#[derive(Clone, Copy)]
 pub enum BytesRead {
     Count(usize),
     NoBytes,

@@ -9,7 +9,7 @@ use crate::parts::within;
 
 // Of the chunk the bytes from `at` up to `end` are not passed yet. The line that has begun stands in the first `len` bytes of
 // the buffer, unless it is too long for it; `whole` says that it ends. `more` says that another chunk may come.
-#[derive(Drop)]
+#[derive(Clone, Copy)]
 pub struct Input {
     pub at: usize,
     pub end: usize,

@@ -4,13 +4,13 @@ ghost use Rattle.text.specs.Numbers.{number_in, number_of, number32_of};
 
 use crate::digits::digit;
 
-#[derive(Drop)]
+#[derive(Clone, Copy)]
 pub enum Number {
     Value(u64),
     NoNumber,
 }
 
-#[derive(Drop)]
+#[derive(Clone, Copy)]
 pub enum Number32 {
     Value(u32),
     NoNumber,

@@ -3,7 +3,7 @@ ghost use Rattle.std.specs.Prelude.{◌≡◌};
 ghost use Rattle.model.specs.Calls.{period_of};
 ghost use Rattle.model.specs.SetUp.{power_on};
 
-#[derive(Drop)]
+#[derive(Clone, Copy)]
 pub struct Clock {
     // Cycles in one APB clock cycle; at least 1.
     pub apb_period: u64,

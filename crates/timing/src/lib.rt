@@ -1,5 +1,7 @@
 // Line timing: how long a bit, a byte and the receive timeout last, in subcycles.
 // Carried over from inkemu's uart.rs and changed.
+#![tactic(auto)]
+
 pub mod clock;
 pub mod source;
 

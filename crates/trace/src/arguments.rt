@@ -5,7 +5,7 @@ ghost use Rattle.trace.specs.Forms.{takes as Forms·takes, form_of};
 
 use crate::names::Name;
 
-#[derive(Drop)]
+#[derive(Clone, Copy)]
 pub enum Last {
     None,
     // 0 or 1.
@@ -17,7 +17,7 @@ pub enum Last {
     Pairs,
 }
 
-#[derive(Drop)]
+#[derive(Clone, Copy)]
 pub struct Form {
     pub wide: usize,
     pub count: usize,

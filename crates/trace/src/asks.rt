@@ -4,7 +4,7 @@ ghost use Rattle.trace.specs.Asks.{asks_of};
 
 use crate::names::Name;
 
-#[derive(Drop)]
+#[derive(Clone, Copy)]
 pub enum Asks {
     SetUp,
     Figures,

@@ -1,6 +1,6 @@
 // What makes a line no call.
 
-#[derive(Drop)]
+#[derive(Clone, Copy)]
 pub enum Reason {
     UnknownName,
     // The word is the call's name.
@@ -15,7 +15,7 @@ pub enum Reason {
 }
 
 // The word at fault stands from `start` up to, and without, `end`.
-#[derive(Drop)]
+#[derive(Clone, Copy)]
 pub struct Fault {
     pub reason: Reason,
     pub start: usize,

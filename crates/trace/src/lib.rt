@@ -1,4 +1,6 @@
 // A line of the replay format as a call: its name, its numbers and its last word, or what is wrong with it.
+#![tactic(auto)]
+
 mod arguments;
 pub mod asks;
 pub mod faults;

@@ -14,7 +14,7 @@ use crate::numbers::read_numbers;
 use crate::step::Step;
 use text::words::next_word;
 
-#[derive(Drop)]
+#[derive(Clone, Copy)]
 pub enum Line {
     // Blank, or a comment.
     Nothing,

@@ -5,7 +5,7 @@ ghost use Rattle.trace.specs.Names.{letters, name_of};
 
 use text::names::same;
 
-#[derive(Drop)]
+#[derive(Clone, Copy)]
 pub enum Name {
     Setup,
     Read,
@@ -25,7 +25,7 @@ pub enum Name {
 }
 
 // The call that a word names, or that it names none.
-#[derive(Drop)]
+#[derive(Clone, Copy)]
 pub enum Named {
     Call(Name),
     Unknown,

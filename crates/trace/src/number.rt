@@ -8,7 +8,7 @@ use text::numbers::{Number, read_number};
 use text::words::next_word;
 
 // A number of 64 bits, one of 32, or the length of a buffer that a call may lend.
-#[derive(Drop)]
+#[derive(Clone, Copy)]
 pub enum Kind {
     Wide,
     Narrow,

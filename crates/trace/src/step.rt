@@ -6,7 +6,7 @@ use crate::faults::{Fault, Reason};
 use text::words::{Word, next_word};
 
 // How far a line was read, and the word that was read as a number; or what is wrong with the line.
-#[derive(Drop)]
+#[derive(Clone, Copy)]
 pub enum Step {
     To(usize, u64),
     Wrong(Fault),

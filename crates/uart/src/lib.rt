@@ -1,5 +1,7 @@
 // The UART as one value: its core and the slots of its queues. Its methods take it and hand it back; the work is done over the
 // parts, by the crates below. Carried over from inkemu's uart.rs and changed.
+#![tactic(auto)]
+
 pub mod placeholder;
 
 ghost use Rattle.std.specs.Prelude.{◌≡◌};
@@ -22,7 +24,7 @@ use host::answers::TakeCore;
 use model::{Done, Read, Report, Row, SetUp, Taken, Write};
 
 #[repr(C)]
-#[derive(Drop)]
+#[derive(Clone, Copy)]
 pub struct Uart {
     pub core: Core,
     // The bytes in flight, and the dates at which they have gone, in subcycles.
@@ -40,7 +42,7 @@ pub struct Uart {
 
 // A settled UART, the passes made and the bytes lost with UartRxOverflow.
 #[repr(C)]
-#[derive(Drop)]
+#[derive(Clone, Copy)]
 pub struct AfterSettle {
     pub uart: Uart,
     pub passes: u64,
@@ -49,14 +51,14 @@ pub struct AfterSettle {
 
 // A new UART. Where set-up is refused it is not one to call: its offsets are not all different.
 #[repr(C)]
-#[derive(Drop)]
+#[derive(Clone, Copy)]
 pub struct NewUart {
     pub uart: Uart,
     pub reply: SetUp,
 }
 
 #[repr(C)]
-#[derive(Drop)]
+#[derive(Clone, Copy)]
 pub struct AfterRead {
     pub uart: Uart,
     pub reply: Read,
@@ -64,7 +66,7 @@ pub struct AfterRead {
 }
 
 #[repr(C)]
-#[derive(Drop)]
+#[derive(Clone, Copy)]
 pub struct AfterWrite {
     pub uart: Uart,
     pub reply: Write,
@@ -72,7 +74,7 @@ pub struct AfterWrite {
 }
 
 #[repr(C)]
-#[derive(Drop)]
+#[derive(Clone, Copy)]
 pub struct AfterRow {
     pub uart: Uart,
     pub reply: Row,
@@ -80,7 +82,7 @@ pub struct AfterRow {
 }
 
 #[repr(C)]
-#[derive(Drop)]
+#[derive(Clone, Copy)]
 pub struct AfterDone {
     pub uart: Uart,
     pub reply: Done,
@@ -88,7 +90,7 @@ pub struct AfterDone {
 }
 
 #[repr(C)]
-#[derive(Drop)]
+#[derive(Clone, Copy)]
 pub struct AfterTake {
     pub uart: Uart,
     pub reply: Taken,
