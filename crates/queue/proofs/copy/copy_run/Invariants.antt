@@ -1,0 +1,15 @@
+-- What each loop of `copy::copy_run` keeps, and what gets less.
+use mathlib.Core.Path.{◌≡◌, refl, sym, ap, ◌∙◌}
+use mathlib.Core.List.{List}
+use Prim.Native.Nat.{ℕ, ◌+◌, ◌-◌, ◌≤◌}
+use native.Mathlib.Numerals.{add-one}
+use native.Mathlib.Omega.{arith}
+use lib.ListN.{length, drop, get_or, set, length-set, length-drop}
+use lib.Seq.{paste, paste-zero, paste-suc, get_or-drop}
+use Rattle.queue.proofs.copy.copy_run.Given as goal
+
+abbrev pub invariant-loop-i : goal.invariant-loop-i
+invariant-loop-i l = (l.i ≤ l.n) × (l.dst ≡ paste l.initial.dst l.at (drop l.from l.src) l.i) × (length l.dst ≡ length l.initial.dst)
+
+abbrev pub decreases-loop-i : goal.decreases-loop-i
+decreases-loop-i l = l.n - l.i

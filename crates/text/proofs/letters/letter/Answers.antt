@@ -1,0 +1,12 @@
+-- `letters::letter` meets its contract. Assumes nothing.
+use borrow.Author.Tests.{lt-ltb, le-ltb}
+use Rattle.text.specs.Digits.{letter}
+use Rattle.text.proofs.letters.letter.Goals as goal
+
+pub returns-then-d-lt10 : goal.returns-then-d-lt10
+unfolding letter
+returns-then-d-lt10 c = simp (lt-ltb _ _ c.if-d-lt10.true)
+
+pub returns-else-d-lt10 : goal.returns-else-d-lt10
+unfolding letter
+returns-else-d-lt10 c = simp (le-ltb _ _ c.if-d-lt10.false)

@@ -1,0 +1,13 @@
+-- What each loop of `scan::seek` keeps, and what gets less.
+use mathlib.Core.Path.{◌≡◌, refl, sym, ◌∙◌}
+use Prim.Native.Nat.{◌-◌}
+use borrow.Author.Tests.{eq-eqb, ne_eqb}
+use lib.ListN.{length}
+use Rattle.text.specs.Seek.{is_byte, seek, seek-here, seek-on, seek-end}
+use Rattle.text.proofs.scan.seek.Given as goal
+
+abbrev pub invariant-loop-i : goal.invariant-loop-i
+invariant-loop-i l = seek (is_byte l.byte) l.s l.at ≡ seek (is_byte l.byte) l.s l.i
+
+abbrev pub decreases-loop-i : goal.decreases-loop-i
+decreases-loop-i l = length l.s - l.i
