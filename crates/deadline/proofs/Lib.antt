@@ -1,4 +1,0 @@
--- The two walks that the functions on a lent Deadline share.
-mod Contracts
-mod Lent
-mod Taken
