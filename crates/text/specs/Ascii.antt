@@ -1,6 +1,6 @@
 -- A quoted text as its bytes. Assumes nothing.
 use Rattle.std.specs.Prelude.{ℕ, List, [] as []ᴸ, ◌∷◌ as ◌∷ᴸ◌}
-use Prim.Native.Char.{Char, code}
+use Prim.Native.Char.{code}
 use Prim.Native.String.{String, [], ◌∷◌}
 
 -- the number of each character, which is its byte where it is one of ASCII

@@ -1,5 +1,5 @@
 -- A line gathered from the chunks that a text comes in. Assumes nothing.
-use Rattle.std.specs.Prelude.{◌≡◌, refl, Bool, true, false, List, ℕ, ◌+◌, ◌-◌, min, ltb, length, take, drop}
+use Rattle.std.specs.Prelude.{◌≡◌, Bool, true, false, List, ℕ, ◌+◌, ◌-◌, min, ltb, length, take, drop}
 use Rattle.text.specs.Pick.{pick}
 use Rattle.text.specs.Lines.{piece_at}
 use Rattle.text.specs.Output.{no_room, stored}

@@ -2,7 +2,6 @@
 use Rattle.std.specs.Prelude.{◌≡◌, refl, Bool, true, false, List, ℕ, ◌+◌, ◌<◌, ◌≤◌, ltb, length, get_or}
 use Rattle.std.proofs.Common.{ap, sym, subst, ◌∙◌, arith, ltb-true, ltb-false, eqb-true}
 use Rattle.std.proofs.lemmas.Bool.{eqb-false}
-use Rattle.text.specs.Pick.{pick}
 use Rattle.text.specs.Seek.{is_byte, seek, seek-after, seek-within, seek_found, seek-passed}
 use Rattle.text.specs.declared.lines.Piece.{Piece}
 

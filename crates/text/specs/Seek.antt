@@ -1,5 +1,5 @@
 -- The next place at which a test on bytes passes. Assumes nothing.
-use Rattle.std.specs.Prelude.{◌≡◌, refl, Bool, not, eqb, get_or, drop}
+use Rattle.std.specs.Prelude.{◌≡◌, Bool, not, eqb, get_or, drop}
 use Rattle.std.proofs.Math.Path.{ap}
 use Rattle.std.proofs.Common.{sym, ◌∙◌, ⊎_elim, add-zero, le_of_suc-le-suc, add-one, drop_of_length-le, get_or-drop}
 use Rattle.std.proofs.Math.Bool.{true, false}

@@ -1,5 +1,5 @@
 -- The next word of a line, and then those after its end, are the words of the line. Assumes nothing.
-use Rattle.std.specs.Prelude.{◌≡◌, refl, Bool, true, false, not, List, [], ◌∷◌, ℕ, zero, suc, ◌+◌, ◌-◌, ◌<◌, ◌≤◌, min, eqb, length, take, drop}
+use Rattle.std.specs.Prelude.{◌≡◌, refl, true, false, not, List, [], ◌∷◌, ℕ, ◌+◌, ◌-◌, ◌<◌, ◌≤◌, min, eqb, length, take, drop}
 use Rattle.std.proofs.Common.{ap, sym, ◌∙◌, ⊎_elim, arith, drop_of_length-le, drop-drop}
 use Rattle.text.specs.Pick.{decided, side}
 use Rattle.text.specs.Seek.{is_byte, is_other, before, before-stop, before_on, seek}

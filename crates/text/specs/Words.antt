@@ -1,5 +1,5 @@
 -- The words of a line, and the next one from a place on. Assumes nothing.
-use Rattle.std.specs.Prelude.{◌≡◌, refl, List, [], ◌∷◌, ℕ, ◌≤◌, min, eqb, length}
+use Rattle.std.specs.Prelude.{◌≡◌, List, [], ◌∷◌, ℕ, ◌≤◌, min, eqb, length}
 use Rattle.text.specs.Pick.{pick}
 use Rattle.text.specs.Seek.{is_byte, is_other, seek}
 use Rattle.text.specs.declared.words.Word.{Word}

@@ -1,7 +1,6 @@
 -- `hex::read_bytes` meets its contract. Assumes nothing.
 use mathlib.Core.Path.{◌∙◌, sym}
 use borrow.Author.Tests.{lt-ltb, le-ltb}
-use native.Mathlib.Omega.{arith}
 use Rattle.text.proofs.hex.read_bytes.Goals as goal
 
 pub returns-then-same : goal.returns-then-same
@@ -15,4 +14,4 @@ returns-then-s-to c =
 pub returns : goal.returns
 returns c =
     let e = sym c.same.ensures ∙ c.if-same.false in
-    let p = c.read_pairs.ensures in record { value = p.0 ∙ simp (e, le-ltb _ _ c.if-s-to.false); to_after = p.1 ∙ simp (e, le-ltb _ _ c.if-s-to.false) }
+    let p = c.read_pairs.ensures in record { value = p.value ∙ simp (e, le-ltb _ _ c.if-s-to.false); to_after = p.to_after ∙ simp (e, le-ltb _ _ c.if-s-to.false) }

@@ -2,9 +2,9 @@
 -- were. Assumes nothing.
 use mathlib.Core.Path.{◌≡◌, refl, ap, ◌∙◌}
 use mathlib.Core.List.{List, [], ◌++◌}
-use Prim.Native.Nat.{ℕ, ◌+◌, ◌*◌, ◌-◌, ◌/◌, ◌≤◌}
+use Prim.Native.Nat.{ℕ, ◌*◌}
 use native.Mathlib.Omega.{arith}
-use lib.ListN.{length, take, drop, length-set}
+use lib.ListN.{take, drop, length-set}
 use Rattle.text.specs.Hexes.{spelled, pair-on, no-pair, pairs_end, front-on, back_on, stored-front, count-all, count-fault}
 use Rattle.text.proofs.hex.read_pairs.Goals as goal
 

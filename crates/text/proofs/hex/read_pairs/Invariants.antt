@@ -1,10 +1,9 @@
 -- What each loop of `hex::read_pairs` keeps, and what gets less.
-use mathlib.Core.Path.{◌≡◌, refl, ap, ◌∙◌}
-use mathlib.Core.List.{List, [], ◌++◌}
-use Prim.Native.Nat.{ℕ, ◌+◌, ◌*◌, ◌-◌, ◌/◌, ◌≤◌}
-use native.Mathlib.Omega.{arith}
-use lib.ListN.{length, take, drop, length-set}
-use Rattle.text.specs.Hexes.{spelled, pair-on, no-pair, pairs_end, front-on, back_on, stored-front, count-all, count-fault}
+use mathlib.Core.Path.{◌≡◌}
+use mathlib.Core.List.{◌++◌}
+use Prim.Native.Nat.{◌*◌, ◌-◌, ◌/◌, ◌≤◌}
+use lib.ListN.{length, take, drop}
+use Rattle.text.specs.Hexes.{spelled}
 use Rattle.text.proofs.hex.read_pairs.Given as goal
 
 abbrev pub invariant-loop-n : goal.invariant-loop-n

@@ -7,6 +7,12 @@ use Rattle.text.proofs.input.add_piece.Goals as goal
 pub slice_bounds-part-count : goal.slice_bounds-part-count
 slice_bounds-part-count c = omega (arith, piece-after _ _ _ c.piece_at-piece.ensures)
 
+pub slice_bounds-part-start : goal.slice_bounds-part-start
+slice_bounds-part-start c = omega (arith, piece-after _ _ _ c.piece_at-piece.ensures)
+
+pub slice_bounds-part-end : goal.slice_bounds-part-end
+slice_bounds-part-end c = omega (arith, piece-within _ _ _ c.piece_at-piece.ensures (omega (arith, c.within-at.ensures.prefix_len)))
+
 pub returns : goal.returns
 returns c =
     let a = c.args in

@@ -6,4 +6,4 @@ pub returns : goal.returns
 returns c =
     let n = c.within-n.ensures.value in
     let g = c.add_piece.ensures in
-    record { value = g.0 ∙ rw n; line_after = g.1 ∙ rw n }
+    record { value = g.value ∙ rw n; line_after = g.line_after ∙ rw n }

@@ -1,6 +1,5 @@
 -- `lines::piece_at` meets its contract. Assumes nothing.
 use mathlib.Core.Path.{◌≡◌}
-use native.Mathlib.Omega.{arith}
 use borrow.Author.Tests.{lt-ltb, le-ltb}
 use Rattle.text.specs.Lines.{line_end}
 use Rattle.text.proofs.lines.piece_at.Goals as goal

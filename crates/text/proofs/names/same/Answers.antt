@@ -1,9 +1,7 @@
 -- `names::same` meets its contract. The loop's invariant: what is left of the two compares as the two do. Assumes nothing.
-use mathlib.Core.Path.{◌≡◌, refl, sym, ◌∙◌}
-use Prim.Native.Nat.{◌-◌}
+use mathlib.Core.Path.{refl, sym, ◌∙◌}
 use native.Mathlib.Omega.{arith}
-use lib.ListN.{length, drop}
-use Rattle.text.specs.Same.{same_bytes, same-lengths, same-on, same-differ, same_end}
+use Rattle.text.specs.Same.{same-lengths, same-on, same-differ, same_end}
 use Rattle.text.proofs.names.same.Goals as goal
 
 pub returns-then-a-b : goal.returns-then-a-b

@@ -1,9 +1,8 @@
 -- What each loop of `names::same` keeps, and what gets less.
-use mathlib.Core.Path.{◌≡◌, refl, sym, ◌∙◌}
+use mathlib.Core.Path.{◌≡◌}
 use Prim.Native.Nat.{◌-◌}
-use native.Mathlib.Omega.{arith}
 use lib.ListN.{length, drop}
-use Rattle.text.specs.Same.{same_bytes, same-lengths, same-on, same-differ, same_end}
+use Rattle.text.specs.Same.{same_bytes}
 use Rattle.text.proofs.names.same.Given as goal
 
 abbrev pub invariant-loop-i : goal.invariant-loop-i

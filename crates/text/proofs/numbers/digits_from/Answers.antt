@@ -1,10 +1,9 @@
 -- `numbers::digits_from` meets its contract. The loop's invariant: the number is that of the digits from `i` on, after the value
 -- so far, which is at most the limit. Assumes nothing.
-use mathlib.Core.Path.{◌≡◌, refl, sym, ◌∙◌}
-use Prim.Native.Nat.{◌-◌, ◌/◌, ◌≤◌}
+use mathlib.Core.Path.{refl, sym, ◌∙◌}
 use native.Mathlib.Omega.{arith}
-use lib.ListN.{length, drop, length-drop}
-use Rattle.text.specs.Numbers.{number_in, number_after, some_number, no-digits, digit-on, no_digit, too_large, number-end}
+use lib.ListN.{drop, length-drop}
+use Rattle.text.specs.Numbers.{some_number, no-digits, digit-on, no_digit, too_large, number-end}
 use Rattle.text.specs.Numbers.{shifted-low, shifted-high}
 use Rattle.text.proofs.numbers.digits_from.Goals as goal
 

@@ -1,10 +1,8 @@
 -- What each loop of `numbers::digits_from` keeps, and what gets less.
-use mathlib.Core.Path.{◌≡◌, refl, sym, ◌∙◌}
+use mathlib.Core.Path.{◌≡◌}
 use Prim.Native.Nat.{◌-◌, ◌/◌, ◌≤◌}
-use native.Mathlib.Omega.{arith}
-use lib.ListN.{length, drop, length-drop}
-use Rattle.text.specs.Numbers.{number_in, number_after, some_number, no-digits, digit-on, no_digit, too_large, number-end}
-use Rattle.text.specs.Numbers.{shifted-low, shifted-high}
+use lib.ListN.{length, drop}
+use Rattle.text.specs.Numbers.{number_in, number_after}
 use Rattle.text.proofs.numbers.digits_from.Given as goal
 
 abbrev pub invariant-loop-i : goal.invariant-loop-i

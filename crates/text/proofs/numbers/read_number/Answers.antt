@@ -1,7 +1,6 @@
 -- `numbers::read_number` meets its contract: by the tests for `0x`. Assumes nothing.
 use mathlib.Core.Path.{◌∙◌}
 use borrow.Author.Tests.{eq-eqb, ne_eqb}
-use native.Mathlib.Omega.{arith}
 use Rattle.text.specs.Numbers.{number_of, prefix-short, prefix-long}
 use Rattle.text.proofs.numbers.read_number.Goals as goal
 

@@ -1,5 +1,5 @@
 -- `numbers::read_number_32` meets its contract: what is read at the limit fits 32 bits. Assumes nothing.
-use mathlib.Core.Path.{◌≡◌, ap, sym, ◌∙◌}
+use mathlib.Core.Path.{ap, sym, ◌∙◌}
 use native.Mathlib.Omega.{arith}
 use Rattle.text.specs.Numbers.{limit32, narrow, number-low}
 use Rattle.text.proofs.numbers.read_number_32.Goals as goal

@@ -1,11 +1,7 @@
 -- `output::put_bytes` meets its contract: `-` for none, and else two digits a byte where there is room. Assumes nothing.
-use mathlib.Core.Path.{ap, ◌∙◌}
-use mathlib.Core.List.{List}
-use Prim.Native.Nat.{ℕ}
 use native.Mathlib.Omega.{arith}
-use lib.ListN.{length}
-use Rattle.text.specs.Output.{stored, put-none, put_all}
-use Rattle.text.specs.HexText.{hex_text, pairs-length, text-some, text-none}
+use Rattle.text.specs.Output.{put-none, put_all}
+use Rattle.text.specs.HexText.{pairs-length, text-some, text-none}
 use Rattle.text.proofs.output.put_bytes.Goals as goal
 
 pub returns-then-s-eq0 : goal.returns-then-s-eq0

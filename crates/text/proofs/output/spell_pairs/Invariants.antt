@@ -1,11 +1,9 @@
 -- What each loop of `output::spell_pairs` keeps, and what gets less.
-use mathlib.Core.Path.{◌≡◌, refl, ap, ◌∙◌}
-use mathlib.Core.List.{List, ◌++◌}
-use Prim.Native.Nat.{ℕ, ◌+◌, ◌*◌, ◌-◌, ◌≤◌}
-use native.Mathlib.Omega.{arith}
-use lib.ListN.{length, take, drop, length-set}
-use lib.Seq.{paste, paste-zero, take-length}
-use Rattle.text.specs.HexText.{hex_pairs, pairs-length, pairs-on}
+use mathlib.Core.Path.{◌≡◌}
+use Prim.Native.Nat.{◌*◌, ◌-◌, ◌≤◌}
+use lib.ListN.{length}
+use lib.Seq.{paste}
+use Rattle.text.specs.HexText.{hex_pairs}
 use Rattle.text.proofs.output.spell_pairs.Given as goal
 
 abbrev pub invariant-loop-i : goal.invariant-loop-i

@@ -1,9 +1,7 @@
 -- `scan::seek` meets its contract. The loop's invariant: the place is the same from `i` on. Assumes nothing.
-use mathlib.Core.Path.{◌≡◌, refl, sym, ◌∙◌}
-use Prim.Native.Nat.{◌-◌}
+use mathlib.Core.Path.{refl, sym, ◌∙◌}
 use borrow.Author.Tests.{eq-eqb, ne_eqb}
-use lib.ListN.{length}
-use Rattle.text.specs.Seek.{is_byte, seek, seek-here, seek-on, seek-end}
+use Rattle.text.specs.Seek.{is_byte, seek-here, seek-on, seek-end}
 use Rattle.text.proofs.scan.seek.Goals as goal
 
 pub loop-i-init : goal.loop-i-init

@@ -1,9 +1,8 @@
 -- What each loop of `scan::seek` keeps, and what gets less.
-use mathlib.Core.Path.{◌≡◌, refl, sym, ◌∙◌}
+use mathlib.Core.Path.{◌≡◌}
 use Prim.Native.Nat.{◌-◌}
-use borrow.Author.Tests.{eq-eqb, ne_eqb}
 use lib.ListN.{length}
-use Rattle.text.specs.Seek.{is_byte, seek, seek-here, seek-on, seek-end}
+use Rattle.text.specs.Seek.{is_byte, seek}
 use Rattle.text.proofs.scan.seek.Given as goal
 
 abbrev pub invariant-loop-i : goal.invariant-loop-i

@@ -1,10 +1,8 @@
 -- `scan::skip` meets its contract. The loop's invariant: the place is the same from `i` on. Assumes nothing.
-use mathlib.Core.Path.{◌≡◌, refl, ap, sym, ◌∙◌}
+use mathlib.Core.Path.{refl, ap, sym, ◌∙◌}
 use mathlib.Core.Bool.{not}
-use Prim.Native.Nat.{◌-◌}
 use borrow.Author.Tests.{eq-eqb, ne_eqb}
-use lib.ListN.{length}
-use Rattle.text.specs.Seek.{is_other, seek, seek-here, seek-on, seek-end}
+use Rattle.text.specs.Seek.{is_other, seek-here, seek-on, seek-end}
 use Rattle.text.proofs.scan.skip.Goals as goal
 
 pub loop-i-init : goal.loop-i-init

@@ -1,10 +1,8 @@
 -- What each loop of `scan::skip` keeps, and what gets less.
-use mathlib.Core.Path.{◌≡◌, refl, ap, sym, ◌∙◌}
-use mathlib.Core.Bool.{not}
+use mathlib.Core.Path.{◌≡◌}
 use Prim.Native.Nat.{◌-◌}
-use borrow.Author.Tests.{eq-eqb, ne_eqb}
 use lib.ListN.{length}
-use Rattle.text.specs.Seek.{is_other, seek, seek-here, seek-on, seek-end}
+use Rattle.text.specs.Seek.{is_other, seek}
 use Rattle.text.proofs.scan.skip.Given as goal
 
 abbrev pub invariant-loop-i : goal.invariant-loop-i

@@ -2,10 +2,10 @@
 -- the digits of n. Assumes nothing.
 use mathlib.Core.Path.{◌≡◌, ap, sym, ◌∙◌}
 use mathlib.Core.List.{List, [], ◌++◌, append-nil}
-use Prim.Native.Nat.{ℕ, suc, ◌+◌, ◌-◌, ◌^◌, ◌<◌, ◌≤◌}
+use Prim.Native.Nat.{ℕ, suc, ◌-◌}
 use native.Mathlib.Omega.{arith}
-use lib.ListN.{length, drop, length-set, drop_of_length-le}
-use Rattle.text.specs.Decimal.{decimal, decimal_up_to, tenth-low, more_left, spelled-on, spelled-end}
+use lib.ListN.{drop, length-set, drop_of_length-le}
+use Rattle.text.specs.Decimal.{decimal, tenth-low, more_left, spelled-on, spelled-end}
 use Rattle.text.proofs.spelling.spell_decimal.Goals as goal
 
 pub loop-rest-init : goal.loop-rest-init

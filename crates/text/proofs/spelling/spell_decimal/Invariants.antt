@@ -1,10 +1,9 @@
 -- What each loop of `spelling::spell_decimal` keeps, and what gets less.
-use mathlib.Core.Path.{◌≡◌, ap, sym, ◌∙◌}
-use mathlib.Core.List.{List, [], ◌++◌, append-nil}
-use Prim.Native.Nat.{ℕ, suc, ◌+◌, ◌-◌, ◌^◌, ◌<◌, ◌≤◌}
-use native.Mathlib.Omega.{arith}
-use lib.ListN.{length, drop, length-set, drop_of_length-le}
-use Rattle.text.specs.Decimal.{decimal, decimal_up_to, tenth-low, more_left, spelled-on, spelled-end}
+use mathlib.Core.Path.{◌≡◌}
+use mathlib.Core.List.{◌++◌}
+use Prim.Native.Nat.{suc, ◌+◌, ◌^◌, ◌<◌, ◌≤◌}
+use lib.ListN.{length, drop}
+use Rattle.text.specs.Decimal.{decimal, decimal_up_to}
 use Rattle.text.proofs.spelling.spell_decimal.Given as goal
 
 abbrev pub invariant-loop-rest : goal.invariant-loop-rest

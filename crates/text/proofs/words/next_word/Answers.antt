@@ -4,8 +4,7 @@ use Prim.Native.Nat.{ℕ, ◌≤◌, min}
 use native.Mathlib.Omega.{arith}
 use lib.ListN.{length}
 use Rattle.text.specs.Seek.{is_byte, is_other, seek, seek-after, seek-within}
-use Rattle.text.specs.Words.{space, word_start, word_end, next_word}
-use Rattle.text.specs.declared.words.Word.{Word}
+use Rattle.text.specs.Words.{space, word_start, word_end}
 use Rattle.text.proofs.words.next_word.Goals as goal
 
 pub returns : goal.returns
