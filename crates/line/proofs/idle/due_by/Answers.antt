@@ -1,0 +1,17 @@
+-- `idle::due_by` meets its contract, case by case. Assumes nothing.
+use Rattle.model.specs.Numbers.{due_by}
+use Rattle.line.proofs.idle.due_by.Goals as goal
+
+pub enum_told-1 : goal.enum_told-1
+enum_told-1 c = c.in-None.in-None-own.keys1
+
+pub enum_known-at : goal.enum_known-at
+enum_known-at c = c.in-At.in-At-own.keys2
+
+pub returns-in-None : goal.returns-in-None
+unfolding due_by
+returns-in-None c = rw c.in-None.is
+
+pub returns-in-At : goal.returns-in-At
+unfolding due_by
+returns-in-At c = rw c.in-At.is
