@@ -1,0 +1,20 @@
+-- `notices::source_notices` meets its contract, by cases on the source. Assumes nothing.
+use mathlib.Core.Path.{sym, ap, ◌∙◌}
+use mathlib.Core.List.{[], ◌∷◌}
+use Rattle.model.specs.Registers.{source_notes}
+use Rattle.replies.specs.Notices.{noted}
+use Rattle.replies.proofs.notices.source_notices.Goals as goal
+
+pub returns-in-None : goal.returns-in-None
+unfolding source_notes
+returns-in-None c = λ notice e f. c.none.ensures ∙ ap (λ s. noted (source_notes notice s)) (sym c.in-None.is)
+
+pub returns-in-Sel0 : goal.returns-in-Sel0
+unfolding source_notes
+returns-in-Sel0 c = λ notice e f.
+    c.one.ensures ∙ ap (λ n. noted (n ∷ [])) e ∙ ap (λ s. noted (source_notes notice s)) (sym c.in-Sel0.is)
+
+pub returns-in-Sel2 : goal.returns-in-Sel2
+unfolding source_notes
+returns-in-Sel2 c = λ notice e f.
+    c.one-in-Sel2.ensures ∙ ap (λ n. noted (n ∷ [])) f ∙ ap (λ s. noted (source_notes notice s)) (sym c.in-Sel2.is)

@@ -1,0 +1,15 @@
+-- What each loop of `offsets::stands_from` keeps, and what gets less.
+use mathlib.Core.Path.{◌≡◌, refl, sym, ◌∙◌}
+use Prim.Native.Nat.{◌≤◌, ◌-◌}
+use native.Mathlib.Omega.{arith}
+use lib.ListN.{length, drop}
+use Rattle.model.specs.Tests.{among}
+use Rattle.replies.specs.Offsets.{among-found, among-passed, among-end}
+use Rattle.replies.proofs.offsets.stands_from.Given as goal
+
+abbrev pub invariant-loop-at : goal.invariant-loop-at
+invariant-loop-at l =
+    (l.at ≤ 16) × (length l.offsets ≡ 16) × (among l.offset (drop l.at l.offsets) ≡ among l.offset (drop l.from l.offsets))
+
+abbrev pub decreases-loop-at : goal.decreases-loop-at
+decreases-loop-at l = 16 - l.at
