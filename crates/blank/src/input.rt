@@ -34,13 +34,26 @@ fn start() -> Session
 }
 
 // One turn: puts out the line that stands there, blanked; where none does, what was put out is written before the next read.
-fn blank_next(session: Session, input: Input, buffer: &[u8], out: &mut [u8]) -> Session
+fn blank_next(
+    rt: &HostRuntime,
+    session: Session,
+    input: Input,
+    buffer: &[u8],
+    out: &mut [u8],
+) -> Session
     requires { full + longest ≤ length out.old }
     ensures { Turn session input buffer.now out.old out.new result }
 {
     let trace = session.trace;
     let has = has_line(input);
-    let kept = keep_up(session.output, has, FULL, out, b"blank: standard output");
+    let kept = keep_up(
+        rt,
+        session.output,
+        has,
+        FULL,
+        out,
+        b"blank: standard output",
+    );
     if has {
         if kept.failed {
             return Session {
@@ -66,21 +79,27 @@ fn blank_next(session: Session, input: Input, buffer: &[u8], out: &mut [u8]) -> 
 }
 
 // The same with the buffers whole, whose sizes are known.
-fn turn(session: Session, input: Input, buffer: &[u8; 65536], out: &mut [u8; 131072]) -> Session
+fn turn(
+    rt: &HostRuntime,
+    session: Session,
+    input: Input,
+    buffer: &[u8; 65536],
+    out: &mut [u8; 131072],
+) -> Session
     ensures { Turn session input buffer.now out.old out.new result }
 {
-    blank_next(session, input, buffer, out)
+    blank_next(rt, session, input, buffer, out)
 }
 
 // Writes what is left, and tells of lines that were left out.
-fn finish(session: Session, out: &[u8; 131072]) {
-    flush(session.output, out, b"blank: standard output");
-    tell_left_out(session.trace.left_out);
+fn finish(rt: &HostRuntime, session: Session, out: &[u8; 131072]) {
+    flush(rt, session.output, out, b"blank: standard output");
+    tell_left_out(rt, session.trace.left_out);
 }
 
 // A proved loop has to end, so it counts its turns down from a number that no run uses up.
-pub(crate) fn run() {
-    let mut chunk = io::large_buffer();
+pub(crate) fn run(rt: &HostRuntime) {
+    let mut chunk = [0u8; 65536];
     let mut buffer = [0u8; 65536];
     let mut out = [0u8; 131072];
     let mut input = begin();
@@ -88,14 +107,15 @@ pub(crate) fn run() {
     let mut turns = u64::MAX;
     while turns > 0 && input.more {
         input = read_more(
+            rt,
             input,
             session.output.failed,
             &mut chunk,
             b"blank: standard input",
         );
         input = next_line(input, &chunk, &mut buffer);
-        session = turn(session, input, &buffer, &mut out);
+        session = turn(rt, session, input, &buffer, &mut out);
         turns -= 1;
     }
-    finish(session, &out);
+    finish(rt, session, &out);
 }

@@ -7,9 +7,10 @@ mod input;
 mod output;
 mod usage;
 
-fn main() {
-    if os::arg_count() > 1 {
+fn main(rt: HostRuntime) {
+    if crate::usage::has_argument(&rt, 1) {
         crate::usage::show(
+            &rt,
             b"usage: blank < TRACE > BLANKED
 Puts out the calls of a trace (docs/REPLAY.md), each in one form, with every host byte,
 every byte of a row, every word written to FIFO or to no writable register, and every
@@ -17,6 +18,6 @@ reset word that is not used replaced by 0. A line that is no call is left out.
 ",
         );
     } else {
-        crate::input::run();
+        crate::input::run(&rt);
     }
 }

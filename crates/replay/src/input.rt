@@ -16,8 +16,8 @@ use text::input::{Input, begin, has_line, next_line};
 const FULL: usize = 48128;
 
 // A proved loop has to end, so it counts its turns down from a number that no run uses up.
-pub(crate) fn run() {
-    let mut chunk = io::large_buffer();
+pub(crate) fn run(rt: &HostRuntime) {
+    let mut chunk = [0u8; 65536];
     let mut line = [0u8; 65536];
     let mut bytes = [0u8; 32768];
     let mut out = [0u8; 65536];
@@ -26,13 +26,14 @@ pub(crate) fn run() {
     let mut failed = false;
     let mut turns = u64::MAX;
     while turns > 0 && input.more {
-        input = read_more(input, failed, &mut chunk, b"replay: standard input");
+        input = read_more(rt, input, failed, &mut chunk, b"replay: standard input");
         input = next_line(input, &chunk, &mut line);
         let output = Output {
             at: session.at,
             failed,
         };
         let kept = keep_up(
+            rt,
             output,
             has_line(input),
             FULL,
@@ -50,7 +51,7 @@ pub(crate) fn run() {
         at: session.at,
         failed,
     };
-    flush(output, &out, b"replay: standard output");
+    flush(rt, output, &out, b"replay: standard output");
 }
 
 // A line that stands there is answered, but for one after a write that failed.

@@ -5,15 +5,16 @@
 mod input;
 mod usage;
 
-fn main() {
-    if os::arg_count() > 1 {
+fn main(rt: HostRuntime) {
+    if crate::usage::has_argument(&rt, 1) {
         crate::usage::show(
+            &rt,
             b"usage: replay < TRACE > ANSWERS
 Answers each call of a trace (docs/REPLAY.md) in a line of its own, in order.
 All whole lines of a read are answered and written before the next read.
 ",
         );
     } else {
-        crate::input::run();
+        crate::input::run(&rt);
     }
 }

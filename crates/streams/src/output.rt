@@ -1,7 +1,7 @@
 // Standard output: what is put to it, and when that is written.
 ghost use Rattle.streams.specs.Outputs.{Flushed, KeepsUp};
 
-use libc::STDOUT_FILENO;
+use crate::failure::tell;
 use text::parts::within;
 
 // It is filled up to `at`; nothing is put to it or written after a write that failed.
@@ -12,23 +12,25 @@ pub struct Output {
 }
 
 // Writes the first `count` bytes of `out`. Where that fails it says so by `name` on standard error, and answers false.
-fn write(out: &[u8], count: usize, name: &[u8]) -> bool {
+fn write(rt: &HostRuntime, out: &[u8], count: usize, name: &[u8]) -> bool {
     let n = within(count, out);
-    if io::write_all(STDOUT_FILENO, &out[..n]) {
-        return true;
+    match rt.write_all(&out[..n]) {
+        Ok(()) => true,
+        Err(error) => {
+            tell(rt, error, name);
+            false
+        }
     }
-    os::fail(name);
-    false
 }
 
 // Writes all that was put to it. A failure is told by `name`.
-pub fn flush(output: Output, out: &[u8], name: &[u8]) -> Output
+pub fn flush(rt: &HostRuntime, output: Output, out: &[u8], name: &[u8]) -> Output
     ensures { Flushed output result }
 {
     if output.failed {
         return output;
     }
-    if write(out, output.at, name) {
+    if write(rt, out, output.at, name) {
         return Output {
             at: 0,
             failed: false,
@@ -41,14 +43,21 @@ pub fn flush(output: Output, out: &[u8], name: &[u8]) -> Output
 }
 
 // The same before the next read, where no line stands there, and where it is filled further than `full`.
-pub fn keep_up(output: Output, line: bool, full: usize, out: &[u8], name: &[u8]) -> Output
+pub fn keep_up(
+    rt: &HostRuntime,
+    output: Output,
+    line: bool,
+    full: usize,
+    out: &[u8],
+    name: &[u8],
+) -> Output
     ensures { KeepsUp line full output result }
 {
     if line {
         if output.at > full {
-            return flush(output, out, name);
+            return flush(rt, output, out, name);
         }
         return output;
     }
-    flush(output, out, name)
+    flush(rt, output, out, name)
 }
