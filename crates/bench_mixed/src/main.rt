@@ -14,8 +14,8 @@ ghost use Rattle.uart.specs.Whole.{Good};
 use crate::notes::Notes;
 use crate::steps::{STEPS, Step, cycle_at, step_at};
 use device::Core;
-use libc::STDOUT_FILENO;
 use model::{Read, SetUp, Taken};
+use std::io;
 use uart::Uart;
 
 #[derive(Clone, Copy)]
@@ -130,13 +130,11 @@ fn carry_out<'a>(
     }
 }
 
-fn show(sum: u64) {
-    io::write_all(STDOUT_FILENO, b"sum ");
-    io::print_decimal(STDOUT_FILENO, sum);
-    io::write_all(STDOUT_FILENO, b"\n");
+fn show(rt: &HostRuntime, sum: u64) -> io::Result<()> {
+    println!(rt; "sum {sum}")
 }
 
-fn run(new: Uart)
+fn run(rt: &HostRuntime, new: Uart) -> io::Result<()>
     requires { Good new }
 {
     let core = new.core;
@@ -170,14 +168,14 @@ fn run(new: Uart)
         );
         n += 1;
     }
-    show(tally.notes.sum);
+    show(rt, tally.notes.sum)
 }
 
-fn main() {
+fn main(rt: HostRuntime) -> io::Result<()> {
     let made = Uart::new(bench_settings::OFFSETS, bench_settings::RESETS);
     let reply = made.reply;
     match reply {
-        SetUp::Refused(_) => show(0),
-        SetUp::Ready => run(made.uart),
+        SetUp::Refused(_) => show(&rt, 0),
+        SetUp::Ready => run(&rt, made.uart),
     }
 }

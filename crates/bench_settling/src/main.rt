@@ -7,6 +7,7 @@ ghost use Rattle.std.specs.Prelude.{◌≡◌, length};
 ghost use Rattle.uart.specs.Whole.{Good};
 
 use model::SetUp;
+use std::io;
 use uart::Uart;
 
 // 0 to 255, again and again.
@@ -23,21 +24,21 @@ pub fn counted() -> [u8; 1000]
 }
 
 // The numbers of a UART, and the first and the last byte of its receive FIFO's slots.
-fn state(uart: Uart) {
+fn state(rt: &HostRuntime, uart: Uart) -> io::Result<()> {
     let core = uart.core;
-    crate::show::number(b"host bytes left ", core.host.count as u64);
-    crate::show::number(b"runs left ", core.runs.count as u64);
-    crate::show::number(b"bytes held ", core.rx.count as u64);
+    crate::show::number(rt, b"host bytes left ", core.host.count as u64)?;
+    crate::show::number(rt, b"runs left ", core.runs.count as u64)?;
+    crate::show::number(rt, b"bytes held ", core.rx.count as u64)?;
     let rx = uart.rx;
-    crate::show::number(b"first byte ", crate::show::wide(rx[0]));
-    crate::show::number(b"last byte ", crate::show::wide(rx[127]));
+    crate::show::number(rt, b"first byte ", crate::show::wide(rx[0]))?;
+    crate::show::number(rt, b"last byte ", crate::show::wide(rx[127]))?;
     let control = core.control;
     let line = control.line;
-    crate::show::number(b"INT_RAW ", line.int_raw as u64);
-    crate::show::number(b"line free at subcycle ", line.line_free_at);
+    crate::show::number(rt, b"INT_RAW ", line.int_raw as u64)?;
+    crate::show::number(rt, b"line free at subcycle ", line.line_free_at)
 }
 
-fn land(new: Uart)
+fn land(rt: &HostRuntime, new: Uart) -> io::Result<()>
     requires { Good new }
 {
     let bytes = counted();
@@ -46,17 +47,17 @@ fn land(new: Uart)
     let done = waiting.settle(500000);
     let uart = done.uart;
     let again = uart.settle(500000);
-    crate::show::number(b"passes ", done.passes);
-    crate::show::number(b"overflows ", done.overflows);
-    state(uart);
-    crate::show::number(b"passes again ", again.passes);
+    crate::show::number(rt, b"passes ", done.passes)?;
+    crate::show::number(rt, b"overflows ", done.overflows)?;
+    state(rt, uart)?;
+    crate::show::number(rt, b"passes again ", again.passes)
 }
 
-fn main() {
+fn main(rt: HostRuntime) -> io::Result<()> {
     let made = Uart::new(bench_settings::OFFSETS, bench_settings::RESETS);
     let reply = made.reply;
     match reply {
-        SetUp::Refused(_) => crate::show::number(b"set-up refused ", 1),
-        SetUp::Ready => land(made.uart),
+        SetUp::Refused(_) => crate::show::number(&rt, b"set-up refused ", 1),
+        SetUp::Ready => land(&rt, made.uart),
     }
 }

@@ -1,12 +1,11 @@
 // Lines of numbers with a label.
 ghost use Rattle.std.specs.Prelude.{◌≡◌};
 
-use libc::STDOUT_FILENO;
+use std::io;
 
-pub(crate) fn number(label: &[u8], n: u64) {
-    io::write_all(STDOUT_FILENO, label);
-    io::print_decimal(STDOUT_FILENO, n);
-    io::write_all(STDOUT_FILENO, b"\n");
+pub(crate) fn number(rt: &HostRuntime, label: &[u8], n: u64) -> io::Result<()> {
+    rt.write_all(label)?;
+    println!(rt; "{n}")
 }
 
 pub fn wide(byte: u8) -> u64

@@ -8,14 +8,16 @@ mod show;
 mod times;
 mod words;
 
-fn main() {
-    crate::times::marked();
-    crate::times::edges();
-    crate::bits::all_ones();
-    crate::bits::single_bits();
-    crate::clocks::periods();
-    crate::clocks::deadlines();
-    crate::words::places();
-    crate::queues::cursors();
-    crate::queues::copies();
+use std::io;
+
+fn main(rt: HostRuntime) -> io::Result<()> {
+    crate::times::marked(&rt)?;
+    crate::times::edges(&rt)?;
+    crate::bits::all_ones(&rt)?;
+    crate::bits::single_bits(&rt)?;
+    crate::clocks::periods(&rt)?;
+    crate::clocks::deadlines(&rt)?;
+    crate::words::places(&rt)?;
+    crate::queues::cursors(&rt)?;
+    crate::queues::copies(&rt)
 }

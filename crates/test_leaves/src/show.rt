@@ -1,30 +1,26 @@
 // Words and numbers on standard output.
 use model::Date;
+use std::io;
 
-pub(crate) fn text(s: &[u8]) {
-    io::write_all(1, s);
+pub(crate) fn text(rt: &HostRuntime, s: &[u8]) -> io::Result<()> {
+    rt.write_all(s)
 }
 
-pub(crate) fn number(n: u64) {
-    io::write_all(1, b" ");
-    io::print_decimal(1, n);
+pub(crate) fn number(rt: &HostRuntime, n: u64) -> io::Result<()> {
+    print!(rt; " {n}")
 }
 
-pub(crate) fn word(n: u32) {
-    number(n as u64);
+pub(crate) fn word(rt: &HostRuntime, n: u32) -> io::Result<()> {
+    number(rt, n as u64)
 }
 
-pub(crate) fn truth(b: bool) {
-    if b {
-        text(b" 1");
-    } else {
-        text(b" 0");
-    }
+pub(crate) fn truth(rt: &HostRuntime, b: bool) -> io::Result<()> {
+    if b { text(rt, b" 1") } else { text(rt, b" 0") }
 }
 
-pub(crate) fn date(d: Date) {
+pub(crate) fn date(rt: &HostRuntime, d: Date) -> io::Result<()> {
     match d {
-        Date::None => text(b" -"),
-        Date::At(n) => number(n),
+        Date::None => text(rt, b" -"),
+        Date::At(n) => number(rt, n),
     }
 }

@@ -4,6 +4,7 @@ ghost use Rattle.std.specs.Prelude.{◌≡◌};
 use crate::show;
 use model::{Read, Words};
 use registers::places::Place;
+use std::io;
 
 fn zeros() -> Words {
     Words {
@@ -19,25 +20,25 @@ fn zeros() -> Words {
     }
 }
 
-fn value(r: Read) {
+fn value(rt: &HostRuntime, r: Read) -> io::Result<()> {
     match r {
-        Read::Value(v) => show::word(v),
-        Read::NoValue => show::text(b" -"),
-        Read::Refused(_) => show::text(b" refused"),
+        Read::Value(v) => show::word(rt, v),
+        Read::NoValue => show::text(rt, b" -"),
+        Read::Refused(_) => show::text(rt, b" refused"),
     }
 }
 
 // All ones written at a place of zeros: accepted, what is read there, and the sum of all nine words, so that one word and no
 // other is seen to change.
-fn place(name: &[u8], at: Place) {
+fn place(rt: &HostRuntime, name: &[u8], at: Place) -> io::Result<()> {
     let s = registers::storage::write(zeros(), at, 0xFFFF_FFFF);
-    show::text(name);
-    show::text(b" =");
-    show::truth(s.accepted);
+    show::text(rt, name)?;
+    show::text(rt, b" =")?;
+    show::truth(rt, s.accepted)?;
     let w = s.words;
-    value(registers::storage::read(w, at));
-    show::number(sum(w));
-    show::text(b"\n");
+    value(rt, registers::storage::read(w, at))?;
+    show::number(rt, sum(w))?;
+    show::text(rt, b"\n")
 }
 
 fn wide(x: u32) -> u64
@@ -51,22 +52,22 @@ fn sum(w: Words) -> u64 {
     low + wide(w.idle_conf) + wide(w.rs485_conf) + wide(w.at_cmd_char) + wide(w.mem_conf)
 }
 
-pub(crate) fn places() {
-    place(b"FIFO", Place::Fifo);
-    place(b"INT_RAW", Place::IntRaw);
-    place(b"INT_ST", Place::IntSt);
-    place(b"INT_ENA", Place::IntEna);
-    place(b"INT_CLR", Place::IntClr);
-    place(b"CLKDIV", Place::Clkdiv);
-    place(b"STATUS", Place::Status);
-    place(b"FSM_STATUS", Place::FsmStatus);
-    place(b"CONF0", Place::Conf0);
-    place(b"CONF1", Place::Conf1);
-    place(b"CLK_CONF", Place::ClkConf);
-    place(b"IDLE_CONF", Place::IdleConf);
-    place(b"RS485_CONF", Place::Rs485Conf);
-    place(b"AT_CMD_CHAR", Place::AtCmdChar);
-    place(b"MEM_CONF", Place::MemConf);
-    place(b"MEM_RX_STATUS", Place::MemRxStatus);
-    place(b"unknown", Place::Unknown);
+pub(crate) fn places(rt: &HostRuntime) -> io::Result<()> {
+    place(rt, b"FIFO", Place::Fifo)?;
+    place(rt, b"INT_RAW", Place::IntRaw)?;
+    place(rt, b"INT_ST", Place::IntSt)?;
+    place(rt, b"INT_ENA", Place::IntEna)?;
+    place(rt, b"INT_CLR", Place::IntClr)?;
+    place(rt, b"CLKDIV", Place::Clkdiv)?;
+    place(rt, b"STATUS", Place::Status)?;
+    place(rt, b"FSM_STATUS", Place::FsmStatus)?;
+    place(rt, b"CONF0", Place::Conf0)?;
+    place(rt, b"CONF1", Place::Conf1)?;
+    place(rt, b"CLK_CONF", Place::ClkConf)?;
+    place(rt, b"IDLE_CONF", Place::IdleConf)?;
+    place(rt, b"RS485_CONF", Place::Rs485Conf)?;
+    place(rt, b"AT_CMD_CHAR", Place::AtCmdChar)?;
+    place(rt, b"MEM_CONF", Place::MemConf)?;
+    place(rt, b"MEM_RX_STATUS", Place::MemRxStatus)?;
+    place(rt, b"unknown", Place::Unknown)
 }
