@@ -1,6 +1,6 @@
 -- When what was put to the output is written. Whether a write fails is nobody's to say. Assumes nothing.
-use Rattle.std.specs.Prelude.{◌≡◌, refl, Bool, true, false, ℕ, ◌≤◌, ◌<◌}
-use Rattle.std.proofs.Common.{subst, arith}
+use Rattle.std.specs.Prelude.{◌≡◌, Bool, true, false, ℕ, ◌≤◌, ◌<◌}
+use Rattle.std.proofs.Common.{subst}
 use Rattle.streams.specs.declared.output.Output.{Output}
 
 -- all is written, or the write fails; after a write that failed nothing is
@@ -16,20 +16,6 @@ pub data KeepsUp (line : Bool) (full : ℕ) (o : Output) : Output → Type 0 whe
   filled : {r : Output} → full < o.at → Flushed o r → KeepsUp line full o r
 
 -- ---- laws
-
-differ : {A : Type 0} {b : Bool} → b ≡ true → b ≡ false → A
-differ e f = absurd (let z : ◌≡◌ {A = ℕ} 0 1 = cc in omega arith)
-
-flushed-room : (full : ℕ) {o r : Output} → Flushed o r → r.failed ≡ false → r.at ≤ full
-flushed-room full (Flushed.ended e) h = differ e h
-flushed-room full (Flushed.written e) h = omega arith
-flushed-room full (Flushed.broken e) h = differ refl h
-
--- where no write failed, no more than that is filled
-pub kept-room : {line : Bool} {full : ℕ} {o r : Output} → KeepsUp line full o r → r.failed ≡ false → r.at ≤ full
-kept-room (KeepsUp.waits e h) f = h
-kept-room {full = full} (KeepsUp.no_line e w) f = flushed-room full w f
-kept-room {full = full} (KeepsUp.filled h w) f = flushed-room full w f
 
 pub kept_same : (line line' : Bool) (full : ℕ) (o r : Output) → line ≡ line' → KeepsUp line full o r → KeepsUp line' full o r
 kept_same line line' full o r e k = subst (λ (b : Bool). KeepsUp b full o r) e k
