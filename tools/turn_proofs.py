@@ -137,6 +137,8 @@ def turn(crate, folder, path, of):
             fields = re.findall(r"\.(" + W + r")", rest)
             if not fields:
                 return 'c'
+            if fields[0] == 'pre':
+                fields[0] = 'requires'
             if fields[0] == 'requires' and of.get('pre') and len(fields) > 1 and fields[1].isdigit():
                 return 'c.requires.' + '.'.join([pre_fields[int(fields[1])] if pre_fields and int(fields[1]) < len(pre_fields) else fields[1], *fields[2:]])
             if len(fields) > 2 and fields[1] == 'ensures' and fields[2].isdigit():

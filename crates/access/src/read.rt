@@ -6,7 +6,7 @@ ghost use Rattle.model.specs.Replies.{as_read, read_number};
 ghost use Rattle.model.specs.Calls.{read_placed, read as Calls·read};
 ghost use Rattle.registers.specs.Places.{register_at};
 ghost use Rattle.device.specs.Holds.{abs, Ok};
-ghost use Rattle.device.specs.Wholes.{lent};
+ghost use Rattle.device.specs.Wholes.{arrays};
 ghost use Rattle.calls.specs.Answers.{dated_call, dated_work, Works, Answers};
 ghost use Rattle.access.specs.Structs.{read_core, refused_read};
 
@@ -63,12 +63,11 @@ fn carry_out<'a>(
     cycle: u64,
     place: Place,
 ) -> ReadCore
-    requires { Ok core (lent gone_at flight tx host run_at run_len rx) × (cycle < date_end) }
+    requires { Ok core (arrays gone_at.now flight.now tx.old host.now run_at.now run_len.old rx.old) × (cycle < date_end) }
     ensures { Works as_read
-        (dated_work cycle (read_placed cycle (register_at place)) (abs core (lent gone_at.entry flight.entry tx.entry host.entry
-        run_at.entry run_len.entry rx.entry)))
+        (dated_work cycle (read_placed cycle (register_at place)) (abs core (arrays gone_at.now flight.now tx.old host.now run_at.now run_len.old rx.old)))
         result.core
-        (lent gone_at.entry flight.entry tx.exit host.entry run_at.entry run_len.exit rx.exit)
+        (arrays gone_at.now flight.now tx.new host.now run_at.now run_len.new rx.new)
         result.reply result.report }
 {
     let t = settle_at::settle_at(core, gone_at, flight, tx, host, run_at, run_len, rx, cycle);
@@ -92,11 +91,11 @@ pub fn read<'a>(
     cycle: u64,
     offset: u32,
 ) -> ReadCore
-    requires { Ok core (lent gone_at flight tx host run_at run_len rx) }
+    requires { Ok core (arrays gone_at.now flight.now tx.old host.now run_at.now run_len.old rx.old) }
     ensures { Answers as_read read_number (dated_call cycle (Calls·read cycle offset) (abs core
-        (lent gone_at.entry flight.entry tx.entry host.entry run_at.entry run_len.entry rx.entry))) core
-        (lent gone_at.entry flight.entry tx.entry host.entry run_at.entry run_len.entry rx.entry) result.core
-        (lent gone_at.entry flight.entry tx.exit host.entry run_at.entry run_len.exit rx.exit)
+        (arrays gone_at.now flight.now tx.old host.now run_at.now run_len.old rx.old))) core
+        (arrays gone_at.now flight.now tx.old host.now run_at.now run_len.old rx.old) result.core
+        (arrays gone_at.now flight.now tx.new host.now run_at.now run_len.new rx.new)
         result.reply result.report }
 {
     let map = core.map;

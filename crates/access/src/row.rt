@@ -9,7 +9,7 @@ ghost use Rattle.queue.specs.Cursors.{Held};
 ghost use Rattle.access.specs.Row.{counts_of, row_notices};
 ghost use Rattle.device.specs.Holds.{abs, Ok};
 ghost use Rattle.calls.specs.Answers.{Works, Answers};
-ghost use Rattle.device.specs.Wholes.{lent};
+ghost use Rattle.device.specs.Wholes.{arrays};
 ghost use Rattle.access.specs.RowParts.{due_of, goes_on, one_more, none_yet, SumsLow, Begins, AllSettled, Room, FillsAny};
 ghost use Rattle.access.specs.RowParts.{room_of, over_of, row_core, refused_row, row_work, Totals, Passed};
 
@@ -186,10 +186,9 @@ fn settling_writes<'a, 'b>(
     bytes: &'b [u8],
     n: usize,
 ) -> RowSoFar
-    requires { Begins cycle core (lent gone_at flight tx host run_at run_len rx) bytes.now n }
-    ensures { AllSettled cycle bytes.now n (abs core (lent gone_at.entry flight.entry tx.entry host.entry
-        run_at.entry run_len.entry rx.entry)) result
-        (lent gone_at.exit flight.exit tx.exit host.entry run_at.entry run_len.exit rx.exit) }
+    requires { Begins cycle core (arrays gone_at.old flight.old tx.old host.now run_at.now run_len.old rx.old) bytes.now n }
+    ensures { AllSettled cycle bytes.now n (abs core (arrays gone_at.old flight.old tx.old host.now run_at.now run_len.old rx.old)) result
+        (arrays gone_at.new flight.new tx.new host.now run_at.now run_len.new rx.new) }
 {
     let mut at = none_yet(core, n);
     while at.goes_on {
@@ -314,12 +313,11 @@ fn carry_out<'a, 'b>(
     cycle: u64,
     bytes: &'b [u8],
 ) -> RowCore
-    requires { Passed cycle core (lent gone_at flight tx host run_at run_len rx) bytes.now }
+    requires { Passed cycle core (arrays gone_at.old flight.old tx.old host.now run_at.now run_len.old rx.old) bytes.now }
     ensures { Works (λ x. x)
-        (row_work cycle bytes.now (abs core (lent gone_at.entry flight.entry tx.entry host.entry run_at.entry
-        run_len.entry rx.entry)))
+        (row_work cycle bytes.now (abs core (arrays gone_at.old flight.old tx.old host.now run_at.now run_len.old rx.old)))
         result.core
-        (lent gone_at.exit flight.exit tx.exit host.entry run_at.entry run_len.exit rx.exit)
+        (arrays gone_at.new flight.new tx.new host.now run_at.now run_len.new rx.new)
         result.reply result.report }
 {
     let n = queue::smaller(bytes.len(), ROW_LIMIT);
@@ -345,11 +343,11 @@ pub fn write_row<'a, 'b>(
     cycle: u64,
     bytes: &'b [u8],
 ) -> RowCore
-    requires { Ok core (lent gone_at flight tx host run_at run_len rx) }
+    requires { Ok core (arrays gone_at.old flight.old tx.old host.now run_at.now run_len.old rx.old) }
     ensures { Answers (λ x. x) row_number (Row·row cycle bytes.now (abs core
-        (lent gone_at.entry flight.entry tx.entry host.entry run_at.entry run_len.entry rx.entry))) core
-        (lent gone_at.entry flight.entry tx.entry host.entry run_at.entry run_len.entry rx.entry) result.core
-        (lent gone_at.exit flight.exit tx.exit host.entry run_at.entry run_len.exit rx.exit)
+        (arrays gone_at.old flight.old tx.old host.now run_at.now run_len.old rx.old))) core
+        (arrays gone_at.old flight.old tx.old host.now run_at.now run_len.old rx.old) result.core
+        (arrays gone_at.new flight.new tx.new host.now run_at.now run_len.new rx.new)
         result.reply result.report }
 {
     let control = core.control;

@@ -8,7 +8,7 @@ ghost use Rattle.registers.specs.Places.{register_at};
 ghost use Rattle.queue.specs.Cursors.{Held};
 ghost use Rattle.device.specs.Holds.{abs, Ok};
 ghost use Rattle.device.specs.Arms.{Ready};
-ghost use Rattle.device.specs.Wholes.{lent};
+ghost use Rattle.device.specs.Wholes.{arrays};
 ghost use Rattle.calls.specs.Answers.{dated_call, Works, Answers};
 ghost use Rattle.access.specs.WriteStructs.{write_core, refused_write};
 ghost use Rattle.access.specs.ByPlace.{work_at};
@@ -95,12 +95,11 @@ fn carry_out<'a>(
     place: Place,
     value: u32,
 ) -> WriteCore
-    requires { Ok core (lent gone_at flight tx host run_at run_len rx) × (cycle < date_end) }
+    requires { Ok core (arrays gone_at.old flight.old tx.old host.now run_at.now run_len.old rx.old) × (cycle < date_end) }
     ensures { Works (λ x. x)
-        (work_at fifo cycle byte (register_at place) value (abs core (lent gone_at.entry flight.entry tx.entry host.entry
-        run_at.entry run_len.entry rx.entry)))
+        (work_at fifo cycle byte (register_at place) value (abs core (arrays gone_at.old flight.old tx.old host.now run_at.now run_len.old rx.old)))
         result.core
-        (lent gone_at.exit flight.exit tx.exit host.entry run_at.entry run_len.exit rx.exit)
+        (arrays gone_at.new flight.new tx.new host.now run_at.now run_len.new rx.new)
         result.reply result.report }
 {
     let t = settle_at::settle_at(core, gone_at, flight, tx, host, run_at, run_len, rx, cycle);
@@ -126,11 +125,11 @@ pub fn write<'a>(
     offset: u32,
     value: u32,
 ) -> WriteCore
-    requires { Ok core (lent gone_at flight tx host run_at run_len rx) }
+    requires { Ok core (arrays gone_at.old flight.old tx.old host.now run_at.now run_len.old rx.old) }
     ensures { Answers (λ x. x) write_number (dated_call cycle (Calls·write cycle offset value) (abs core
-        (lent gone_at.entry flight.entry tx.entry host.entry run_at.entry run_len.entry rx.entry))) core
-        (lent gone_at.entry flight.entry tx.entry host.entry run_at.entry run_len.entry rx.entry) result.core
-        (lent gone_at.exit flight.exit tx.exit host.entry run_at.entry run_len.exit rx.exit)
+        (arrays gone_at.old flight.old tx.old host.now run_at.now run_len.old rx.old))) core
+        (arrays gone_at.old flight.old tx.old host.now run_at.now run_len.old rx.old) result.core
+        (arrays gone_at.new flight.new tx.new host.now run_at.now run_len.new rx.new)
         result.reply result.report }
 {
     let map = core.map;

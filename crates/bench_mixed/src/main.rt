@@ -8,7 +8,7 @@ mod steps;
 
 ghost use Rattle.std.specs.Prelude.{◌<◌};
 ghost use Rattle.device.specs.Holds.{Ok};
-ghost use Rattle.device.specs.Wholes.{lent};
+ghost use Rattle.device.specs.Wholes.{arrays};
 ghost use Rattle.uart.specs.Whole.{Good};
 
 use crate::notes::Notes;
@@ -51,9 +51,8 @@ fn carry_out<'a>(
     rx: &'a mut [u8; 128],
     n: u64,
 ) -> Tally
-    requires { Ok from.core (lent gone_at flight tx host run_at run_len rx) × (n < 13402) }
-    ensures { Ok result.core (lent gone_at.exit flight.exit tx.exit host.exit run_at.exit run_len.exit
-        rx.exit) }
+    requires { Ok from.core (arrays gone_at.old flight.old tx.old host.old run_at.old run_len.old rx.old) × (n < 13402) }
+    ensures { Ok result.core (arrays gone_at.new flight.new tx.new host.new run_at.new run_len.new rx.new) }
 {
     let core = from.core;
     let notes = from.notes;

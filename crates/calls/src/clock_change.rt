@@ -4,7 +4,7 @@ ghost use Rattle.model.specs.Tests.{date_end, period_limit};
 ghost use Rattle.model.specs.Calls.{machine};
 ghost use Rattle.model.specs.Call.{Machine};
 ghost use Rattle.device.specs.Holds.{abs, Ok};
-ghost use Rattle.device.specs.Wholes.{lent};
+ghost use Rattle.device.specs.Wholes.{arrays};
 ghost use Rattle.calls.specs.Changes.{clocked_core};
 ghost use Rattle.calls.specs.Answers.{dated_call, dated_work, Works, DoneWith};
 
@@ -38,13 +38,12 @@ fn carry_out<'a>(
     cycle: u64,
     period: u64,
 ) -> DoneCore
-    requires { Ok core (lent gone_at flight tx host run_at run_len rx) × (cycle < date_end) × (period ≤ period_limit) }
+    requires { Ok core (arrays gone_at.now flight.now tx.old host.now run_at.now run_len.old rx.old) × (cycle < date_end) × (period ≤ period_limit) }
     ensures { Works (λ x. x)
         (dated_work cycle (machine cycle (Machine.clock_change period))
-        (abs core (lent gone_at.entry flight.entry tx.entry host.entry
-        run_at.entry run_len.entry rx.entry)))
+        (abs core (arrays gone_at.now flight.now tx.old host.now run_at.now run_len.old rx.old)))
         result.core
-        (lent gone_at.entry flight.entry tx.exit host.entry run_at.entry run_len.exit rx.exit)
+        (arrays gone_at.now flight.now tx.new host.now run_at.now run_len.new rx.new)
         result.reply result.report }
 {
     let first = settle_at::settle_at(core, gone_at, flight, tx, host, run_at, run_len, rx, cycle);
@@ -71,10 +70,10 @@ pub fn clock_change<'a>(
     cycle: u64,
     period: u64,
 ) -> DoneCore
-    requires { Ok core (lent gone_at flight tx host run_at run_len rx) }
+    requires { Ok core (arrays gone_at.now flight.now tx.old host.now run_at.now run_len.old rx.old) }
     ensures { DoneWith (dated_call cycle (machine cycle (Machine.clock_change period))) core
-        (lent gone_at.entry flight.entry tx.entry host.entry run_at.entry run_len.entry rx.entry) result.core
-        (lent gone_at.entry flight.entry tx.exit host.entry run_at.entry run_len.exit rx.exit)
+        (arrays gone_at.now flight.now tx.old host.now run_at.now run_len.old rx.old) result.core
+        (arrays gone_at.now flight.now tx.new host.now run_at.now run_len.new rx.new)
         result.reply result.report }
 {
     let control = core.control;

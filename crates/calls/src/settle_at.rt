@@ -3,7 +3,7 @@ ghost use Rattle.std.specs.Prelude.{◌≡◌, ◌<◌};
 ghost use Rattle.model.specs.Tests.{date_end};
 ghost use Rattle.model.specs.Laws.Plans.{settle_at};
 ghost use Rattle.device.specs.Holds.{abs, Ok};
-ghost use Rattle.device.specs.Wholes.{lent};
+ghost use Rattle.device.specs.Wholes.{arrays};
 ghost use Rattle.device.specs.Settles.{Settles};
 ghost use Rattle.calls.specs.Changes.{dated_core};
 
@@ -30,12 +30,11 @@ pub fn settle_at<'a>(
     rx: &'a mut [u8; 128],
     cycle: u64,
 ) -> SettleCore
-    requires { Ok core (lent gone_at flight tx host run_at run_len rx) × (cycle < date_end) }
+    requires { Ok core (arrays gone_at.now flight.now tx.old host.now run_at.now run_len.old rx.old) × (cycle < date_end) }
     ensures { Settles
-        (settle_at cycle (abs core (lent gone_at.entry flight.entry tx.entry host.entry run_at.entry
-        run_len.entry rx.entry)))
+        (settle_at cycle (abs core (arrays gone_at.now flight.now tx.old host.now run_at.now run_len.old rx.old)))
         result.core
-        (lent gone_at.entry flight.entry tx.exit host.entry run_at.entry run_len.exit rx.exit)
+        (arrays gone_at.now flight.now tx.new host.now run_at.now run_len.new rx.new)
         result.passes result.overflows }
 {
     let moved = with_last(core, cycle);

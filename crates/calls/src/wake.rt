@@ -4,7 +4,7 @@ ghost use Rattle.model.specs.Tests.{date_end};
 ghost use Rattle.model.specs.Calls.{machine};
 ghost use Rattle.model.specs.Call.{Machine};
 ghost use Rattle.device.specs.Holds.{abs, Ok};
-ghost use Rattle.device.specs.Wholes.{lent};
+ghost use Rattle.device.specs.Wholes.{arrays};
 ghost use Rattle.calls.specs.Changes.{called_core};
 ghost use Rattle.calls.specs.Answers.{dated_call, dated_work, Works, DoneWith};
 
@@ -34,13 +34,12 @@ fn carry_out<'a>(
     rx: &'a mut [u8; 128],
     cycle: u64,
 ) -> DoneCore
-    requires { Ok core (lent gone_at flight tx host run_at run_len rx) × (cycle < date_end) }
+    requires { Ok core (arrays gone_at.now flight.now tx.old host.now run_at.now run_len.old rx.old) × (cycle < date_end) }
     ensures { Works (λ x. x)
         (dated_work cycle (machine cycle Machine.wake)
-        (abs core (lent gone_at.entry flight.entry tx.entry host.entry run_at.entry
-        run_len.entry rx.entry)))
+        (abs core (arrays gone_at.now flight.now tx.old host.now run_at.now run_len.old rx.old)))
         result.core
-        (lent gone_at.entry flight.entry tx.exit host.entry run_at.entry run_len.exit rx.exit)
+        (arrays gone_at.now flight.now tx.new host.now run_at.now run_len.new rx.new)
         result.reply result.report }
 {
     let from = called(core, cycle);
@@ -61,10 +60,10 @@ pub fn wake<'a>(
     rx: &'a mut [u8; 128],
     cycle: u64,
 ) -> DoneCore
-    requires { Ok core (lent gone_at flight tx host run_at run_len rx) }
+    requires { Ok core (arrays gone_at.now flight.now tx.old host.now run_at.now run_len.old rx.old) }
     ensures { DoneWith (dated_call cycle (machine cycle Machine.wake)) core
-        (lent gone_at.entry flight.entry tx.entry host.entry run_at.entry run_len.entry rx.entry) result.core
-        (lent gone_at.entry flight.entry tx.exit host.entry run_at.entry run_len.exit rx.exit)
+        (arrays gone_at.now flight.now tx.old host.now run_at.now run_len.old rx.old) result.core
+        (arrays gone_at.now flight.now tx.new host.now run_at.now run_len.new rx.new)
         result.reply result.report }
 {
     let control = core.control;

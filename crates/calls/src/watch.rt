@@ -3,7 +3,7 @@ ghost use Rattle.std.specs.Prelude.{◌≡◌};
 ghost use Rattle.model.specs.Calls.{machine};
 ghost use Rattle.model.specs.Call.{Machine};
 ghost use Rattle.device.specs.Holds.{Ok};
-ghost use Rattle.device.specs.Wholes.{lent};
+ghost use Rattle.device.specs.Wholes.{arrays};
 ghost use Rattle.calls.specs.Changes.{watched_core};
 ghost use Rattle.calls.specs.Answers.{dated_call, DoneWith};
 
@@ -34,10 +34,10 @@ pub fn watch<'a>(
     cycle: u64,
     on: bool,
 ) -> DoneCore
-    requires { Ok core (lent gone_at flight tx host run_at run_len rx) }
+    requires { Ok core (arrays gone_at.now flight.now tx.now host.now run_at.now run_len.now rx.now) }
     ensures { DoneWith (dated_call cycle (machine cycle (Machine.watch on))) core
-        (lent gone_at.entry flight.entry tx.entry host.entry run_at.entry run_len.entry rx.entry) result.core
-        (lent gone_at.entry flight.entry tx.entry host.entry run_at.entry run_len.entry rx.entry)
+        (arrays gone_at.now flight.now tx.now host.now run_at.now run_len.now rx.now) result.core
+        (arrays gone_at.now flight.now tx.now host.now run_at.now run_len.now rx.now)
         result.reply result.report }
 {
     let control = core.control;

@@ -2,7 +2,7 @@
 ghost use Rattle.std.specs.Prelude.{◌≡◌};
 ghost use Rattle.model.specs.Settle.{settle};
 ghost use Rattle.device.specs.Holds.{abs, Ok};
-ghost use Rattle.device.specs.Wholes.{lent};
+ghost use Rattle.device.specs.Wholes.{arrays};
 ghost use Rattle.device.specs.Settles.{Settles, reception_of, together as Settles·together};
 
 use crate::departures::Transmitter;
@@ -74,12 +74,11 @@ pub fn settle<'a>(
     rx: &'a mut [u8; 128],
     cycle: u64,
 ) -> SettleCore
-    requires { Ok core (lent gone_at flight tx host run_at run_len rx) }
+    requires { Ok core (arrays gone_at.now flight.now tx.old host.now run_at.now run_len.old rx.old) }
     ensures { Settles
-        (settle cycle (abs core (lent gone_at.entry flight.entry tx.entry host.entry run_at.entry
-        run_len.entry rx.entry)))
+        (settle cycle (abs core (arrays gone_at.now flight.now tx.old host.now run_at.now run_len.old rx.old)))
         result.core
-        (lent gone_at.entry flight.entry tx.exit host.entry run_at.entry run_len.exit rx.exit)
+        (arrays gone_at.now flight.now tx.new host.now run_at.now run_len.new rx.new)
         result.passes result.overflows }
 {
     let control = core.control;

@@ -3,7 +3,7 @@ ghost use Rattle.std.specs.Prelude.{◌≡◌};
 ghost use Rattle.model.specs.Calls.{machine};
 ghost use Rattle.model.specs.Call.{Machine};
 ghost use Rattle.device.specs.Holds.{Ok};
-ghost use Rattle.device.specs.Wholes.{lent};
+ghost use Rattle.device.specs.Wholes.{arrays};
 ghost use Rattle.calls.specs.Answers.{dated_call, DoneWith};
 ghost use Rattle.ffi.specs.Plain.{core_of};
 ghost use Rattle.ffi.specs.Replies.{plain_done};
@@ -24,12 +24,12 @@ pub extern "C" fn wondraxu_power_down<'a>(
     rx: &'a [u8; 128],
     cycle: u64,
 ) -> PlainAnswer
-    requires { Ok (core_of core) (lent gone_at flight tx host run_at run_len rx) }
+    requires { Ok (core_of core) (arrays gone_at.now flight.now tx.now host.now run_at.now run_len.now rx.now) }
     ensures { Plainly plain_done
         (λ c c'. DoneWith (dated_call cycle (machine cycle Machine.power_down)) c
-        (lent gone_at.entry flight.entry tx.entry host.entry run_at.entry run_len.entry rx.entry)
+        (arrays gone_at.now flight.now tx.now host.now run_at.now run_len.now rx.now)
         c'
-        (lent gone_at.entry flight.entry tx.entry host.entry run_at.entry run_len.entry rx.entry)) core result }
+        (arrays gone_at.now flight.now tx.now host.now run_at.now run_len.now rx.now)) core result }
 {
     let from = ffi::core_of(core);
     let done = calls::power_down::power_down(

@@ -2,7 +2,7 @@
 ghost use Rattle.std.specs.Prelude.{◌≡◌};
 ghost use Rattle.model.specs.Calls.{receive};
 ghost use Rattle.device.specs.Holds.{Ok};
-ghost use Rattle.device.specs.Wholes.{lent};
+ghost use Rattle.device.specs.Wholes.{arrays};
 ghost use Rattle.calls.specs.Answers.{dated_call, DoneWith};
 ghost use Rattle.ffi.specs.Plain.{core_of};
 ghost use Rattle.ffi.specs.Replies.{plain_done};
@@ -25,12 +25,12 @@ pub extern "C" fn wondraxu_receive<'a, 'b>(
     at: u64,
     bytes: &'b [u8],
 ) -> PlainAnswer
-    requires { Ok (core_of core) (lent gone_at flight tx host run_at run_len rx) }
+    requires { Ok (core_of core) (arrays gone_at.now flight.now tx.old host.old run_at.old run_len.old rx.old) }
     ensures { Plainly plain_done
         (λ c c'. DoneWith (dated_call cycle (receive cycle at bytes.now)) c
-        (lent gone_at.entry flight.entry tx.entry host.entry run_at.entry run_len.entry rx.entry)
+        (arrays gone_at.now flight.now tx.old host.old run_at.old run_len.old rx.old)
         c'
-        (lent gone_at.entry flight.entry tx.exit host.exit run_at.exit run_len.exit rx.exit)) core result }
+        (arrays gone_at.now flight.now tx.new host.new run_at.new run_len.new rx.new)) core result }
 {
     let from = ffi::core_of(core);
     let done = host::receive::receive(

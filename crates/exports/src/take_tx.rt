@@ -2,7 +2,7 @@
 ghost use Rattle.std.specs.Prelude.{◌≡◌};
 ghost use Rattle.model.specs.Calls.{take_tx};
 ghost use Rattle.device.specs.Holds.{Ok};
-ghost use Rattle.device.specs.Wholes.{lent};
+ghost use Rattle.device.specs.Wholes.{arrays};
 ghost use Rattle.calls.specs.Answers.{dated_call};
 ghost use Rattle.host.specs.Takes.{TakesWith};
 ghost use Rattle.ffi.specs.Plain.{core_of};
@@ -25,12 +25,12 @@ pub extern "C" fn wondraxu_take_tx<'a, 'b>(
     cycle: u64,
     out: &'b mut [u8],
 ) -> PlainAnswer
-    requires { Ok (core_of core) (lent gone_at flight tx host run_at run_len rx) }
+    requires { Ok (core_of core) (arrays gone_at.now flight.now tx.old host.now run_at.now run_len.old rx.old) }
     ensures { Plainly plain_taken
         (λ c c' reply report. TakesWith (dated_call cycle (take_tx cycle out.old)) c
-        (lent gone_at.entry flight.entry tx.entry host.entry run_at.entry run_len.entry rx.entry)
+        (arrays gone_at.now flight.now tx.old host.now run_at.now run_len.old rx.old)
         c'
-        (lent gone_at.entry flight.entry tx.exit host.entry run_at.entry run_len.exit rx.exit)
+        (arrays gone_at.now flight.now tx.new host.now run_at.now run_len.new rx.new)
         reply report out.new)
         core result }
 {

@@ -2,7 +2,7 @@
 ghost use Rattle.std.specs.Prelude.{◌≡◌};
 ghost use Rattle.model.specs.Calls.{take_written};
 ghost use Rattle.device.specs.Holds.{Ok};
-ghost use Rattle.device.specs.Wholes.{lent};
+ghost use Rattle.device.specs.Wholes.{arrays};
 ghost use Rattle.calls.specs.Answers.{undated_call};
 ghost use Rattle.host.specs.Takes.{TakesWith};
 ghost use Rattle.ffi.specs.Plain.{core_of};
@@ -24,12 +24,12 @@ pub extern "C" fn wondraxu_take_written<'a>(
     rx: &'a [u8; 128],
     out: &'a mut [u8],
 ) -> PlainAnswer
-    requires { Ok (core_of core) (lent gone_at flight tx host run_at run_len rx) }
+    requires { Ok (core_of core) (arrays gone_at.now flight.now tx.now host.now run_at.now run_len.now rx.now) }
     ensures { Plainly plain_taken
         (λ c c' reply report. TakesWith (undated_call (take_written out.old)) c
-        (lent gone_at.entry flight.entry tx.entry host.entry run_at.entry run_len.entry rx.entry)
+        (arrays gone_at.now flight.now tx.now host.now run_at.now run_len.now rx.now)
         c'
-        (lent gone_at.entry flight.entry tx.entry host.entry run_at.entry run_len.entry rx.entry)
+        (arrays gone_at.now flight.now tx.now host.now run_at.now run_len.now rx.now)
         reply report out.new)
         core result }
 {

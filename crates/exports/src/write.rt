@@ -3,7 +3,7 @@ ghost use Rattle.std.specs.Prelude.{◌≡◌};
 ghost use Rattle.model.specs.Replies.{write_number};
 ghost use Rattle.model.specs.Calls.{write};
 ghost use Rattle.device.specs.Holds.{abs, Ok};
-ghost use Rattle.device.specs.Wholes.{lent};
+ghost use Rattle.device.specs.Wholes.{arrays};
 ghost use Rattle.calls.specs.Answers.{dated_call, Answers};
 ghost use Rattle.ffi.specs.Plain.{core_of};
 ghost use Rattle.ffi.specs.Replies.{plain_write};
@@ -26,14 +26,13 @@ pub extern "C" fn wondraxu_write<'a>(
     offset: u32,
     value: u32,
 ) -> PlainAnswer
-    requires { Ok (core_of core) (lent gone_at flight tx host run_at run_len rx) }
+    requires { Ok (core_of core) (arrays gone_at.old flight.old tx.old host.now run_at.now run_len.old rx.old) }
     ensures { Plainly plain_write
         (λ c c'. Answers (λ x. x) write_number
-        (dated_call cycle (write cycle offset value) (abs c (lent gone_at.entry flight.entry tx.entry host.entry
-        run_at.entry run_len.entry rx.entry))) c
-        (lent gone_at.entry flight.entry tx.entry host.entry run_at.entry run_len.entry rx.entry)
+        (dated_call cycle (write cycle offset value) (abs c (arrays gone_at.old flight.old tx.old host.now run_at.now run_len.old rx.old))) c
+        (arrays gone_at.old flight.old tx.old host.now run_at.now run_len.old rx.old)
         c'
-        (lent gone_at.exit flight.exit tx.exit host.entry run_at.entry run_len.exit rx.exit)) core result }
+        (arrays gone_at.new flight.new tx.new host.now run_at.now run_len.new rx.new)) core result }
 {
     let from = ffi::core_of(core);
     let done = access::write::write(

@@ -2,7 +2,7 @@
 ghost use Rattle.std.specs.Prelude.{◌≡◌};
 ghost use Rattle.model.specs.Row.{row_number, row};
 ghost use Rattle.device.specs.Holds.{abs, Ok};
-ghost use Rattle.device.specs.Wholes.{lent};
+ghost use Rattle.device.specs.Wholes.{arrays};
 ghost use Rattle.calls.specs.Answers.{Answers};
 ghost use Rattle.ffi.specs.Plain.{core_of};
 ghost use Rattle.ffi.specs.Answers.{PlainlyRow};
@@ -23,14 +23,13 @@ pub extern "C" fn wondraxu_write_row<'a, 'b>(
     cycle: u64,
     bytes: &'b [u8],
 ) -> PlainRowAnswer
-    requires { Ok (core_of core) (lent gone_at flight tx host run_at run_len rx) }
+    requires { Ok (core_of core) (arrays gone_at.old flight.old tx.old host.now run_at.now run_len.old rx.old) }
     ensures { PlainlyRow
         (λ c c'. Answers (λ x. x) row_number
-        (row cycle bytes.now (abs c (lent gone_at.entry flight.entry tx.entry host.entry
-        run_at.entry run_len.entry rx.entry))) c
-        (lent gone_at.entry flight.entry tx.entry host.entry run_at.entry run_len.entry rx.entry)
+        (row cycle bytes.now (abs c (arrays gone_at.old flight.old tx.old host.now run_at.now run_len.old rx.old))) c
+        (arrays gone_at.old flight.old tx.old host.now run_at.now run_len.old rx.old)
         c'
-        (lent gone_at.exit flight.exit tx.exit host.entry run_at.entry run_len.exit rx.exit)) core result }
+        (arrays gone_at.new flight.new tx.new host.now run_at.now run_len.new rx.new)) core result }
 {
     let from = ffi::core_of(core);
     let done = access::row::write_row(

@@ -3,7 +3,7 @@ ghost use Rattle.std.specs.Prelude.{◌≡◌, ◌<◌, length};
 ghost use Rattle.model.specs.Tests.{date_end};
 ghost use Rattle.model.specs.Calls.{receive as Calls·receive, host_date};
 ghost use Rattle.device.specs.Holds.{abs, Ok};
-ghost use Rattle.device.specs.Wholes.{lent};
+ghost use Rattle.device.specs.Wholes.{arrays};
 ghost use Rattle.calls.specs.Answers.{dated_call, dated_work, Works, DoneWith};
 ghost use Rattle.host.specs.Hands.{Takes, HandsAny};
 ghost use Rattle.host.specs.Receives.{Room};
@@ -60,14 +60,13 @@ fn carry_out<'a, 'b>(
     at: u64,
     bytes: &'b [u8],
 ) -> DoneCore
-    requires { Ok core (lent gone_at flight tx host run_at run_len rx)
-        × (cycle < date_end) × Room core (lent gone_at flight tx host run_at run_len rx) (host_date cycle at)
+    requires { Ok core (arrays gone_at.now flight.now tx.old host.old run_at.old run_len.old rx.old)
+        × (cycle < date_end) × Room core (arrays gone_at.now flight.now tx.old host.old run_at.old run_len.old rx.old) (host_date cycle at)
         (length bytes.now) }
     ensures { Works (λ x. x)
-        (dated_work cycle (Calls·receive cycle at bytes.now) (abs core (lent gone_at.entry flight.entry tx.entry
-        host.entry run_at.entry run_len.entry rx.entry)))
+        (dated_work cycle (Calls·receive cycle at bytes.now) (abs core (arrays gone_at.now flight.now tx.old host.old run_at.old run_len.old rx.old)))
         result.core
-        (lent gone_at.entry flight.entry tx.exit host.exit run_at.exit run_len.exit rx.exit)
+        (arrays gone_at.now flight.now tx.new host.new run_at.new run_len.new rx.new)
         result.reply result.report }
 {
     let t = settle_at::settle_at(core, gone_at, flight, tx, host, run_at, run_len, rx, cycle);
@@ -96,10 +95,10 @@ pub fn receive<'a, 'b>(
     at: u64,
     bytes: &'b [u8],
 ) -> DoneCore
-    requires { Ok core (lent gone_at flight tx host run_at run_len rx) }
+    requires { Ok core (arrays gone_at.now flight.now tx.old host.old run_at.old run_len.old rx.old) }
     ensures { DoneWith (dated_call cycle (Calls·receive cycle at bytes.now)) core
-        (lent gone_at.entry flight.entry tx.entry host.entry run_at.entry run_len.entry rx.entry) result.core
-        (lent gone_at.entry flight.entry tx.exit host.exit run_at.exit run_len.exit rx.exit)
+        (arrays gone_at.now flight.now tx.old host.old run_at.old run_len.old rx.old) result.core
+        (arrays gone_at.now flight.now tx.new host.new run_at.new run_len.new rx.new)
         result.reply result.report }
 {
     let control = core.control;

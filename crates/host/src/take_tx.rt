@@ -3,7 +3,7 @@ ghost use Rattle.std.specs.Prelude.{◌≡◌, ◌<◌, ◌≤◌, length};
 ghost use Rattle.model.specs.Tests.{date_end, sent_limit};
 ghost use Rattle.model.specs.Calls.{take_tx};
 ghost use Rattle.device.specs.Holds.{abs, Ok};
-ghost use Rattle.device.specs.Wholes.{lent};
+ghost use Rattle.device.specs.Wholes.{arrays};
 ghost use Rattle.calls.specs.Answers.{dated_call, dated_work};
 ghost use Rattle.host.specs.Takes.{TakeWorks, TakesWith};
 
@@ -26,13 +26,12 @@ fn carry_out<'a, 'b>(
     cycle: u64,
     out: &'b mut [u8],
 ) -> TakeCore
-    requires { Ok core (lent gone_at flight tx host run_at run_len rx)
+    requires { Ok core (arrays gone_at.now flight.now tx.old host.now run_at.now run_len.old rx.old)
         × (cycle < date_end) × (sent_limit ≤ length out.old) }
     ensures { TakeWorks
-        (dated_work cycle (take_tx cycle out.old) (abs core (lent gone_at.entry flight.entry tx.entry host.entry
-        run_at.entry run_len.entry rx.entry)))
+        (dated_work cycle (take_tx cycle out.old) (abs core (arrays gone_at.now flight.now tx.old host.now run_at.now run_len.old rx.old)))
         result.core
-        (lent gone_at.entry flight.entry tx.exit host.entry run_at.entry run_len.exit rx.exit)
+        (arrays gone_at.now flight.now tx.new host.now run_at.now run_len.new rx.new)
         result.reply result.report out.new }
 {
     let t = settle_at::settle_at(core, gone_at, flight, tx, host, run_at, run_len, rx, cycle);
@@ -54,10 +53,10 @@ pub fn take_tx<'a, 'b>(
     cycle: u64,
     out: &'b mut [u8],
 ) -> TakeCore
-    requires { Ok core (lent gone_at flight tx host run_at run_len rx) }
+    requires { Ok core (arrays gone_at.now flight.now tx.old host.now run_at.now run_len.old rx.old) }
     ensures { TakesWith (dated_call cycle (take_tx cycle out.old)) core
-        (lent gone_at.entry flight.entry tx.entry host.entry run_at.entry run_len.entry rx.entry) result.core
-        (lent gone_at.entry flight.entry tx.exit host.entry run_at.entry run_len.exit rx.exit)
+        (arrays gone_at.now flight.now tx.old host.now run_at.now run_len.old rx.old) result.core
+        (arrays gone_at.now flight.now tx.new host.now run_at.now run_len.new rx.new)
         result.reply result.report out.new }
 {
     let control = core.control;

@@ -4,7 +4,7 @@ ghost use Rattle.model.specs.Tests.{sent_limit};
 ghost use Rattle.model.specs.Calls.{take_written};
 ghost use Rattle.queue.specs.Cursors.{Held};
 ghost use Rattle.device.specs.Holds.{Ok};
-ghost use Rattle.device.specs.Wholes.{lent};
+ghost use Rattle.device.specs.Wholes.{arrays};
 ghost use Rattle.calls.specs.Answers.{undated_call};
 ghost use Rattle.host.specs.Takes.{TakesWith};
 ghost use Rattle.host.specs.TakesWritten.{Filled};
@@ -37,10 +37,10 @@ pub fn take_written<'a>(
     rx: &'a [u8; 128],
     out: &'a mut [u8],
 ) -> TakeCore
-    requires { Ok core (lent gone_at flight tx host run_at run_len rx) }
+    requires { Ok core (arrays gone_at.now flight.now tx.now host.now run_at.now run_len.now rx.now) }
     ensures { TakesWith (undated_call (take_written out.old)) core
-        (lent gone_at.entry flight.entry tx.entry host.entry run_at.entry run_len.entry rx.entry) result.core
-        (lent gone_at.entry flight.entry tx.entry host.entry run_at.entry run_len.entry rx.entry)
+        (arrays gone_at.now flight.now tx.now host.now run_at.now run_len.now rx.now) result.core
+        (arrays gone_at.now flight.now tx.now host.now run_at.now run_len.now rx.now)
         result.reply result.report out.new }
 {
     let tests = replies::refusals::written_refusal(out.len());
