@@ -1,0 +1,42 @@
+-- `clock_change::clock_change` meets its contract: refused as the tests say, or carried out. Assumes nothing.
+use mathlib.Core.Option.{none}
+use Rattle.model.specs.Calls.{machine}
+use Rattle.model.specs.Call.{Machine}
+use Rattle.model.specs.Keeps.EachCall.{clock_change-within}
+use Rattle.replies.specs.Calls.{clock-tests}
+use Rattle.replies.specs.Refusals.{clocking}
+use Rattle.calls.specs.Answers.{passes, refuses, in-time}
+use Rattle.calls.specs.Done.{done-carried, done_refused, clock-zero}
+use borrow.Author.Tests.{ltb-false}
+use Rattle.model.specs.Keeps.Dated.{not-refused}
+use Rattle.calls.proofs.clock_change.clock_change.Goals as goal
+
+pub enum_known-tests : goal.enum_known-tests
+enum_known-tests c = c.in-Refused.in-Refused-own.keys1
+
+pub enum_told-1 : goal.enum_told-1
+enum_told-1 c = c.in-Passed.in-Passed-own.keys2
+
+pub carry_out-requires : goal.carry_out-requires
+unfolding clocking
+carry_out-requires c =
+    let tests =
+    in-time _ _ _ (passes c.clock_refusal-tests.ensures
+    c.in-Passed.is) in
+    (c.requires, tests.0, ltb-false _ _ (not-refused _ _ none tests.1).0)
+
+pub returns-in-Refused : goal.returns-in-Refused
+returns-in-Refused c =
+    let start = c in
+    let o = c.args in
+    done_refused o.cycle (machine o.cycle (Machine.clock_change o.period)) c.requires (clock-tests o.cycle _ o.period)
+    (refuses c.clock_refusal-tests.ensures c.in-Refused.is) c.refuse.ensures
+
+pub returns-in-Passed : goal.returns-in-Passed
+returns-in-Passed c =
+    let start = c in
+    let o = c.args in
+    done-carried o.cycle (machine o.cycle (Machine.clock_change o.period)) c.requires (clock-tests o.cycle _ o.period)
+    (passes c.clock_refusal-tests.ensures
+    c.in-Passed.is)
+    (clock_change-within o.cycle o.period _ c.requires.within) (clock-zero o.cycle _ o.period) c.carry_out.ensures
