@@ -8,7 +8,7 @@ use Rattle.text.specs.Hexes.{pair_value, spelled, pairs_read, pairs_stored}
 use Rattle.trace.specs.declared.faults.Reason.{Reason}
 use Rattle.trace.specs.declared.names.Name.{Name}
 use Rattle.trace.specs.declared.line.Line.{Line}
-use Rattle.trace.specs.Names.{letters, named}
+use Rattle.trace.specs.Names.{named}
 use Rattle.trace.specs.Forms.{form_of}
 use Rattle.trace.specs.Steps.{word_at}
 use Rattle.trace.specs.One.{number_at}

@@ -1,5 +1,5 @@
 -- A number that was read as one of 32 bits. Assumes nothing.
-use Rattle.std.specs.Prelude.{◌≡◌, List, [], ◌++◌, map, ℕ, ◌+◌, ◌%◌, ◌<◌, ◌≤◌, length, take, drop, get_or, set}
+use Rattle.std.specs.Prelude.{◌≡◌, List, ◌++◌, map, ℕ, ◌+◌, ◌%◌, ◌<◌, ◌≤◌, length, take, drop, get_or, set}
 use Rattle.std.proofs.Common.{ap, sym, ◌∙◌, append-nil, arith, add-one, length-drop, drop_of_length-le, get_or-drop}
 use Rattle.std.proofs.lemmas.List.{length-map}
 use Rattle.std.proofs.Math.ListN.{get_or-map}
