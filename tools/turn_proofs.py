@@ -158,9 +158,17 @@ def turn(crate, folder, path, of):
                     return 'c.' + new + ''.join('.' + f for f in fields[1:])
             b = steps.get(key(fields[0]))
             return 'c.' + (b or fields[0]) + ''.join('.' + f for f in fields[1:])
+        def done(t):
+            # clauses of a call whose facts have a name, as let put = c.append.ensures in
+            named = {places[p][2]: fs for p, fs in clause_of.items()}
+            for m in re.finditer(r"\blet (" + W + r") = c\.(" + W + r")\.ensures in\b", t):
+                fs = named.get(m[2])
+                if fs:
+                    t = re.sub(r"(?<![\w'.-])" + re.escape(m[1]) + r"\.(\d)(?!\d)", lambda k: f'{m[1]}.{fs[int(k[1])]}' if int(k[1]) < len(fs) else k[0], t)
+            return t
         heads = '|'.join(sorted((re.escape(n) for n in names), key=len, reverse=True))
-        return re.sub(r"(?<![\w'.-])(" + heads + r")(?![\w'-])((?:\.before(?![\w'-]))*)((?:\." + W + r")*)",
-                      lambda m: m[0] if m[1] != 'c' and not m[2] and not m[3] else chain(m), s)
+        return done(re.sub(r"(?<![\w'.-])(" + heads + r")(?![\w'-])((?:\.before(?![\w'-]))*)((?:\." + W + r")*)",
+                      lambda m: m[0] if m[1] != 'c' and not m[2] and not m[3] else chain(m), s))
 
     inv_names = {}
     for c, name, kind, loop, lines in invs:

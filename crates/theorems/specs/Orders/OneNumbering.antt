@@ -211,6 +211,8 @@ module _ (hs ws : List ℕ) where
       → numbered_run h w os q ≡ numbered_run h w os' q
   unfolding numbered_run
   runs-one h w [] [] q e OrdersAlike.nil = refl
+  runs-one h w [] (o' ∷ os') q e a = elim a [ ]
+  runs-one h w (o ∷ os) [] q e a = elim a [ ]
   runs-one h w (o ∷ os) (o' ∷ os') q e (OrdersAlike.cons a rest) =
       let f : ℕ → ℕ = λ n. get_or hs n 0 in
       let g : ℕ → ℕ = λ n. get_or ws n 0 in

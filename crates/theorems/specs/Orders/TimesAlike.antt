@@ -193,6 +193,8 @@ module _ (hs ws hs' ws' : List ℕ) where
       → OrdersAlike (parked q) os os' → blanked_orders (parked q) os ≡ blanked_orders (parked' q) os'
   unfolding blanked_orders
   orders-same h w [] [] q e e' OrdersAlike.nil = refl
+  orders-same h w [] (o' ∷ os') q e e' a = elim a [ ]
+  orders-same h w (o ∷ os) [] q e e' a = elim a [ ]
   orders-same h w (o ∷ os) (o' ∷ os') q e e' (OrdersAlike.cons a rest) =
       let offsets : List ℕ = q.uart.map.offsets in
       let one : OneStep q h w o o' = order-one q h w e.sound.uart.0.sixteen a in

@@ -1,5 +1,5 @@
 -- Demand 3: two alike lists of calls and rows give one list of answers with numbers for bytes. Assumes nothing.
-use Rattle.std.specs.Prelude.{◌≡◌, refl}
+use Rattle.std.specs.Prelude.{◌≡◌, refl, ℕ, ◌+◌, length}
 use Rattle.std.proofs.Math.Path.{sym, ap, subst₂}
 use Rattle.std.proofs.Common.{ap₂, subst, ◌∙◌, add-zero, suc-ne-zero}
 use Prim.Native.Nat.{ℕ, ◌+◌}
@@ -10,9 +10,9 @@ use Rattle.theorems.specs.TwoRuns.Renamed.{map_uart, map_receiving}
 use Rattle.model.specs.SetUp.{map_of, new}
 use Rattle.model.specs.Limits.{All}
 use Rattle.model.specs.Replies.{word, byte, no_value, refused, Take}
-use Rattle.model.specs.Call.{Request, Asked, Ask, Reply, reads, writes, does, takes, left, pends, rows, Answer}
+use Rattle.model.specs.Call.{host_of, Request, Asked, Ask, Reply, reads, writes, does, takes, left, pends, rows, Answer}
 use Rattle.model.specs.Run.{run}
-use Rattle.theorems.specs.TwoRuns.Alike.{Each, Alike, AskedAlike, fifo_offset, given_by, host_given, fifo_given, host_byte, write_byte}
+use Rattle.theorems.specs.TwoRuns.Alike.{Each, Alike, AskedAlike, fifo_offset, fifo_bytes_of, given_by, host_given, fifo_given, host_byte, write_byte}
 use Rattle.theorems.specs.TwoRuns.Renamed.{itself, forget, map_read_of}
 use Rattle.theorems.specs.TwoRuns.Renamed.{map_take, map_reply, map_answer, with_bytes_of}
 use Rattle.theorems.specs.TwoRuns.Agree.{Agree, Agreeing}
@@ -238,14 +238,16 @@ module _ (fifo : ℕ) (cs ds : List Ask) where
       (record { reply = y.reply; report = q } ∷ ys))
       (sym (ap (λ k. k.report) e₀)) (sym (ap (λ k. k.report) f₀))
       (Agreeing.call (agree fifo (host_byte cs) (host_byte ds) (write_byte fifo cs) (write_byte fifo ds) s b x.reply y.reply
-      (ap (λ k. k.reply) e₀) (ap (λ k. k.reply) f₀)) (agreeing ss bs xs ys e₁ f₁))
+      (ap (λ k. k.reply) e₀) (ap (λ k. k.reply) f₀))
+      (agreeing {h = h + length (host_of c)} {w = w + length (fifo_bytes_of fifo c)} ss bs xs ys e₁ f₁))
   agreeing {h} {w} (Each.cons {l = rest} (AskedShape.row {now = now} {bs = row-bytes} {x = made} {r = r}) ss) (EachBelow.cons b bs)
       (x ∷ xs) (y ∷ ys) e f =
       let (e₀, e₁) = firsts e in
       let (f₀, f₁) = firsts f in
       subst₂ (λ p q. Agreeing fifo cs ds h w (Asked.row now row-bytes ∷ rest) (p ∷ xs) (q ∷ ys))
       (row-known x made r e₀) (row-known y made r f₀)
-      (Agreeing.row (subst (λ (k : ℕ). Agreeing fifo cs ds k (w + length row-bytes) rest xs ys) (add-zero h) (agreeing ss bs xs ys e₁ f₁)))
+      (Agreeing.row (subst (λ (k : ℕ). Agreeing fifo cs ds k (w + length row-bytes) rest xs ys) (add-zero h)
+      (agreeing {h = h + 0} {w = w + length row-bytes} ss bs xs ys e₁ f₁)))
 
 -- the answers of both runs, by the one list
 pub lists_agree : (offsets ws : List ℕ) (cs ds : List Ask) → OneList offsets ws cs ds
