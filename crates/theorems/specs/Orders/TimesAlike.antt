@@ -3,13 +3,13 @@
 use Rattle.std.specs.Prelude.{◌≡◌, Bool, true, false, get_or}
 use Rattle.std.proofs.Math.Path.{refl, sym, ap, ap₂, subst}
 use Rattle.std.proofs.Common.{◌∙◌, arith}
-use Prim.Native.Nat.{ℕ, ◌+◌, ◌<◌, ◌≤◌}
+use Prim.Native.Nat.{ℕ, ◌+◌, ◌<◌}
 use Rattle.std.proofs.Math.Option.{Option, none, some, none-ne-some, some-injective}
 use mathlib.Core.List.{List, [], ◌∷◌, map, map-map}
 use Rattle.std.proofs.Math.ListN.{length}
 use Rattle.std.proofs.lemmas.List.{length-map}
-use Rattle.model.specs.State.{Sent, OnTheLine, Uart, line_of, line_bytes}
-use Rattle.model.specs.Limits.{Chain, All, nil, cons, Fits, flight_dates, Within}
+use Rattle.model.specs.State.{Sent, OnTheLine, Uart, line_bytes}
+use Rattle.model.specs.Limits.{All, nil, cons, flight_dates, Within}
 use Rattle.model.specs.Widths.{Word32, Bytes, Widths, Given, AskedGiven}
 use Rattle.form.specs.Cells.{bytes_of}
 use Rattle.form.specs.Form.{form}
@@ -193,6 +193,8 @@ module _ (hs ws hs' ws' : List ℕ) where
       → OrdersAlike (parked q) os os' → blanked_orders (parked q) os ≡ blanked_orders (parked' q) os'
   unfolding blanked_orders
   orders-same h w [] [] q e e' OrdersAlike.nil = refl
+  orders-same h w [] (o' ∷ os') q e e' a = elim a [ ]
+  orders-same h w (o ∷ os) [] q e e' a = elim a [ ]
   orders-same h w (o ∷ os) (o' ∷ os') q e e' (OrdersAlike.cons a rest) =
       let offsets : List ℕ = q.uart.map.offsets in
       let one : OneStep q h w o o' = order-one q h w e.sound.uart.0.sixteen a in

@@ -246,6 +246,7 @@ module _ (fifo : ℕ) (others : List ℕ) where
       → number h w (map (placed_asked (fifo ∷ others)) cs) ≡ number h w (map (placed_asked (fifo ∷ others)) bs)
   unfolding number
   asks-alike h w Each.nil = refl
-  asks-alike h w (Each.cons {m = bs} e es) =
+  asks-alike h w (Each.cons {a = a} {b = b} {l = l} {m = bs} e es) =
       ap₂ (λ x t. x ∷ t) (asked-alike h w e)
-      (asks-alike _ _ es ∙ ap₂ (λ k l. number (h + k) (w + l) (map (placed_asked (fifo ∷ others)) bs)) (given-alike e).0 (given-alike e).1)
+      (asks-alike (h + length (host_in (placed_asked (fifo ∷ others) a))) (w + length (written_in (placed_asked (fifo ∷ others) a))) es
+      ∙ ap₂ (λ k l. number (h + k) (w + l) (map (placed_asked (fifo ∷ others)) bs)) (given-alike e).0 (given-alike e).1)

@@ -1,6 +1,6 @@
 -- What each answer holds: a read of FIFO a byte or, from an empty FIFO, 0 with UartEmptyRead; no other call, and no row, a byte of
 -- the host. Assumes nothing.
-use Rattle.std.specs.Prelude.{◌≡◌, ℕ, Bool, eqb}
+use Rattle.std.specs.Prelude.{◌≡◌, ℕ, ◌+◌, Bool, eqb, length}
 use Rattle.std.proofs.Math.Path.{refl, subst}
 use Rattle.std.proofs.Common.{sym, eqb-true}
 use Rattle.std.proofs.Math.Bool.{true, false, decide}
@@ -22,7 +22,7 @@ use Rattle.model.specs.Ends.Passes.{apart}
 use Rattle.model.specs.Laws.Placed.{changed_dated, changed_undated, changed, changed_asked, placed, placed_asked, step_placed, step_by}
 use Rattle.model.specs.Laws.Placed.{run_placed}
 use Rattle.theorems.specs.TwoRuns.Alike.{Each}
-use Rattle.theorems.specs.TwoRuns.Numbering.{other_place, fifo-place, numbered, numbered_asked, number}
+use Rattle.theorems.specs.TwoRuns.Numbering.{other_place, fifo-place, numbered, numbered_asked, number, host_in, written_in}
 use Rattle.theorems.specs.TwoRuns.Numbered.{NotFifo, Shape, AskedShape}
 use Rattle.model.specs.declared.Refusal.{Refusal}
 use Rattle.model.specs.declared.Report.{Report}
@@ -146,4 +146,6 @@ module _ (fifo : ℕ) (others : List ℕ) where
       → Each (AskedShape fifo) cs (run_placed (number h w (map (placed_asked (fifo ∷ others)) cs)) u)
   unfolding run_by number
   run-shape h w [] u = Each.nil
-  run-shape h w (a ∷ cs) u = Each.cons (asked-shape h w a u) (run-shape _ _ cs _)
+  run-shape h w (a ∷ cs) u =
+      Each.cons (asked-shape h w a u)
+      (run-shape (h + length (host_in (placed_asked (fifo ∷ others) a))) (w + length (written_in (placed_asked (fifo ∷ others) a))) cs _)

@@ -238,14 +238,15 @@ module _ (fifo : ℕ) (cs ds : List Ask) where
       (record { reply = y.reply; report = q } ∷ ys))
       (sym (ap (λ k. k.report) e₀)) (sym (ap (λ k. k.report) f₀))
       (Agreeing.call (agree fifo (host_byte cs) (host_byte ds) (write_byte fifo cs) (write_byte fifo ds) s b x.reply y.reply
-      (ap (λ k. k.reply) e₀) (ap (λ k. k.reply) f₀)) (agreeing ss bs xs ys e₁ f₁))
+      (ap (λ k. k.reply) e₀) (ap (λ k. k.reply) f₀)) (agreeing {h = h + length (host_given (Asked.call c))} {w = w + length (fifo_given fifo (Asked.call c))} ss bs xs ys e₁ f₁))
   agreeing {h} {w} (Each.cons {l = rest} (AskedShape.row {now = now} {bs = row-bytes} {x = made} {r = r}) ss) (EachBelow.cons b bs)
       (x ∷ xs) (y ∷ ys) e f =
       let (e₀, e₁) = firsts e in
       let (f₀, f₁) = firsts f in
       subst₂ (λ p q. Agreeing fifo cs ds h w (Asked.row now row-bytes ∷ rest) (p ∷ xs) (q ∷ ys))
       (row-known x made r e₀) (row-known y made r f₀)
-      (Agreeing.row (subst (λ (k : ℕ). Agreeing fifo cs ds k (w + length row-bytes) rest xs ys) (add-zero h) (agreeing ss bs xs ys e₁ f₁)))
+      (Agreeing.row (subst (λ (k : ℕ). Agreeing fifo cs ds k (w + length row-bytes) rest xs ys) (add-zero h)
+      (agreeing {h = h + 0} {w = w + length row-bytes} ss bs xs ys e₁ f₁)))
 
 -- the answers of both runs, by the one list
 pub lists_agree : (offsets ws : List ℕ) (cs ds : List Ask) → OneList offsets ws cs ds
