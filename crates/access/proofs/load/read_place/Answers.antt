@@ -4,6 +4,7 @@ use mathlib.Core.Path.{◌≡◌, refl, ap}
 use mathlib.Core.Bool.{false, decide}
 use mathlib.Core.List.{[], ◌∷◌}
 use Prim.Native.Nat.{◌≤◌}
+use borrow.Enum.Refused.{opened}
 use Rattle.model.specs.Map.{is_fifo}
 use Rattle.model.specs.Laws.Choose.{choose-ind}
 use Rattle.queue.specs.Cursors.{Held}
@@ -42,5 +43,5 @@ returns-in_default c = λ a e k.
     c.receive_clock_notices-notices.ensures c.forget_mistimed-seen.ensures
     (place-keys (λ p. is_fifo (register_at p) ≡ false) 1 (2 ∷ 3 ∷ 4 ∷ 5 ∷ 6 ∷ 7 ∷ 8 ∷ 9 ∷ 10 ∷ 11 ∷ 12 ∷ 13 ∷ 14 ∷ 15 ∷ 16 ∷ []) place
     (refl, (refl, (refl, (refl, (refl, (refl, (refl, (refl, (refl, (refl, (refl, (refl, (refl, (refl, (refl, (refl, tt))))))))))))))))
-    c.in_default.in_default-own.keys2)
+    (opened c.in_default.in_default-own.keys2))
     c.word_at-reply.ensures

@@ -1,6 +1,7 @@
 -- `load::word_at` meets its contract: the words that are made up, and Storage's. Assumes nothing.
 use mathlib.Core.Path.{◌≡◌, refl, ◌∙◌}
 use mathlib.Core.List.{[], ◌∷◌}
+use borrow.Enum.Refused.{opened}
 use Rattle.model.specs.Replies.{as_read}
 use Rattle.registers.specs.Places.{register_at}
 use Rattle.registers.specs.Storage.{held, held_at, loaded}
@@ -35,4 +36,4 @@ returns-in_default c =
     c.read.ensures
     ∙ place-keys (λ p. as_read (loaded o.core.control.words (held_at p)) ≡ as_read (word_at o.core (register_at p))) 0
     (3 ∷ 4 ∷ 5 ∷ 8 ∷ 9 ∷ 10 ∷ 11 ∷ 12 ∷ 13 ∷ 14 ∷ 16 ∷ []) o.place
-    (refl, (refl, (refl, (refl, (refl, (refl, (refl, (refl, (refl, (refl, (refl, (refl, tt)))))))))))) c.in_default.in_default-own.keys6
+    (refl, (refl, (refl, (refl, (refl, (refl, (refl, (refl, (refl, (refl, (refl, (refl, tt)))))))))))) (opened c.in_default.in_default-own.keys6)

@@ -2,6 +2,7 @@
 use mathlib.Core.Path.{◌≡◌, refl}
 use mathlib.Core.Bool.{false, decide}
 use mathlib.Core.List.{[], ◌∷◌}
+use borrow.Enum.Refused.{opened}
 use Rattle.model.specs.Registers.{write_register}
 use Rattle.registers.specs.Places.{register_at}
 use Rattle.registers.specs.Storage.{held}
@@ -27,5 +28,5 @@ returns-in_default c = λ a k.
     other-puts _ a k o.value (register_at o.place)
     (place-keys (λ p. does_more (register_at p) ≡ false) 0 (1 ∷ 2 ∷ 3 ∷ 5 ∷ 6 ∷ 7 ∷ 9 ∷ 10 ∷ 11 ∷ 12 ∷ 13 ∷ 14 ∷ 15 ∷ 16 ∷ []) o.place
     (refl, (refl, (refl, (refl, (refl, (refl, (refl, (refl, (refl, (refl, (refl, (refl, (refl, (refl, (refl, tt)))))))))))))))
-    c.in_default.in_default-own.keys3)
+    (opened c.in_default.in_default-own.keys3))
     c.store-in_default.ensures

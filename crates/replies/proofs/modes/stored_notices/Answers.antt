@@ -3,7 +3,7 @@ use mathlib.Core.Path.{◌≡◌, refl, sym, ap, ◌∙◌}
 use mathlib.Core.Bool.{not, decide}
 use mathlib.Core.List.{[], ◌∷◌}
 use lib.Dec.{eqb}
-use Prim.Native.Nat.{ℕ}
+use borrow.Enum.Refused.{opened}
 use Rattle.model.specs.Numbers.{choose}
 use Rattle.model.specs.Registers.{note_if, stored_notes}
 use Rattle.model.specs.declared.Feature.{Feature}
@@ -13,9 +13,6 @@ use Rattle.registers.specs.Places.{register_at}
 use Rattle.registers.specs.Storage.{held, held_at}
 use Rattle.replies.specs.Modes.{notes_at}
 use Rattle.registers.proofs.Tags.{place-keys}
-use Rattle.registers.specs.declared.places.Place.{Place}
-use Rattle.registers.specs.declared.places.Place.TheVariants.{Fifo, IntRaw, IntSt, IntEna, IntClr, Clkdiv, Status, FsmStatus, Conf0}
-use Rattle.registers.specs.declared.places.Place.TheVariants.{Conf1, ClkConf, IdleConf, Rs485Conf, AtCmdChar, MemConf, MemRxStatus, Unknown}
 use Rattle.replies.proofs.modes.stored_notices.Goals as goal
 
 pub returns-in-Conf0 : goal.returns-in-Conf0
@@ -46,26 +43,10 @@ returns-in-MemConf c =
     ∙ ap (λ p. noted (notes_at (held_at p) c.args.value))
     (sym c.in-MemConf.is)
 
--- every other place
-others : (value : ℕ) (p : Place) → (p ≡ Conf0 → ⊥) → (p ≡ Conf1 → ⊥) → (p ≡ Rs485Conf → ⊥) → (p ≡ MemConf → ⊥) → noted [] ≡ noted (notes_at (held_at p) value)
-unfolding notes_at held register_at stored_notes note_if choose decide
-others value Fifo _ _ _ _ = refl
-others value IntRaw _ _ _ _ = refl
-others value IntSt _ _ _ _ = refl
-others value IntEna _ _ _ _ = refl
-others value IntClr _ _ _ _ = refl
-others value Clkdiv _ _ _ _ = refl
-others value Status _ _ _ _ = refl
-others value FsmStatus _ _ _ _ = refl
-others value Conf0 h _ _ _ = absurd (h refl)
-others value Conf1 _ h _ _ = absurd (h refl)
-others value ClkConf _ _ _ _ = refl
-others value IdleConf _ _ _ _ = refl
-others value Rs485Conf _ _ h _ = absurd (h refl)
-others value AtCmdChar _ _ _ _ = refl
-others value MemConf _ _ _ h = absurd (h refl)
-others value MemRxStatus _ _ _ _ = refl
-others value Unknown _ _ _ _ = refl
-
 pub returns-in_default : goal.returns-in_default
-returns-in_default c = c.none.ensures ∙ others c.args.value c.args.place c.in_default.not-Conf0 c.in_default.not-Conf1 c.in_default.not-Rs485Conf c.in_default.not-MemConf
+unfolding notes_at held register_at stored_notes note_if choose decide
+returns-in_default c =
+    c.none.ensures
+    ∙ place-keys (λ p. noted [] ≡ noted (notes_at (held_at p) c.args.value))
+    0 (1 ∷ 2 ∷ 3 ∷ 4 ∷ 5 ∷ 6 ∷ 7 ∷ 10 ∷ 11 ∷ 13 ∷ 15 ∷ 16 ∷ []) c.args.place
+    (refl, (refl, (refl, (refl, (refl, (refl, (refl, (refl, (refl, (refl, (refl, (refl, (refl, tt))))))))))))) (opened c.in_default.in_default-own.keys5)
