@@ -1,5 +1,5 @@
 -- The answer lines of two rows, computed. Assumes nothing.
-use Rattle.std.specs.Prelude.{◌≡◌, refl, false, List, [], ◌∷◌}
+use Rattle.std.specs.Prelude.{◌≡◌, refl, false, [], ◌∷◌}
 use Rattle.text.specs.Ascii.{ascii}
 use Rattle.text.specs.Digits.{letter}
 use Rattle.text.specs.Decimal.{decimal_up_to}
