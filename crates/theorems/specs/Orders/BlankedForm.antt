@@ -1,9 +1,9 @@
 -- The form of a blanked state is the form of the state with the bytes of three parts at 0: sent, host and received. Assumes nothing.
-use Rattle.std.specs.Prelude.{◌≡◌, refl, ℕ, List, [], ◌∷◌, ◌++◌, map, get_or}
+use Rattle.std.specs.Prelude.{◌≡◌, refl, ℕ, List, [], ◌∷◌, map, get_or}
 use Rattle.std.proofs.Common.{ap, ◌∙◌}
 use Rattle.std.proofs.lemmas.List.{map-append}
 use Rattle.model.specs.State.{Uart, line_bytes}
-use Rattle.form.specs.Cells.{bytes_of, field_bytes}
+use Rattle.form.specs.Cells.{bytes_of}
 use Rattle.form.specs.Form.{form}
 use Rattle.form.specs.Laws.Parts.{laid_bytes}
 use Rattle.form.specs.Laws.Back.{seven, form-bytes}

@@ -1,5 +1,5 @@
 -- Each number in the answer to an order is below the count of bytes given by then, by naturality as for calls. Assumes nothing.
-use Rattle.std.specs.Prelude.{◌≡◌, refl, ℕ, zero, suc, ◌+◌, ◌<◌, ◌≤◌, List, [], ◌∷◌, ◌++◌, map, length}
+use Rattle.std.specs.Prelude.{◌≡◌, refl, ℕ, ◌+◌, ◌≤◌, List, [], ◌∷◌, ◌++◌, map, length}
 use Rattle.std.proofs.Common.{sym, ap₂, ◌∙◌, suc-ne-zero, arith, map-id, length-append}
 use Rattle.std.proofs.Math.Path.{ap}
 use Rattle.std.proofs.Math.Option.{Option, none, some}
@@ -11,10 +11,9 @@ use Rattle.model.specs.Laws.Placed.{placed_asked}
 use Rattle.form.specs.Cells.{Cell}
 use Rattle.form.specs.Load.{Loading, loaded, refused, load}
 use Rattle.form.specs.Orders.{Order, Answered, LoadOf, CallersOrder, OrderStep}
-use Rattle.theorems.specs.TwoRuns.Alike.{host_given, fifo_given}
 use Rattle.theorems.specs.TwoRuns.Renamed.{map_sent, map_receiving, map_uart, itself, forget, map_take}
 use Rattle.theorems.specs.TwoRuns.Numbered.{Below}
-use Rattle.theorems.specs.TwoRuns.Numbering.{up_from, host-of-placed, written-of-placed}
+use Rattle.theorems.specs.TwoRuns.Numbering.{host-of-placed, written-of-placed}
 use Rattle.theorems.specs.TwoRuns.Bounds.{Keeps, shifted, shifted-keeps, kept-below, up_from-fixed, asked-fixed, below-fixed}
 use Rattle.theorems.specs.Orders.Renamed.{map_cell, map_loading, LoadFrom, Saves, placed_step, map_from, map_saves, map_order, map_answered}
 use Rattle.theorems.specs.Orders.Renamed.{map_order_step}

@@ -8,7 +8,6 @@ use mathlib.Core.List.{List, [], ◌∷◌, ◌++◌, map, flat_map, map-append,
 use Rattle.std.proofs.lemmas.List.{length-map}
 use Rattle.model.specs.Numbers.{choose}
 use Rattle.model.specs.State.{Sent, OnTheLine, Uart, line_bytes}
-use Rattle.model.specs.Limits.{flight_dates}
 use Rattle.model.specs.Replies.{Take}
 use Rattle.model.specs.Calls.{filled, not_taken, written}
 use Rattle.model.specs.Laws.Choose.{choose-nat}
@@ -16,7 +15,7 @@ use Rattle.form.specs.Cells.{Cell, Field, field_bytes, numbers}
 use Rattle.form.specs.Form.{frame_mark, frame_source, short, head_length, map_fields, word_fields, date_and_mark_fields, run_fields}
 use Rattle.form.specs.Form.{pairs_from, parts_of, laid_out, form}
 use Rattle.form.specs.Load.{Loading, loaded, refused, saved}
-use Rattle.form.specs.Orders.{Order, Answered, WithSaves, OrderStep, kept_by, loading, order_by}
+use Rattle.form.specs.Orders.{Order, Answered, kept_by, loading, order_by}
 use Rattle.form.specs.Laws.Parts.{pairs-mapped, joined-mapped}
 use Rattle.form.specs.Laws.Saves.{saved-is}
 use Rattle.theorems.specs.TwoRuns.Renamed.{map_sent, map_receiving, map_uart, map_take}

@@ -2,22 +2,19 @@
 -- Assumes nothing.
 use Rattle.std.specs.Prelude.{◌≡◌, get_or}
 use Rattle.std.proofs.Math.Path.{refl, sym, ap, ap₂}
-use Rattle.std.proofs.Common.{subst, ◌∙◌, suc-ne-zero, arith, length-append}
-use Prim.Native.Nat.{ℕ, zero, suc, ◌+◌, ◌≤◌}
+use Rattle.std.proofs.Common.{◌∙◌, suc-ne-zero}
+use Prim.Native.Nat.{ℕ, ◌+◌}
 use Rattle.std.proofs.Math.Option.{Option, none, some}
 use mathlib.Core.List.{List, [], ◌∷◌, ◌++◌, map, map-id, append_assoc}
 use Rattle.std.proofs.Math.ListN.{length, drop}
-use Rattle.std.proofs.lemmas.List.{length-map}
 use Rattle.model.specs.State.{Sent, OnTheLine, Uart, line_bytes}
 use Rattle.model.specs.Calls.{written}
 use Rattle.model.specs.Laws.Placed.{placed_asked}
 use Rattle.form.specs.Load.{Loading, loaded, refused, load}
 use Rattle.form.specs.Orders.{Order, LoadOf, CallersOrder}
 use Rattle.theorems.specs.TwoRuns.Renamed.{map_sent, map_receiving, map_uart, itself, forget}
-use Rattle.theorems.specs.TwoRuns.NaturalRuns.{map_asked}
 use Rattle.theorems.specs.TwoRuns.Numbering.{up_from, numbered_asked, head-back, up_from-back, past, asked-back}
 use Rattle.theorems.specs.TwoRuns.Numbering.{host-of-placed, written-of-placed}
-use Rattle.theorems.specs.TwoRuns.Bounds.{Keeps}
 use Rattle.theorems.specs.Orders.Renamed.{map_loading, LoadFrom, PlacedOrder, map_from, map_order}
 use Rattle.theorems.specs.Orders.Alike.{host_bytes, loaded_host, loaded_written, order_host, order_written}
 

@@ -1,8 +1,8 @@
 -- Alike lists have one run with numbers. Assumes nothing.
-use Rattle.std.specs.Prelude.{◌≡◌, false, drop}
+use Rattle.std.specs.Prelude.{◌≡◌, false}
 use Rattle.std.proofs.Math.Path.{refl, sym, ap, ap₂, subst}
 use Rattle.std.proofs.Common.{◌∙◌, suc-ne-zero, true≢false, length-append}
-use Prim.Native.Nat.{ℕ, zero, suc, ◌+◌, ◌%◌}
+use Prim.Native.Nat.{ℕ, ◌+◌, ◌%◌}
 use Rattle.std.proofs.Math.Bool.{decide}
 use Rattle.std.proofs.Math.Option.{Option, none, some}
 use mathlib.Core.List.{List, [], ◌∷◌, ◌++◌, map, flat_map}
@@ -11,23 +11,22 @@ use Rattle.model.specs.Laws.Choose.{choose-false}
 use Rattle.model.specs.State.{Sent, OnTheLine, Uart, line_bytes}
 use Rattle.model.specs.Map.{Register, is_fifo, register_of}
 use Rattle.model.specs.Registers.{write_register}
-use Rattle.model.specs.Calls.{Plan, outcome, written, write_placed}
-use Rattle.model.specs.Call.{Dated, Call, date_of, Request, Asked, Ask, given, writes}
+use Rattle.model.specs.Calls.{outcome, written, write_placed}
+use Rattle.model.specs.Call.{Dated, Call, date_of, Asked, Ask, given, writes}
 use Rattle.model.specs.Run.{Step, stepped, replying, plan_by, asked_by}
-use Rattle.model.specs.Limits.{All, nil, cons}
 use Rattle.model.specs.Unused.{takes_word}
-use Rattle.model.specs.Laws.Placed.{Put, Placed, changed, changed_dated, changed_asked, put_at, placed, placed_asked, putting, step_by}
+use Rattle.model.specs.Laws.Placed.{Put, changed, changed_dated, changed_asked, put_at, placed, placed_asked, putting, step_by}
 use Rattle.model.specs.Laws.Placed.{step_placed}
-use Rattle.form.specs.Load.{Loading, loaded, refused, load}
-use Rattle.form.specs.Orders.{Order, Answered, OrderStep, order_by, LoadOf, CallersOrder, Parked, order_step}
+use Rattle.form.specs.Load.{Loading, loaded}
+use Rattle.form.specs.Orders.{Order, Answered, order_by, CallersOrder}
 use Rattle.theorems.specs.TwoRuns.Alike.{Alike, AskedAlike, fifo_offset, given_by, host_given, fifo_given}
 use Rattle.theorems.specs.TwoRuns.Renamed.{map_sent, map_receiving, map_uart, forget}
 use Rattle.theorems.specs.TwoRuns.NaturalCalls.{map_put}
-use Rattle.theorems.specs.TwoRuns.Numbering.{up_from, numbered, numbered_asked, forget-alike, asked-alike, given-alike}
+use Rattle.theorems.specs.TwoRuns.Numbering.{numbered, numbered_asked, forget-alike, asked-alike, given-alike}
 use Rattle.theorems.specs.TwoRuns.Numbering.{host-of-placed, written-of-placed}
 use Rattle.theorems.specs.TwoRuns.InUse.{AlikeInUse, not_first}
 use Rattle.theorems.specs.Orders.Renamed.{LoadFrom, Saves, placed_step, map_saves}
-use Rattle.theorems.specs.Orders.Alike.{SameButBytes, LoadsAlike, both_refused, both_loaded, OrderAlike, OrdersAlike, host_bytes}
+use Rattle.theorems.specs.Orders.Alike.{LoadsAlike, both_refused, both_loaded, OrderAlike, OrdersAlike, host_bytes}
 use Rattle.theorems.specs.Orders.Alike.{loaded_host, loaded_written, order_host, order_written}
 use Rattle.theorems.specs.Orders.Numbering.{numbered_flight, numbered_uart, numbered_loading, numbered_order}
 use Rattle.theorems.specs.Orders.OneRun.{numbered_run, Here, numbered_next, here-next, parked-next}

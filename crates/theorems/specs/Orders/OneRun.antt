@@ -3,10 +3,9 @@ use Rattle.std.specs.Prelude.{◌≡◌, length, get_or, drop}
 use Rattle.std.proofs.Math.Path.{refl, sym, ap, ap₂, subst}
 use Rattle.std.proofs.Common.{◌∙◌}
 use Prim.Native.Nat.{ℕ, ◌+◌}
-use mathlib.Core.List.{List, [], ◌∷◌, ◌++◌, map, flat_map, map-id}
+use mathlib.Core.List.{List, [], ◌∷◌, ◌++◌, map, flat_map}
 use Rattle.model.specs.State.{Uart}
-use Rattle.model.specs.Limits.{All, nil, cons}
-use Rattle.model.specs.Replies.{Take}
+use Rattle.model.specs.Limits.{All, cons}
 use Rattle.model.specs.Laws.Lists.{all_head}
 use Rattle.form.specs.Cells.{Cell}
 use Rattle.form.specs.Orders.{Answered, OrderStep, CallersOrder, order_step, run_orders}
@@ -14,11 +13,11 @@ use Rattle.theorems.specs.TwoRuns.Renamed.{map_uart, itself, forget, map_take, m
 use Rattle.theorems.specs.TwoRuns.Numbered.{without_rest}
 use Rattle.theorems.specs.TwoRuns.Numbering.{past}
 use Rattle.theorems.specs.TwoRuns.Theorem.{bare-mapped}
-use Rattle.theorems.specs.Orders.Renamed.{map_cell, PlacedOrder, Saves, placed_step, map_saves, map_order, map_answered, map_order_step}
+use Rattle.theorems.specs.Orders.Renamed.{map_cell, Saves, placed_step, map_saves, map_answered, map_order_step}
 use Rattle.theorems.specs.Orders.Natural.{order-nat}
 use Rattle.theorems.specs.Orders.Alike.{order_host, order_written, host_of_orders, written_of_orders}
 use Rattle.theorems.specs.Orders.Numbering.{placed_order, numbered_order, uart-itself, order-back}
-use Rattle.theorems.specs.Orders.Stands.{OrderFits, SoundSaves, parked_as, step_as, order-as, order-sound}
+use Rattle.theorems.specs.Orders.Stands.{OrderFits, SoundSaves, parked_as, order-as, order-sound}
 
 -- ---- without the rest of a lent buffer
 

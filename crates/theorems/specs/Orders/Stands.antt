@@ -1,30 +1,24 @@
 -- A caller's list is carried out as one over states: the bytes of a save load as the state that was saved. Assumes nothing.
-use Rattle.std.specs.Prelude.{◌≡◌, refl, ℕ, zero, suc, List, [], ◌∷◌, ◌++◌, map, get_or}
-use Rattle.std.proofs.Common.{sym, ap, ap₂, subst, ◌∙◌}
+use Rattle.std.specs.Prelude.{◌≡◌, refl, ℕ, zero, suc, List, [], ◌∷◌, map, get_or}
+use Rattle.std.proofs.Common.{sym, ap, subst, ◌∙◌}
 use Rattle.std.proofs.lemmas.List.{map-append}
-use Rattle.model.specs.Numbers.{choose}
 use Rattle.model.specs.State.{Uart}
-use Rattle.model.specs.Call.{Ask}
-use Rattle.model.specs.Run.{Step, asked, asked_by}
-use Rattle.model.specs.Limits.{All, nil, cons, Within}
+use Rattle.model.specs.Limits.{All, cons, Within}
 use Rattle.model.specs.Laws.Lists.{all_snoc}
-use Rattle.model.specs.Laws.Placed.{placed_asked, step_placed}
 use Rattle.model.specs.Keeps.MapKept.{asked-placed}
 use Rattle.model.specs.Keeps.Runs.{asked-within}
 use Rattle.model.specs.Widths.{Bytes, Widths, AskedGiven}
 use Rattle.theorems.specs.Keeps.Widths.{asked-widths}
 use Rattle.form.specs.Cells.{bytes_of}
 use Rattle.form.specs.Form.{form}
-use Rattle.form.specs.Load.{Loading, loaded, refused, load, lies, saved}
-use Rattle.form.specs.Orders.{Order, Answered, WithSaves, OrderStep, kept_by, loading, order_by, LoadOf, CallersOrder, Parked}
+use Rattle.form.specs.Load.{Loading, loaded, refused, load, saved}
+use Rattle.form.specs.Orders.{Order, Answered, OrderStep, kept_by, loading, order_by, LoadOf, CallersOrder, Parked}
 use Rattle.form.specs.Orders.{find_bytes, order_step}
 use Rattle.form.specs.Examples.{no_bytes}
-use Rattle.form.specs.Parked.{FormOf, saved-loads, loaded-is-form}
-use Rattle.model.specs.Ends.Passes.{apart}
+use Rattle.form.specs.Parked.{saved-loads, loaded-is-form}
 use Rattle.theorems.specs.Orders.Renamed.{nth_save, find_state, Saves, placed_step}
 use Rattle.theorems.specs.Orders.Numbering.{placed_order}
 use Rattle.model.specs.declared.Taken.{Taken}
-use Rattle.form.specs.declared.NotLoaded.TheVariants.{Layout}
 
 -- ---- what a caller gives fits its types
 

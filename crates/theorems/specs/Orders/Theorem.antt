@@ -3,30 +3,28 @@ use Rattle.std.specs.Prelude.{◌≡◌, refl, false, get_or}
 use Rattle.std.proofs.Math.Path.{sym, subst₂}
 use Rattle.std.proofs.Common.{ap, ap₂, subst, ◌∙◌, suc-ne-zero}
 use Prim.Native.Nat.{ℕ, ◌+◌}
-use Rattle.std.proofs.Math.Option.{Option, none, some}
+use Rattle.std.proofs.Math.Option.{Option}
 use mathlib.Core.List.{List, [], ◌∷◌, map}
 use Rattle.std.proofs.Math.ListN.{length}
 use Rattle.std.proofs.lemmas.List.{length-map}
-use Rattle.model.specs.State.{Uart}
 use Rattle.model.specs.SetUp.{new}
 use Rattle.model.specs.Tests.{repeated}
 use Rattle.model.specs.Limits.{All}
 use Rattle.model.specs.Widths.{Word32}
 use Rattle.model.specs.Replies.{Take}
 use Rattle.model.specs.Call.{Asked, Ask, Answer}
-use Rattle.model.specs.Laws.Placed.{placed_asked}
 use Rattle.model.specs.Keeps.Runs.{new-within}
 use Rattle.model.specs.Ends.Passes.{apart}
 use Rattle.form.specs.Cells.{Cell}
 use Rattle.form.specs.Load.{Loading, loaded, refused}
-use Rattle.form.specs.Orders.{Order, Answered, OrderStep, loading, order_by, LoadOf, CallersOrder, Parked, order_step, run_orders}
+use Rattle.form.specs.Orders.{Order, Answered, loading, order_by, LoadOf, CallersOrder, Parked, order_step, run_orders}
 use Rattle.theorems.specs.Keeps.Widths.{new-widths}
 use Rattle.theorems.specs.TwoRuns.Alike.{fifo_offset}
-use Rattle.theorems.specs.TwoRuns.Renamed.{map_uart, itself, map_take, map_reply, map_answer}
-use Rattle.theorems.specs.TwoRuns.Numbered.{Bare, bare_reply, without_rest, AskedShape}
+use Rattle.theorems.specs.TwoRuns.Renamed.{itself, map_take, map_reply, map_answer}
+use Rattle.theorems.specs.TwoRuns.Numbered.{Bare, without_rest, AskedShape}
 use Rattle.theorems.specs.TwoRuns.Shapes.{asked-shape}
 use Rattle.theorems.specs.TwoRuns.Theorem.{agree, row-known, firsts, new-nat}
-use Rattle.theorems.specs.Orders.Renamed.{map_cell, find_state, Saves, placed_step, map_saves, map_answered}
+use Rattle.theorems.specs.Orders.Renamed.{Saves, placed_step, map_saves, map_answered}
 use Rattle.theorems.specs.Orders.Alike.{OrdersAlike, order_host, order_written, host_of_orders, written_of_orders, host_number}
 use Rattle.theorems.specs.Orders.Alike.{written_number}
 use Rattle.theorems.specs.Orders.Agree.{OrderAgree, OrdersAgree}

@@ -3,13 +3,13 @@
 use Rattle.std.specs.Prelude.{◌≡◌, Bool, true, false, get_or}
 use Rattle.std.proofs.Math.Path.{refl, sym, ap, ap₂, subst}
 use Rattle.std.proofs.Common.{◌∙◌, arith}
-use Prim.Native.Nat.{ℕ, ◌+◌, ◌<◌, ◌≤◌}
+use Prim.Native.Nat.{ℕ, ◌+◌, ◌<◌}
 use Rattle.std.proofs.Math.Option.{Option, none, some, none-ne-some, some-injective}
 use mathlib.Core.List.{List, [], ◌∷◌, map, map-map}
 use Rattle.std.proofs.Math.ListN.{length}
 use Rattle.std.proofs.lemmas.List.{length-map}
-use Rattle.model.specs.State.{Sent, OnTheLine, Uart, line_of, line_bytes}
-use Rattle.model.specs.Limits.{Chain, All, nil, cons, Fits, flight_dates, Within}
+use Rattle.model.specs.State.{Sent, OnTheLine, Uart, line_bytes}
+use Rattle.model.specs.Limits.{All, nil, cons, flight_dates, Within}
 use Rattle.model.specs.Widths.{Word32, Bytes, Widths, Given, AskedGiven}
 use Rattle.form.specs.Cells.{bytes_of}
 use Rattle.form.specs.Form.{form}

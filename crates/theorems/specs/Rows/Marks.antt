@@ -16,7 +16,7 @@ use Rattle.model.specs.Arm.{called, nth_gone, last_gone, below_threshold_at, nex
 use Rattle.model.specs.Arm.{arm_all, arm}
 use Rattle.model.specs.Replies.{number, notices, no_report, report, read_number, write_number}
 use Rattle.model.specs.Replies.{done_number, taken_number, notice_numbers}
-use Rattle.model.specs.Map.{fsm_status, registers, register_among}
+use Rattle.model.specs.Map.{registers, register_among}
 use Rattle.model.specs.Map.{register_of, value_of, place_among, words_by, replaced}
 use Rattle.model.specs.Registers.{note_if, source_notes, status_word, looks, pop, shown_in, read_register, read_looking, read_at}
 use Rattle.model.specs.Registers.{conf0_notes, stored_notes, starts_at, gone_at, sent, dropped, send_byte, reset_fifos, storing, clearing}
@@ -30,7 +30,7 @@ use Rattle.model.specs.Calls
 use Rattle.model.specs.Row
 use Rattle.model.specs.Row.{left_by, summed, first_test, row, counted, counted_all, times_of}
 use Rattle.model.specs.SetUp.{words_among, map_of, new_control, new}
-use Rattle.model.specs.Call.{wake, receive, machine, at, date_of, writes}
+use Rattle.model.specs.Call.{receive, at, date_of}
 use Rattle.model.specs.Run.{number_of, stepped, replying, plan_by, writing, plan, step}
 use Rattle.model.specs.declared.Date.{Date}
 use Rattle.model.specs.declared.Date.TheVariants.{At}

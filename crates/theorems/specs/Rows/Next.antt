@@ -1,6 +1,6 @@
 -- The next write at the same cycle, on a still state: it settles nothing, and the byte joins those in flight or is dropped. Of levels and
 -- wake only the wake can change, and the state is still again. Assumes nothing.
-use Rattle.std.specs.Prelude.{◌≡◌, ℕ, ◌+◌, ◌≤◌, ◌<◌, Bool, false, length}
+use Rattle.std.specs.Prelude.{◌≡◌, ℕ, ◌≤◌, ◌<◌, Bool, false, length}
 use Rattle.std.proofs.Math.Path.{refl, ap, ap₂, subst}
 use Rattle.std.proofs.Common.{sym, ◌∙◌, arith, length-append, le-ltb, lt-ltb}
 use Rattle.std.proofs.Math.Option.{Option, none, some}

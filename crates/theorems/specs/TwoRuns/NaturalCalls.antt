@@ -12,7 +12,7 @@ use Rattle.model.specs.Setters.{with_host}
 use Rattle.model.specs.Events.{passes_in, overflows_in}
 use Rattle.model.specs.Settle.{Settled, found, ended, settle, levels}
 use Rattle.model.specs.Arm.{arm}
-use Rattle.model.specs.Replies.{ReadOf, word, byte, report, no_report}
+use Rattle.model.specs.Replies.{ReadOf, word, report, no_report}
 use Rattle.model.specs.Map.{Word, Shown, Register}
 use Rattle.model.specs.Registers.{Access, gives, pop, shown_in, read_register, read_looking, read_at, gone_at, sent, dropped, send_byte}
 use Rattle.model.specs.Registers.{reset_fifos, storing, clearing, write_register, concluded}
