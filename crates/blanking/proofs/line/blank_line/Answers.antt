@@ -1,0 +1,42 @@
+-- `line::blank_line` meets its contract: a line that is too long, none, one with a fault, and a call. Assumes nothing.
+use mathlib.Core.Path.{refl, sym, ◌∙◌}
+use Rattle.blanking.specs.LineLaws.{blanks-nothing, kind-long, kind-read, zeros-room, line-blanks}
+use Rattle.blanking.proofs.line.blank_line.Goals as goal
+
+pub returns-then-long : goal.returns-then-long
+returns-then-long c =
+    let a = c.args in
+    let b = line-blanks a.from _ a.long a.s.now _ _ _ _ _ c.counted-trace.ensures
+    (kind-long _ a.long a.s.now c.if-long.true) c.leave_out.ensures in
+    record { put = b.0; trace_value = b.1 }
+
+pub returns-in-Nothing : goal.returns-in-Nothing
+returns-in-Nothing c =
+    let a = c.args in
+    let read = c.read_line-read.ensures in
+    let line = sym c.in-Nothing.is ∙ read.value in
+    let b = line-blanks a.from _ a.long a.s.now _ _ _ _ _ c.counted-trace.ensures
+    (kind-read _ a.long a.s.now _ _ _ _ c.if-long.false zeros-room line
+    read.numbers_after read.bytes_after)
+    (blanks-nothing _ _ _ _ refl refl) in
+    record { put = b.0; trace_value = b.1 }
+
+pub returns-in-Wrong : goal.returns-in-Wrong
+returns-in-Wrong c =
+    let a = c.args in
+    let read = c.read_line-read.ensures in
+    let line = sym c.in-Wrong.is ∙ read.value in
+    let b = line-blanks a.from _ a.long a.s.now _ _ _ _ _ c.counted-trace.ensures
+    (kind-read _ a.long a.s.now _ _ _ _ c.if-long.false zeros-room line read.numbers_after read.bytes_after)
+    c.leave_out-in-Wrong.ensures in
+    record { put = b.0; trace_value = b.1 }
+
+pub returns-in-Call : goal.returns-in-Call
+returns-in-Call c =
+    let a = c.args in
+    let read = c.read_line-read.ensures in
+    let line = sym c.in-Call.is ∙ read.value in
+    let b = line-blanks a.from _ a.long a.s.now _ _ _ _ _ c.counted-trace.ensures
+    (kind-read _ a.long a.s.now _ _ _ _ c.if-long.false zeros-room line read.numbers_after read.bytes_after)
+    c.call.ensures in
+    record { put = b.0; trace_value = b.1 }
