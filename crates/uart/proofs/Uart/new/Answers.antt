@@ -2,16 +2,12 @@
 use mathlib.Core.Path.{refl}
 use native.Mathlib.Omega.{arith}
 use Rattle.uart.specs.Whole.{zeros, new-means, new-good}
-use Rattle.uart.proofs.Uart.new.Statement.{statement}
-use Rattle.uart.proofs.Uart.new.Tie as tie
+use Rattle.uart.proofs.Uart.new.Goals as goal
 
-set-up-requires : tie.Need-set-up-requires
-set-up-requires c κs = tt
-
-returns : tie.Need-returns
+pub returns : goal.returns
 returns c =
-    let o = c.before.before.args in
-    rw c.before.set-up.ensures
+    let o = c.args in
+    rw c.set_up-made.ensures
     (record {
       replies = refl;
       core = refl;
@@ -19,6 +15,3 @@ returns c =
       state = new-means o.offsets o.resets zeros;
       good = λ ready. new-good o.offsets o.resets zeros (omega arith) (refl, refl, refl, refl, refl, refl, refl) refl ready;
     })
-
-pub new_spec : {M : Type 1} → statement M
-new_spec = tie.close (tie.spec set-up-requires returns)
