@@ -1,0 +1,11 @@
+-- `plain_date` meets its contract. Assumes nothing.
+use Rattle.ffi.specs.Plain.{plain_date}
+use Rattle.ffi.proofs.plain_date.Goals as goal
+
+pub returns-in-None : goal.returns-in-None
+unfolding plain_date
+returns-in-None c = cc
+
+pub returns-in-At : goal.returns-in-At
+unfolding plain_date
+returns-in-At c = cc
