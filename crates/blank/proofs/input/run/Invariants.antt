@@ -1,0 +1,8 @@
+-- What each loop of `input::run` keeps, and what gets less.
+use Rattle.blank.proofs.input.run.Given as goal
+
+abbrev pub invariant-loop-turns : goal.invariant-loop-turns
+invariant-loop-turns l = Unit {0}
+
+abbrev pub decreases-loop-turns : goal.decreases-loop-turns
+decreases-loop-turns l = l.turns
