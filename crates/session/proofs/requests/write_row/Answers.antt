@@ -3,24 +3,18 @@ use mathlib.Core.Path.{ap}
 use mathlib.Core.Option.{some}
 use mathlib.Core.List.{List, []}
 use Prim.Native.Nat.{ℕ}
-use borrow.Author.Rules.{rules}
 use Rattle.model.specs.Call.{Asked, rows}
 use Rattle.uart.specs.Whole.{meaning}
 use Rattle.answers.specs.Replies.{row_text}
 use Rattle.session.specs.Requests.{calls}
 use Rattle.session.specs.Answers.{row-asked, gives, said, gives_as}
-use Rattle.session.proofs.requests.write_row.Statement.{statement}
-use Rattle.session.proofs.requests.write_row.Tie as tie
+use Rattle.session.proofs.requests.write_row.Goals as goal
 
-returns : tie.Need-returns
+pub returns : goal.returns
 returns c =
-    let a = c.before.before.before.before.before.before.before.before.args in
-    let front = c.before.before.before.before.before.front in
-    let row = c.before.before.before.before.write-row in
+    let a = c.args in
+    let front = c.front in
+    let row = c.write_row in
     gives_as (ap (λ (l : List ℕ). calls (Asked.row a.cycle l) [] (some (meaning a.uart))) front.ensures)
     (gives row.ensures (Asked.row a.cycle front.result.now) rows (row-asked _ _ _) (said row.ensures row_text)
-    c.before.before.after-row.ensures)
-
-pub write-row-spec : {M : Type 1} → statement M
-write-row-spec =
-    tie.close (tie.spec (λ c κs. search rules) (λ c κs. search rules) (λ c κs. search rules) (λ c. search rules) returns)
+    c.after_row.ensures)

@@ -3,26 +3,20 @@ use mathlib.Core.Path.{ap, ◌∙◌}
 use mathlib.Core.Option.{some}
 use mathlib.Core.List.{List, []}
 use Prim.Native.Nat.{ℕ}
-use borrow.Author.Rules.{rules}
 use Rattle.model.specs.Call.{Dated, Call, Asked, does}
 use Rattle.model.specs.Laws.StepCases.{step-cases}
 use Rattle.uart.specs.Whole.{meaning}
 use Rattle.answers.specs.Replies.{done_text}
 use Rattle.session.specs.Requests.{calls}
 use Rattle.session.specs.Answers.{call-asked, gives, said, gives_as}
-use Rattle.session.proofs.requests.receive.Statement.{statement}
-use Rattle.session.proofs.requests.receive.Tie as tie
+use Rattle.session.proofs.requests.receive.Goals as goal
 
-returns : tie.Need-returns
+pub returns : goal.returns
 returns c =
-    let a = c.before.before.before.before.before.before.before.before.args in
-    let front = c.before.before.before.before.before.front in
-    let done = c.before.before.before.before.receive in
+    let a = c.args in
+    let front = c.front in
+    let done = c.receive in
     gives_as (ap (λ (l : List ℕ). calls (Asked.call (Call.at a.cycle (Dated.receive a.date l))) [] (some (meaning a.uart)))
     front.ensures)
     (gives done.ensures (Asked.call (Call.at a.cycle (Dated.receive a.date front.result.now))) does
-    (call-asked _ _ ∙ (step-cases _).receive _ _ _) (said done.ensures done_text) c.before.before.after-done.ensures)
-
-pub receive-spec : {M : Type 1} → statement M
-receive-spec =
-    tie.close (tie.spec (λ c κs. search rules) (λ c κs. search rules) (λ c κs. search rules) (λ c. search rules) returns)
+    (call-asked _ _ ∙ (step-cases _).receive _ _ _) (said done.ensures done_text) c.after_done.ensures)
