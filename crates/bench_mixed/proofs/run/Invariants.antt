@@ -7,7 +7,7 @@ use Rattle.bench_mixed.proofs.run.Given as goal
 
 abbrev pub invariant-loop-n : goal.invariant-loop-n
 invariant-loop-n l =
-    Ok l.rx.core (arrays l.initial.n l.gone_at l.flight l.tx l.host l.run_at l.run_len) × (l.tally ≤ 13402)
+    Ok l.tally.core (arrays l.gone_at l.flight l.tx l.host l.run_at l.run_len l.rx) × (l.n ≤ 13402)
 
 abbrev pub decreases-loop-n : goal.decreases-loop-n
-decreases-loop-n l = 13402 - l.tally
+decreases-loop-n l = 13402 - l.n
