@@ -1,12 +1,13 @@
 """Runs a function as rattle lowers it, to find an input at which two bodies of it do not do the same.
 
-Numbers, arrays, structs, enums and references, as rattle-print-mir writes them. A run that goes out of what Rattle allows, a sum
-that wraps, an index past the end, ends there: of such an input nothing is said. What a function requires is not read.
+Numbers, arrays, structs, enums and references, as a built library's mir.json holds them (`library`) and as rattle check --generated prints
+them (`printed`). A run that goes out of what Rattle allows, a sum that wraps, an index past the end, ends there: of such an input nothing
+is said. What a function requires is not read. What takes a type, as a call of std's does, is not run: Generic.
 """
+import json
 import random
 import re
 
-TOKEN = re.compile(r'"[^"]*"|[()]|[^\s()"]+')
 SEED, TRIES, STEPS, ALL_STEPS = 20, 20_000, 20_000, 12_000_000
 
 
@@ -14,39 +15,264 @@ class Stuck(Exception):
     """The run leaves what Rattle allows, or takes too long."""
 
 
+class Generic(NotImplementedError):
+    """The run comes to what takes a type."""
+
+
 class Array(list):
     """An array, which a pointer to it may also enter element by element."""
 
 
 class Function:
-    def __init__(self, item, defs):
-        self.params, self.locals, self.body = item[3], [local[1] for local in item[4]], item[5]
-        self.defs = {pair[1]: pair[2] for pair in defs}
+    """The number of its parameters, the types of its locals, its body, and the types that it declares."""
+
+    def __init__(self, params, kinds, body, defs):
+        self.params, self.locals, self.body, self.defs = params, kinds, body, defs
 
 
-def reduced(term):
-    """A closed term: lists as lists, and a sequence as one."""
-    head = term[0] if term else ''
-    if head in ('lcons', 'tcons', 'ttcons'):
-        return [term[1]] + term[2]
-    if head == 'seq' and term[2][0] == 'seq':
-        return ['seq', term[1]] + term[2][1:]
+# ---- a mir.json. Each term becomes a list whose head says what it is, or that word alone, as logic/Mir/Syntax.antt has them
+
+WORDS = {'Not': 'bit_not', 'And': 'bit_and', 'Or': 'bit_or', 'Xor': 'bit_xor', 'If': 'cond', 'Opd': 'rv_opd', 'True': 'opd_true',
+         'False': 'opd_false', 'Unit': 'opd_unit'}
+
+
+def word(name):
+    return WORDS.get(name) or re.sub(r'(?<!^)(?=[A-Z])', '_', name).lower()
+
+
+def split(term):
+    """A term's head, and what it is of."""
+    return (term, None) if type(term) is str else next(iter(term.items()))
+
+
+def kind_in(term):
+    head, of = split(term)
+    if head == 'Array' and 'Lit' in of[1]:
+        return ['ty_array', kind_in(of[0]), of[1]['Lit']]
+    if head == 'Named' and not of[1]:
+        return ['ty_named', of[0]['name']]
+    if head == 'Ref':
+        return ['ty_ref', kind_in(of[2])]
+    if head == 'Struct':
+        return ['ty_struct', of[0], list(map(kind_in, of[1]))]
+    return ['ty_int', of] if head == 'Int' else 'ty_' + head.lower()
+
+
+def place_in(term):
+    steps = [(*split(step),) for step in term['steps']]
+    return ['place', term['local'], [[word(head), kind_in(of) if head == 'Deref' else of] for head, of in steps]]
+
+
+def operand_in(term):
+    head, of = split(term)
+    if head == 'Copy':
+        return ['copy', place_in(of)]
+    return ['int', of['width'], of['value']] if head == 'Int' else word(head)
+
+
+def operator_in(term):
+    head, of = split(term)
+    if of is None:
+        return word(head)
+    return [word(head), *(word(part) if type(part) is str else part for part in (of if type(of) is list else [of]))]
+
+
+def value_in(term):
+    head, of = split(term)
+    if head == 'AddrOf':
+        return ['addr_of', place_in(of)]
+    if head == 'Aggregate':
+        return ['aggregate', list(map(operand_in, of))]
+    if head == 'Repeat':
+        return ['repeat', operand_in(of[0]), of[1].get('Lit')]
+    if head in ('Op1', 'Op2'):
+        return [head.lower(), operator_in(of[0]), *map(operand_in, of[1:])]
+    return [word(head), operand_in(of)] if head == 'Opd' else [word(head)]
+
+
+def constant_in(term):
+    head, of = split(term)
+    if head == 'Ints':
+        return ['c_ints', of['width'], of['values']]
+    return ['c_parts', list(map(constant_in, of))] if head == 'Parts' else ['c_int', of['width'], of['value']] if head == 'Int' else ['c_' + head.lower()]
+
+
+def body_in(terms):
+    """The next body of a list in which each stands before its parts."""
+    head, of = split(next(terms))
+    if head == 'Seq':
+        return sequence(body_in(terms), body_in(terms))
+    if head in ('Block', 'Loop'):
+        return [word(head), body_in(terms)]
+    if head == 'Assign':
+        return ['assign', place_in(of[0]), value_in(of[1])]
+    if head == 'If':
+        return ['cond', operand_in(of), body_in(terms), body_in(terms)]
+    if head == 'Call' and 'Fn' in of[0]:
+        args = of[0]['Fn'][1]
+        return ['call', of[0]['Fn'][0] if not args['types'] and not args['dicts'] else ['at', of[0]['Fn'][0]], list(map(operand_in, of[1])), place_in(of[2])]
+    if head == 'LendStatic':
+        return ['lend_static', place_in(of[0]), kind_in(of[1]), constant_in(of[2])]
+    if head == 'Switch':
+        return ['switch', operand_in(of[0]), [[keys, body_in(terms)] for keys in of[1]] + [[None, body_in(terms)] for _ in range(of[2])]]
+    return ['exit', of] if head == 'Exit' else word(head)
+
+
+def sequence(first, rest):
+    return ['seq', first, *(rest[1:] if rest[0] == 'seq' else [rest])]
+
+
+def shape_in(term):
+    head, of = split(term)
+    return ['fields', list(map(kind_in, of))] if head == 'Fields' else ['variants', [list(map(kind_in, part)) for part in of]]
+
+
+def library(path):
+    """The functions of a mir.json, by name."""
+    with open(path, encoding='utf-8') as file:
+        return {name: Function(item['params'], [kind_in(local['ty']) for local in item['locals']], body_in(iter(item['body'])),
+                               {one['name']: shape_in(one['shape']) for one in item['types']}) for name, item in json.load(file)}
+
+
+# ---- a file Mir.antt
+
+TOKEN = re.compile(r'[(){};,]|[^\s(){};,]+')
+WIDTHS = {'w8': 8, 'w16': 16, 'w32': 32, 'w64': 64, 'w128': 128}
+
+
+class Printed:
+    """What a file Mir.antt declares."""
+
+    def __init__(self, text):
+        self.modules = {name or path.split('.')[-1]: path for path, name in re.findall(r'^use (\S+)(?: as (\S+))?$', text, re.M)}
+        self.texts = dict(re.findall(r"^(\S+) =((?:[^\n]*\n)(?:[ )}][^\n]*\n)*)", text + '\n', re.M))
+        self.terms = {}
+
+    def of(self, name):
+        """The term that the name stands for."""
+        if name not in self.terms:
+            tokens = TOKEN.findall(self.texts[name])[::-1]
+            self.terms[name] = self.term(tokens)
+        return self.terms[name]
+
+    def term(self, tokens):
+        parts = []
+        while tokens and tokens[-1] not in (')', ',', ';', '}'):
+            parts.append(self.atom(tokens))
+        if parts[0] in ('◌∷◌', 'tcons', 'ttcons'):
+            return [parts[1], *parts[2]]
+        return parts[0] if len(parts) == 1 else parts
+
+    def atom(self, tokens):
+        token = tokens.pop()
+        if token == '(':
+            items, closed = [self.term(tokens)], tokens.pop()
+            while closed == ',':
+                if tokens[-1] != ')':
+                    items.append(self.term(tokens))
+                closed = tokens.pop()
+            return items[0] if len(items) == 1 else ['tuple', *items]
+        if token == 'record':
+            fields, _ = {}, tokens.pop()
+            while tokens[-1] != '}':
+                field, _ = tokens.pop(), tokens.pop()
+                fields[field] = self.term(tokens)
+                tokens.pop()
+            tokens.pop()
+            return fields
+        if token.isdigit():
+            return int(token)
+        module, _, name = token.rpartition('.')
+        if not module:
+            return self.of(name) if name in self.texts else name
+        symbol = re.fullmatch(r'Rattle\.(\w+)\.proofs\.(.*)\.Symbol', self.modules.get(module, ''))
+        if symbol:
+            return '::'.join([symbol[1], *symbol[2].split('.')])
+        return [] if name in ('[]', 'tnil', 'ttnil') else WIDTHS.get(name, name)
+
+
+def chars(codes):
+    return ''.join(map(chr, codes))
+
+
+def kind_of(term):
+    if term[0] == 'ty_named' and not term[2]:
+        return ['ty_named', chars(term[1][1])]
+    if term[0] == 'ty_struct':
+        return ['ty_struct', chars(term[1]), list(map(kind_of, term[2]))]
+    if term[0] == 'ty_ref':
+        return ['ty_ref', kind_of(term[3])]
+    return ['ty_array', kind_of(term[1]), term[2]] if term[0] == 'ty_array' else term if term[0] == 'ty_int' or type(term) is str else 'ty_other'
+
+
+def place_of(term):
+    steps = [['variant' if step[0] == 'variant' else step[0], kind_of(step[1]) if step[0] == 'deref' else step[1]] for step in term[2]]
+    return ['place', term[1], steps]
+
+
+def operand_of(term):
+    if term[0] == 'copy':
+        return ['copy', place_of(term[1])]
+    if term[0] == 'int_neg':
+        return ['int', term[1], (1 << term[1]) - term[2]]
+    return ['int', *term[1:]] if term[0] in ('int', 'int_big') else term
+
+
+def value_of(term):
+    if term[0] == 'addr_of':
+        return ['addr_of', place_of(term[1])]
+    if term[0] == 'aggregate':
+        return ['aggregate', list(map(operand_of, term[1]))]
+    if term[0] == 'repeat':
+        return ['repeat', operand_of(term[1]), term[2]]
+    return [*term[:2], *map(operand_of, term[2:])] if term[0] in ('op1', 'op2') else [term[0], operand_of(term[1])]
+
+
+def constant_of(term):
+    if term[0] != 'c_parts':
+        return term if type(term) is list else [term]
+    parts, left = [], term[1]
+    while left[0] == 'ccons':
+        parts.append(constant_of(left[1]))
+        left = left[2]
+    return ['c_parts', parts]
+
+
+def body_of(term):
+    head = term if type(term) is str else term[0]
+    if head == 'seq':
+        return sequence(body_of(term[1]), body_of(term[2]))
+    if head in ('block', 'loop'):
+        return [head, body_of(term[1])]
+    if head == 'assign':
+        return ['assign', place_of(term[1]), value_of(term[2])]
+    if head == 'cond':
+        return ['cond', operand_of(term[1]), body_of(term[2]), body_of(term[3])]
+    if head == 'call':
+        return ['call', term[1] if type(term[1]) is str else ['at', *term[1]], list(map(operand_of, term[2])), place_of(term[3])]
+    if head == 'lend_static':
+        return ['lend_static', place_of(term[1]), kind_of(term[2]), constant_of(term[3])]
+    if head == 'switch':
+        arms, left = [], term[2]
+        while left != 'no_default':
+            arms.append([left[1], body_of(left[2])] if left[0] == 'arm' else [None, body_of(left[1])])
+            left = left[3] if left[0] == 'arm' else 'no_default'
+        return ['switch', operand_of(term[1]), arms]
     return term
 
 
-def parsed(text):
-    """The functions of a program, by name."""
-    stack = [[]]
-    for token in TOKEN.findall(text):
-        if token == '(':
-            stack.append([])
-        elif token == ')':
-            term = reduced(stack.pop())
-            stack[-1].append(term)
-        else:
-            stack[-1].append([] if token in ('lnil', 'tnil', 'ttnil') else int(token) if token.isdigit() else token.strip('"'))
-    return {term[1]: Function(term[2], term[3] if len(term) > 3 else []) for term in stack[0][1]}
+def printed(text):
+    """The function of a file Mir.antt."""
+    file = Printed(text)
+    made = file.of('by_name' if 'by_name' in file.texts else 'function')
+    defs = {}
+    for one in file.of('table') if 'table' in file.texts else []:
+        name, shape = chars(one[1]), one[-1]
+        defs[name] = ['fields', list(map(kind_of, shape[1]))] if shape[0] == 'fields' else ['variants', [list(map(kind_of, part)) for part in shape[1]]]
+    return Function(made['params'], [kind_of(local[1]) for local in made['locals']], body_of(made['body']), defs)
 
+
+# ---- what a body names, and its course
 
 def named(body):
     """What a body names: functions, numbers, and words of several bytes."""
@@ -55,12 +281,14 @@ def named(body):
         term = todo.pop()
         if not isinstance(term, list) or not term:
             continue
-        if term[0] == 'fnRef':
-            names.append(term[1])
+        if term[0] == 'call':
+            names.append(term[1] if type(term[1]) is str else term[1][1])
         elif term[0] == 'int':
             numbers.add(term[2])
-        elif term[0] == 'arm':
-            numbers |= set(term[1])
+        elif term[0] == 'switch':
+            numbers |= {key for keys, _ in term[2] for key in keys or ()}
+        elif term[0] == 'c_ints' and term[1] == 8:
+            words.add(bytes(term[2]))
         elif term[0] == 'aggregate' and all(part[:2] == ['int', 8] for part in term[1]):
             words.add(bytes(part[2] for part in term[1]))
         todo += term
@@ -74,10 +302,10 @@ def steps(body):
         return sum((steps(part) for part in body[1:]), ())
     if head == 'assign':
         return leaves(body[2])
-    if head == 'if':
+    if head == 'cond':
         return (head, steps(body[2]), steps(body[3])),
     if head == 'switch':
-        return (head, *arms(body[2])),
+        return (head, *(steps(arm) for _, arm in body[2])),
     if head in ('block', 'loop'):
         return (head, steps(body[1])),
     return () if head == 'skip' else ((head, body[1]) if head == 'exit' else head,)
@@ -89,12 +317,6 @@ def leaves(value):
     return (op,) if op in ('add', 'sub', 'mul', 'div', 'rem', 'shl', 'shr', 'offset', 'cast') else ()
 
 
-def arms(body):
-    while body != 'noDefault':
-        yield steps(body[1] if body[0] == 'default' else body[2])
-        body = 'noDefault' if body[0] == 'default' else body[3]
-
-
 def copied(value):
     if type(value) is Array:
         return Array(map(copied, value)) if value and type(value[0]) is list else Array(value)
@@ -103,29 +325,34 @@ def copied(value):
 
 class Machine:
     def __init__(self, functions, wraps=False):
-        self.functions, self.steps, self.wraps, self.foreign = functions, 0, wraps, None
+        self.functions, self.steps, self.wraps = functions, 0, wraps
         self.defs = {name: shape for fn in functions.values() for name, shape in fn.defs.items()}
 
     # ---- types
     def parts(self, kind, variant=0):
         """The types of the fields of a struct, or of an enum's variant after its tag."""
-        if kind[0] == 'tyStruct':
+        if kind[0] == 'ty_struct':
             return kind[2]
-        shape = self.defs[kind[1][1]]
-        return shape[1] if shape[0] == 'fields' else [['tyInt', 8]] + shape[1][variant]
+        shape = self.shape(kind)
+        return shape[1] if shape[0] == 'fields' else [['ty_int', 8]] + shape[1][variant]
+
+    def shape(self, kind):
+        if kind[0] != 'ty_named' or kind[1] not in self.defs:
+            raise NotImplementedError(kind)
+        return self.defs[kind[1]]
 
     def size(self, kind):
         """The bytes of a type, and the multiple at which it starts."""
-        if kind[0] == 'tyInt':
+        if kind[0] == 'ty_int':
             return kind[1] // 8, kind[1] // 8
-        if kind in ('tyBool', 'tyUnit'):
+        if kind in ('ty_bool', 'ty_unit'):
             return 1, 1
-        if kind[0] == 'tyArray':
+        if kind[0] == 'ty_array':
             size, start = self.size(kind[1])
-            return size * kind[2][1], start
-        if kind[0] != 'tyNamed':
+            return size * kind[2], start
+        if kind[0] != 'ty_named':
             return 8, 8
-        shape = self.defs[kind[1][1]]
+        shape = self.shape(kind)
         laid = [self.laid(self.parts(kind, k)) for k in range(1 if shape[0] == 'fields' else len(shape[1]))]
         start = max(start for _, start in laid)
         return -(-max(size for size, _ in laid) // start) * start, start
@@ -163,7 +390,7 @@ class Machine:
 
     def pointed(self, pointer, kind):
         at, index, offset = pointer
-        if type(at[index] if index < len(at) else 0) is Array and kind[0] != 'tyArray':
+        if type(at[index] if index < len(at) else 0) is Array and kind[0] != 'ty_array':
             at, index = at[index], 0
         return at, index + offset // self.size(kind)[0]
 
@@ -175,26 +402,27 @@ class Machine:
             return copied(at[index])
         if term[0] == 'int':
             return term[2]
-        if term in ('true', 'false'):
-            return term == 'true'
-        if term == 'unit':
+        if term in ('opd_true', 'opd_false'):
+            return term == 'opd_true'
+        if term == 'opd_unit':
             return ()
         raise NotImplementedError(term)
 
     def value(self, fn, frame, place, term):
-        if term[0] == 'rvOpd':
+        if term[0] == 'rv_opd':
             return self.operand(frame, term[1])
-        if term[0] == 'addrOf':
+        if term[0] == 'addr_of':
             return (*self.address(frame, term[1]), 0)
         if term[0] == 'op2':
             return self.fit(fn, place, binary(term[1], self.operand(frame, term[2]), self.operand(frame, term[3])))
         if term[0] == 'op1':
             of = self.operand(frame, term[2])
-            if term[1] == 'not':
+            if term[1] == 'bit_not':
                 return not of if isinstance(of, bool) else of ^ (1 << self.kind_at(fn, place)[1]) - 1
-            if term[1][0] == 'cast':
+            if term[1][:3] == ['cast', 'unsigned', 'unsigned']:
                 return self.fit(fn, place, int(of))
-        made = Array if self.kind_at(fn, place)[0] == 'tyArray' else list
+            raise NotImplementedError(term)
+        made = Array if self.kind_at(fn, place)[0] == 'ty_array' else list
         if term[0] == 'aggregate':
             return made(self.operand(frame, part) for part in term[1])
         if term[0] == 'repeat':
@@ -232,10 +460,14 @@ class Machine:
             value = self.value(fn, frame, body[1], body[2])
             at, index = self.address(frame, body[1])
             at[index] = value
-        elif head == 'if':
+        elif head == 'cond':
             return self.go(fn, frame, body[2 if self.operand(frame, body[1]) else 3])
         elif head == 'call':
-            value = self.run(self.functions[body[1][1][1]], [self.operand(frame, arg) for arg in body[2]])
+            if type(body[1]) is not str:
+                raise Generic(body[1])
+            if body[1] not in self.functions:
+                raise NotImplementedError(body[1])
+            value = self.run(self.functions[body[1]], [self.operand(frame, arg) for arg in body[2]])
             at, index = self.address(frame, body[3])
             at[index] = value
         elif head == 'switch':
@@ -244,10 +476,15 @@ class Machine:
             return 'return'
         elif head == 'exit':
             return body[1]
-        elif head == 'foreign':  # a function of C's may answer anything, to both bodies the same
-            frame[0] = self.foreign.of(fn.locals[0])
-        elif head != 'skip':
+        elif head == 'lend_static':
+            at, index = self.address(frame, body[1])
+            at[index] = ([constant(body[2], body[3])], 0, 0)
+        elif head == 'unreachable':
+            raise Stuck
+        elif head in ('block', 'loop'):
             return self.block(fn, frame, head, body[1])
+        elif head != 'skip':
+            raise NotImplementedError(head)
         return None
 
     def block(self, fn, frame, head, body):
@@ -261,25 +498,38 @@ class Machine:
                 return None
 
 
+def constant(kind, term):
+    if term[0] == 'c_ints':
+        return Array(term[2])
+    if term[0] == 'c_parts':
+        return (Array if kind[0] == 'ty_array' else list)(constant(['ty_other'], part) for part in term[1])
+    if term[0] == 'c_int':
+        return term[2]
+    raise NotImplementedError(term)
+
+
 def chosen(arms, key):
-    while arms != 'noDefault':
-        if arms[0] == 'default':
-            return arms[1]
-        if key in arms[1]:
-            return arms[2]
-        arms = arms[3]
+    for keys, body in arms:
+        if keys is None or key in keys:
+            return body
     raise Stuck
 
 
 def binary(op, a, b):
+    if type(op) is not str and op[1:] != ['unsigned']:
+        raise NotImplementedError(op)
     op = op if type(op) is str else op[0]
     if op == 'offset':
         return a[0], a[1], a[2] + b
     if op in ('div', 'rem') and b == 0 or op in ('shl', 'shr') and b > 63:
         raise Stuck
     return {'add': lambda: a + b, 'sub': lambda: a - b, 'mul': lambda: a * b, 'div': lambda: a // b, 'rem': lambda: a % b,
-            'and': lambda: a & b, 'or': lambda: a | b, 'xor': lambda: a ^ b, 'shl': lambda: a << b, 'shr': lambda: a >> b,
-            'eq': lambda: a == b, 'ne': lambda: a != b, 'lt': lambda: a < b, 'le': lambda: a <= b}[op]()
+            'bit_and': lambda: a & b, 'bit_or': lambda: a | b, 'bit_xor': lambda: a ^ b, 'shl': lambda: a << b, 'shr': lambda: a >> b,
+            'eq': lambda: a == b, 'ne': lambda: a != b, 'lt': lambda: a < b, 'le': lambda: a <= b}.get(op, unknown)()
+
+
+def unknown():
+    raise NotImplementedError
 
 
 class Inputs:
@@ -295,23 +545,23 @@ class Inputs:
 
     def of(self, kind):
         chance = self.chance
-        if kind == 'tyBool':
+        if kind == 'ty_bool':
             return chance.random() < .5
-        if kind == 'tyUnit':
+        if kind == 'ty_unit':
             return ()
-        if kind[0] == 'tyInt':
+        if kind[0] == 'ty_int':
             return self.word() if self.bits and kind[1] == 32 else chance.choice(self.pool) & (1 << kind[1]) - 1
-        if kind[0] == 'tyArray':
-            return self.array(kind[1], kind[2][1])
-        if kind[0] == 'tyRef':
-            cell = [self.of(kind[3])]
+        if kind[0] == 'ty_array':
+            return self.array(kind[1], kind[2])
+        if kind[0] == 'ty_ref':
+            cell = [self.of(kind[1])]
             self.behind.append(cell)
             return cell, 0, 0
-        if kind[0] == 'tyStruct' and kind[1] == '&[]':
-            cell = self.slice(kind[2][0][3])
+        if kind[0] == 'ty_struct' and kind[1] == '&[]':
+            cell = self.slice(kind[2][0][1])
             self.behind.append(cell)
             return [(cell, 0, 0), len(cell)]
-        shape = self.machine.defs[kind[1][1]] if kind[0] == 'tyNamed' else ['fields']
+        shape = ['fields'] if kind[0] == 'ty_struct' else self.machine.shape(kind)
         if shape[0] == 'fields':
             return [self.of(part) for part in self.machine.parts(kind)]
         case = chance.randrange(len(shape[1]))
@@ -324,7 +574,7 @@ class Inputs:
 
     def array(self, kind, length):
         chance = self.chance
-        if kind[0] != 'tyInt':
+        if kind[0] != 'ty_int':
             return Array(self.of(kind) for _ in range(length))
         numbers = chance.choices(self.pool, k=length)
         if length and chance.random() < .3:  # no two alike, but for one
@@ -334,7 +584,7 @@ class Inputs:
 
     def slice(self, kind):
         chance = self.chance
-        if kind == ['tyInt', 8] and chance.random() < .6:
+        if kind == ['ty_int', 8] and chance.random() < .6:
             text = self.text()
             if text and chance.random() < .3:
                 at = chance.randrange(len(text))
@@ -368,7 +618,7 @@ def done(machine, fn, seed, known):
     """What a call gives, and what it leaves behind its references."""
     inputs = Inputs(machine, known, random.Random(seed))
     args = [inputs.of(kind) for kind in fn.locals[1:1 + fn.params]]
-    machine.steps, machine.foreign = 0, Inputs(machine, known, random.Random(seed + TRIES))
+    machine.steps = 0
     return machine.run(fn, args), inputs.behind
 
 
