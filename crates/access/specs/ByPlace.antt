@@ -10,11 +10,11 @@ use Rattle.model.specs.Map.{Register, register_of, is_fifo}
 use Rattle.model.specs.Registers.{Access, send_byte, write_register, concluded}
 use Rattle.model.specs.Calls
 use Rattle.model.specs.Calls.{Outcome, unless, after_settling, send, write_placed, write_at}
-use Rattle.model.specs.Laws.Plans.{settle_at}
+use Rattle.model.specs.Plans.{settle_at}
 use Rattle.model.specs.Tests.{date_end}
 use Rattle.model.specs.Replies.{write_number}
-use Rattle.model.specs.Keeps.EachCall.{write-within}
-use Rattle.model.specs.Refuses.Carried.{send-proper, write-proper}
+use Rattle.model.proofs.Keeps.EachCall.{write-within}
+use Rattle.model.proofs.Refuses.Carried.{send-proper, write-proper}
 use Rattle.model.specs.declared.Refusal.{Refusal}
 use Rattle.model.specs.declared.Report.{Report}
 use Rattle.model.specs.declared.Write.{Write}

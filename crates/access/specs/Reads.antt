@@ -10,8 +10,8 @@ use Rattle.model.specs.Settle.{int_status}
 use Rattle.model.specs.Replies.{ReadOf, word, no_value, as_read}
 use Rattle.model.specs.Map.{Shown, Register, fifo, int_clr, unknown, shown, stored, is_fifo, value_of}
 use Rattle.model.specs.Registers.{Access, source_notes, status_word, fsm_status, pop, gives, shown_in, read_register, looks, read_looking, read_at}
-use Rattle.model.specs.Ends.Passes.{apart}
-use Rattle.model.specs.Laws.Choose.{choose-true, choose-false, choose-ind}
+use Rattle.model.proofs.Ends.Passes.{apart}
+use Rattle.model.proofs.Laws.Choose.{choose-true, choose-false, choose-ind}
 use Rattle.model.specs.declared.Read.{Read}
 use Rattle.model.specs.declared.Source.{Source}
 use Rattle.model.specs.declared.Unsupported.{Unsupported}

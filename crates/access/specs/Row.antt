@@ -22,8 +22,8 @@ use Rattle.model.specs.Tests.{date_end, transmit_full}
 use Rattle.model.specs.Calls.{Outcome, after_settling}
 use Rattle.model.specs.Row
 use Rattle.model.specs.Row.{Count, same_notice, counted, counted_all, notes_of, times_of, fifo_write, writes, left_by, summed, row_limit}
-use Rattle.model.specs.Ends.Passes.{apart}
-use Rattle.model.specs.Laws.Choose.{choose-true, choose-false}
+use Rattle.model.proofs.Ends.Passes.{apart}
+use Rattle.model.proofs.Laws.Choose.{choose-true, choose-false}
 use Rattle.model.specs.declared.Date.{Date}
 use Rattle.model.specs.declared.Made.{Made}
 use Rattle.model.specs.declared.Notice.{Notice}

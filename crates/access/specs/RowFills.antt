@@ -15,7 +15,7 @@ use Rattle.model.specs.Arm.{below_threshold_at}
 use Rattle.model.specs.Registers.{Access, sent, dropped, send_byte}
 use Rattle.model.specs.Tests.{transmit_full}
 use Rattle.model.specs.Limits.{Within}
-use Rattle.model.specs.Laws.Choose.{choose-false}
+use Rattle.model.proofs.Laws.Choose.{choose-false}
 use Rattle.theorems.specs.Rows.Still.{Still}
 use Rattle.theorems.specs.Rows.Next
 use Rattle.theorems.specs.Rows.Next.{joined}

@@ -19,9 +19,9 @@ use Rattle.model.specs.Registers.{Access, gone_at, sent, dropped, send_byte, con
 use Rattle.model.specs.Tests.{date_end, transmit_full}
 use Rattle.model.specs.Calls.{dated}
 use Rattle.model.specs.Limits.{Within}
-use Rattle.model.specs.Laws.Plans.{settle_at}
-use Rattle.model.specs.Laws.Choose.{choose-true, choose-false, choose-ind}
-use Rattle.model.specs.Keeps.Kept.{settle-keeps}
+use Rattle.model.specs.Plans.{settle_at}
+use Rattle.model.proofs.Laws.Choose.{choose-true, choose-false, choose-ind}
+use Rattle.model.proofs.Keeps.Kept.{settle-keeps}
 use Rattle.theorems.specs.Rows.Still.{Still}
 use Rattle.theorems.specs.Rows.First.{LastAfter, send-still}
 use Rattle.model.specs.declared.Control.{Control}

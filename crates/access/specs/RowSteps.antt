@@ -18,13 +18,13 @@ use Rattle.model.specs.Tests.{date_end, transmit_full}
 use Rattle.model.specs.Calls.{Outcome, after_settling, carried, send, dated}
 use Rattle.model.specs.Row.{notes_of, fifo_write}
 use Rattle.model.specs.Limits.{Within}
-use Rattle.model.specs.Laws.Plans.{settle_at}
-use Rattle.model.specs.Laws.Choose.{choose-true, choose-false}
-use Rattle.model.specs.Keeps.Kept.{settle-keeps}
-use Rattle.model.specs.Keeps.EachCall.{send-within}
+use Rattle.model.specs.Plans.{settle_at}
+use Rattle.model.proofs.Laws.Choose.{choose-true, choose-false}
+use Rattle.model.proofs.Keeps.Kept.{settle-keeps}
+use Rattle.model.proofs.Keeps.EachCall.{send-within}
 use Rattle.theorems.specs.Rows.Still.{Still}
 use Rattle.theorems.specs.Rows.Next
-use Rattle.model.specs.Rows.Notices.{report-notes}
+use Rattle.model.proofs.Rows.Notices.{report-notes}
 use Rattle.theorems.specs.Rows.Next.{written-carried, written-dropped, written_next, next-still}
 use Rattle.model.specs.declared.Unsupported.{Unsupported}
 use Rattle.model.specs.declared.Unsupported.TheVariants.{UartOverflow, UartClock}

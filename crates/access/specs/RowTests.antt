@@ -12,8 +12,8 @@ use Rattle.model.specs.State
 use Rattle.model.specs.Tests.{date_end, past_end, went_back, transmit_full, refuse_if, refuse_date}
 use Rattle.model.specs.Calls.{Outcome, unless, send}
 use Rattle.model.specs.Row.{row, row_number, first_test, summed}
-use Rattle.model.specs.Keeps.Dated.{not-refused}
-use Rattle.model.specs.Rows.Within.{row_within}
+use Rattle.model.proofs.Keeps.Dated.{not-refused}
+use Rattle.model.proofs.Rows.Within.{row_within}
 use Rattle.model.specs.declared.Refusal.{Refusal}
 use Rattle.model.specs.declared.Refusal.TheVariants.{TransmitFull}
 use Rattle.model.specs.declared.Report.{Report}

@@ -14,8 +14,8 @@ use Rattle.model.specs.Line.{fifo_bytes}
 use Rattle.model.specs.Replies
 use Rattle.model.specs.Tests.{date_end, transmit_full}
 use Rattle.model.specs.Row.{Count, counted_all, times_of, writes, summed, row_limit}
-use Rattle.model.specs.Laws.Choose.{choose-true, choose-false}
-use Rattle.model.specs.Rows.Within.{full-writes}
+use Rattle.model.proofs.Laws.Choose.{choose-true, choose-false}
+use Rattle.model.proofs.Rows.Within.{full-writes}
 use Rattle.model.specs.declared.Row.{Row}
 use Rattle.replies.specs.Reports.{report-of}
 use Rattle.device.specs.Holds.{Arrays, abs, Shape}

@@ -20,7 +20,7 @@ use Rattle.model.specs.Arm.{last_gone}
 use Rattle.model.specs.Registers.{Access, source_notes, starts_at, gone_at, sent, dropped, send_byte}
 use Rattle.model.specs.Calls
 use Rattle.model.specs.Calls.{unless, carried}
-use Rattle.model.specs.Laws.Choose.{choose-true, choose-false, choose-ind}
+use Rattle.model.proofs.Laws.Choose.{choose-true, choose-false, choose-ind}
 use Rattle.model.specs.declared.Control.{Control}
 use Rattle.model.specs.declared.Write.{Write}
 use Rattle.model.specs.declared.Unsupported.TheVariants.{UartOverflow, UartClock}

@@ -11,9 +11,9 @@ use Rattle.model.specs.State.{Sent}
 use Rattle.model.specs.Setters.{with_int_raw, with_words, with_line, with_in_flight, with_rx}
 use Rattle.model.specs.Map.{Word, Register, fifo, int_clr, unknown, shown, stored, same_word}
 use Rattle.model.specs.Registers.{Access, gives, reset_fifos, storing, clearing, write_register}
-use Rattle.model.specs.Ends.Passes.{apart}
-use Rattle.model.specs.Laws.Choose.{choose-false, choose-ind, choose-nat}
-use Rattle.model.specs.Laws.AccessCases.{write_register-ind}
+use Rattle.model.proofs.Ends.Passes.{apart}
+use Rattle.model.proofs.Laws.Choose.{choose-false, choose-ind, choose-nat}
+use Rattle.model.proofs.Laws.AccessCases.{write_register-ind}
 use Rattle.model.specs.declared.Write.{Write}
 use Rattle.queue.specs.Cursors.{Held, slot_of, empty, cut_to_one}
 use Rattle.queue.specs.Laws.{empty-held, cut-held, empty-elems, cut-elems}

@@ -15,7 +15,7 @@ use Rattle.model.specs.Replies.{no_report, done_number}
 use Rattle.model.specs.Arm.{arm}
 use Rattle.model.specs.Tests.{date_end, past_end, went_back}
 use Rattle.model.specs.Limits.{Within}
-use Rattle.model.specs.Keeps.Dated.{not-refused}
+use Rattle.model.proofs.Keeps.Dated.{not-refused}
 use Rattle.model.specs.Calls
 use Rattle.model.specs.Calls.{Outcome, Plan, refusing, unless, after_settling, outcome, quiet}
 use Rattle.model.specs.declared.Refusal.{Refusal}

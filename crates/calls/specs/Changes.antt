@@ -7,10 +7,10 @@ use Rattle.model.specs.Settle
 use Rattle.model.specs.Arm
 use Rattle.model.specs.Calls.{period_of, cleared_line, dated, clocked, cleared}
 use Rattle.model.specs.Tests.{date_end, period_limit}
-use Rattle.model.specs.Keeps.Parts.{put_clock, through}
-use Rattle.model.specs.Keeps.Dated.{moved-parts}
-use Rattle.model.specs.Keeps.EachCall.{clocked-parts}
-use Rattle.model.specs.Keeps.Wake.{called-within}
+use Rattle.model.proofs.Keeps.Parts.{put_clock, through}
+use Rattle.model.proofs.Keeps.Dated.{moved-parts}
+use Rattle.model.proofs.Keeps.EachCall.{clocked-parts}
+use Rattle.model.proofs.Keeps.Wake.{called-within}
 use Rattle.model.specs.declared.Date.{Date}
 use Rattle.model.specs.declared.Line.{Line}
 use Rattle.model.specs.declared.Control.{Control}

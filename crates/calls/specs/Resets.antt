@@ -6,7 +6,7 @@ use Rattle.model.specs.Setters.{with_powered_down_at}
 use Rattle.model.specs.Settle
 use Rattle.model.specs.Arm.{arm}
 use Rattle.model.specs.Calls.{dated, carried, quiet, cleared, machine}
-use Rattle.model.specs.Laws.Plans.{settle_at}
+use Rattle.model.specs.Plans.{settle_at}
 use Rattle.model.specs.Call.{Machine}
 use Rattle.model.specs.declared.Date.{Date}
 use Rattle.queue.specs.Cursors.{Held}

@@ -8,17 +8,17 @@ use Rattle.model.specs.Settle.{Settled, found, settle, pending, on_the_line}
 use Rattle.model.specs.Limits.{Within}
 use Rattle.model.specs.Tests.{date_end, period_limit}
 use Rattle.model.specs.Calls.{dated, clocked, carried, machine}
-use Rattle.model.specs.Laws.Plans.{settle_at}
+use Rattle.model.specs.Plans.{settle_at}
 use Rattle.model.specs.Call.{Machine}
-use Rattle.model.specs.Keeps.Parts.{through}
-use Rattle.model.specs.Keeps.Dated.{moved-parts}
+use Rattle.model.proofs.Keeps.Parts.{through}
+use Rattle.model.proofs.Keeps.Dated.{moved-parts}
 use Rattle.calls.specs.Answers.{dated_work, Works, done_core}
 use Rattle.calls.specs.Changes.{clocked_core, clocked-ok}
 use Rattle.calls.specs.Done.{armed-done}
 use Rattle.calls.specs.declared.answers.DoneCore.{DoneCore}
 use Rattle.model.specs.Events.{passes_in, overflows_in}
-use Rattle.model.specs.Laws.Events.{passes_append, overflows-append, overflows-low}
-use Rattle.model.specs.Ends.NothingDue.{settle-passes}
+use Rattle.model.proofs.Laws.Events.{passes_append, overflows-append, overflows-low}
+use Rattle.model.proofs.Ends.NothingDue.{settle-passes}
 use Rattle.device.specs.Settles.{Settles}
 use Rattle.device.specs.Arms.{ArmsAny}
 use Rattle.device.specs.Holds.{Arrays, abs, Ok}

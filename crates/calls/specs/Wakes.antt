@@ -2,7 +2,7 @@
 use Rattle.std.specs.Prelude.{◌≡◌, ℕ}
 use Rattle.std.proofs.Common.{sym, subst}
 use Rattle.model.specs.Calls.{dated, carried, machine}
-use Rattle.model.specs.Laws.Plans.{settle_at}
+use Rattle.model.specs.Plans.{settle_at}
 use Rattle.model.specs.Call.{Machine}
 use Rattle.device.specs.Holds.{Arrays, abs, Ok}
 use Rattle.device.specs.Settles.{Settles}

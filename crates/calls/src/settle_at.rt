@@ -1,7 +1,7 @@
 // A dated call that is carried out moves the last date, and settles.
 ghost use Rattle.std.specs.Prelude.{◌≡◌, ◌<◌};
 ghost use Rattle.model.specs.Tests.{date_end};
-ghost use Rattle.model.specs.Laws.Plans.{settle_at};
+ghost use Rattle.model.specs.Plans.{settle_at};
 ghost use Rattle.device.specs.Holds.{abs, Ok};
 ghost use Rattle.device.specs.Wholes.{arrays};
 ghost use Rattle.device.specs.Settles.{Settles};

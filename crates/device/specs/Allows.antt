@@ -4,7 +4,7 @@ use Rattle.std.specs.Prelude.{◌≡◌, Bool, ℕ, ◌<◌}
 use Rattle.std.proofs.Math.Path.{refl}
 use Rattle.std.proofs.Common.{sym, ltb-true}
 use Rattle.std.proofs.Math.Bool.{true, false}
-use Rattle.model.specs.Laws.Choose.{choose-ind}
+use Rattle.model.proofs.Laws.Choose.{choose-ind}
 use Rattle.model.specs.Line.{fate}
 use Rattle.model.specs.declared.Date.{Date}
 use Rattle.model.specs.declared.Line.{Line}

@@ -12,7 +12,7 @@ use Rattle.model.specs.State
 use Rattle.model.specs.State.{Run, OnTheLine}
 use Rattle.model.specs.Setters.{with_rx, with_receiving, with_host, with_line_of}
 use Rattle.model.specs.Numbers.{choose}
-use Rattle.model.specs.Laws.Choose.{choose-true, choose-false}
+use Rattle.model.proofs.Laws.Choose.{choose-true, choose-false}
 use Rattle.model.specs.Settle.{pop_run}
 use Rattle.model.specs.declared.Date.{Date}
 use Rattle.model.specs.declared.Line.{Line}

@@ -4,7 +4,7 @@ use Rattle.std.proofs.Common.{ap, ◌∙◌}
 use Rattle.dates.specs.Dates.{later, earlier}
 use Rattle.model.specs.State
 use Rattle.model.specs.Numbers.{due_by}
-use Rattle.model.specs.Laws.Choose.{choose-true, choose-false}
+use Rattle.model.proofs.Laws.Choose.{choose-true, choose-false}
 use Rattle.model.specs.Line.{timeout_at, after_date}
 use Rattle.model.specs.Settle.{pass}
 use Rattle.model.specs.declared.Date.{Date}

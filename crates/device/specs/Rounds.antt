@@ -10,7 +10,7 @@ use Rattle.model.specs.Events.{Event, total, passes_in, overflows_in}
 use Rattle.model.specs.Settle
 use Rattle.model.specs.Settle.{Settled, pass, found, ended, pending, on_the_line}
 use Rattle.model.specs.SetUp.{new}
-use Rattle.model.specs.Ends.Through.{pass-one, passes_go, passes-end, passes-bound}
+use Rattle.model.proofs.Ends.Through.{pass-one, passes_go, passes-end, passes-bound}
 use Rattle.model.specs.declared.Settings.{Settings}
 use Rattle.line.specs.declared.Found.{Found}
 use Rattle.queue.specs.Cursors.{slot_of}

@@ -16,8 +16,8 @@ use Rattle.model.specs.Settle
 use Rattle.model.specs.Events.{passes_in, overflows_in}
 use Rattle.model.specs.Settle.{gone, tx_done, depart, departures, found, drive, assert_levels}
 use Rattle.model.specs.Limits.{Within}
-use Rattle.model.specs.Laws.Events.{departures-pass, departures-lose}
-use Rattle.model.specs.Keeps.Settling.{settle-within}
+use Rattle.model.proofs.Laws.Events.{departures-pass, departures-lose}
+use Rattle.model.proofs.Keeps.Settling.{settle-within}
 use Rattle.model.specs.declared.Line.{Line}
 use Rattle.model.specs.declared.Control.{Control}
 use Rattle.model.specs.declared.Settings.{Settings}

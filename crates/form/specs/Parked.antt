@@ -7,7 +7,7 @@ use Rattle.model.specs.Numbers.{choose}
 use Rattle.model.specs.State.{Uart}
 use Rattle.model.specs.Limits.{Within}
 use Rattle.model.specs.Widths.{Bytes, Widths}
-use Rattle.model.specs.Ends.Passes.{apart}
+use Rattle.model.proofs.Ends.Passes.{apart}
 use Rattle.form.specs.Cells.{bytes_of}
 use Rattle.form.specs.Form.{form}
 use Rattle.form.specs.Read.{state_in}

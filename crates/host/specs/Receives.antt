@@ -11,13 +11,13 @@ use Rattle.model.specs.State.{Run}
 use Rattle.model.specs.Settle
 use Rattle.model.specs.Calls
 use Rattle.model.specs.Calls.{unless, dated, carried, quiet, last_date, host_date, hand_over}
-use Rattle.model.specs.Laws.Plans.{settle_at}
+use Rattle.model.specs.Plans.{settle_at}
 use Rattle.model.specs.Tests.{date_end, host_full, runs_full}
-use Rattle.model.specs.Keeps.Dated.{not-refused}
+use Rattle.model.proofs.Keeps.Dated.{not-refused}
 use Rattle.model.specs.Events.{total}
 use Rattle.model.specs.Limits.{run_counts}
-use Rattle.model.specs.Keeps.Kept.{Kept, settle-keeps, fewer-waiting, fewer-runs, last-run}
-use Rattle.model.specs.Keeps.EachCall.{room-before}
+use Rattle.model.proofs.Keeps.Kept.{Kept, settle-keeps, fewer-waiting, fewer-runs, last-run}
+use Rattle.model.proofs.Keeps.EachCall.{room-before}
 use Rattle.model.specs.declared.Done.{Done}
 use Rattle.model.specs.declared.Refusal.{Refusal}
 use Rattle.replies.specs.Refusals.{receiving}

@@ -6,7 +6,7 @@ use Rattle.model.specs.Setters.{with_tx}
 use Rattle.model.specs.Settle
 use Rattle.model.specs.Replies.{contents, taken_number}
 use Rattle.model.specs.Calls.{after_settling, carried, quiet, filled, take_tx}
-use Rattle.model.specs.Laws.Plans.{settle_at}
+use Rattle.model.specs.Plans.{settle_at}
 use Rattle.model.specs.declared.Taken.{Taken}
 use Rattle.replies.specs.Notices.{noted}
 use Rattle.queue.specs.Cursors.{slot_of, empty}

@@ -6,7 +6,7 @@ use Rattle.std.proofs.Math.Option.{Option, none, some}
 use mathlib.Core.List.{List, [], ◌∷◌, ◌++◌, append-nil}
 use Rattle.dates.specs.Dates.{later, earlier}
 use Rattle.model.specs.Numbers.{choose, due_by}
-use Rattle.model.specs.Laws.Choose.{choose-both}
+use Rattle.model.proofs.Laws.Choose.{choose-both}
 use Rattle.model.specs.State.{Run, OnTheLine, Uart, line_of}
 use Rattle.model.specs.Setters.{with_rx, with_receiving, with_host, with_line_of}
 use Rattle.model.specs.Line.{timeout_at, time_out, frame, start, fate, land}

@@ -1,4 +1,4 @@
--- What a UART is, from the plain to the composed, and then what is proved of it.
+-- What a UART is, from the plain to the composed; proofs/ holds what is proved of it.
 pub mod Numbers
 pub mod State
 pub mod Setters
@@ -12,6 +12,7 @@ pub mod Map
 pub mod Registers
 pub mod Tests
 pub mod Calls
+pub mod Plans
 pub mod Row
 pub mod SetUp
 pub mod Call
@@ -21,10 +22,3 @@ pub mod Unused
 pub mod Widths
 pub mod Manual
 pub mod Marks
-pub mod Laws
-pub mod Keeps
-pub mod Ends
-pub mod Refuses
-pub mod MeetsManual
-pub mod ShutsOut
-pub mod Rows

@@ -4,7 +4,7 @@ use Rattle.std.proofs.Math.Path.{sym}
 use Rattle.std.proofs.Common.{ap, ap₂, ◌∙◌, drop_of_length-le, drop-cons, eq-eqb, ne_eqb}
 use Rattle.std.proofs.Math.Numerals.{add-one}
 use Rattle.std.proofs.Math.ListN.{get_or-map}
-use Rattle.model.specs.Laws.Choose.{choose-true, choose-false}
+use Rattle.model.proofs.Laws.Choose.{choose-true, choose-false}
 use Rattle.model.specs.Map.{Word, Shown, Register, fifo, int_clr, unknown, shown, stored, registers, register_among}
 use Rattle.registers.specs.declared.places.Place.{Place}
 use Rattle.registers.specs.declared.places.Place.TheVariants.{Fifo, IntRaw, IntSt, IntEna, IntClr, Clkdiv, Status, FsmStatus, Conf0}

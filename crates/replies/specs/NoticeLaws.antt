@@ -3,7 +3,7 @@
 use Rattle.std.specs.Prelude.{◌≡◌, refl, ℕ, suc, ◌+◌, ◌-◌, ◌<◌, ◌≤◌, Bool, true, false, List, [], ◌∷◌, ◌++◌, map, length, set, replicate}
 use Rattle.std.proofs.Common.{sym, ap, ap₂, ◌∙◌, arith, append_assoc, append-nil, length-append, lt-ltb}
 use Rattle.model.specs.Numbers.{choose}
-use Rattle.model.specs.Laws.Choose.{choose-true}
+use Rattle.model.proofs.Laws.Choose.{choose-true}
 use Rattle.model.specs.Replies.{notices, notice_places, unused}
 use Rattle.model.specs.Registers.{note_if, source_notes}
 use Rattle.model.specs.declared.Notice.{Notice}

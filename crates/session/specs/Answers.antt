@@ -14,7 +14,7 @@ use Rattle.model.specs.Call.{Undated, Call, Request, Asked, Ask, Reply, rows}
 use Rattle.model.specs.Calls.{Outcome, unless, carried, outcome, quiet, has_left, host_pending}
 use Rattle.model.specs.Row.{row}
 use Rattle.model.specs.Run.{Step, answering, step, asked_by, asked}
-use Rattle.model.specs.Laws.StepCases.{step-cases}
+use Rattle.model.proofs.Laws.StepCases.{step-cases}
 use Rattle.model.specs.declared.Refusal.{Refusal}
 use Rattle.model.specs.declared.Report.{Report}
 use Rattle.model.specs.declared.SetUp.{SetUp}

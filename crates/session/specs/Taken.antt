@@ -5,7 +5,7 @@ use Rattle.std.proofs.Math.Option.{some}
 use Rattle.text.specs.Ascii.{ascii}
 use Rattle.model.specs.Call.{Dated, Undated, Call, Asked, takes}
 use Rattle.model.specs.Calls.{take_tx, take_written}
-use Rattle.model.specs.Laws.StepCases.{step-cases}
+use Rattle.model.proofs.Laws.StepCases.{step-cases}
 use Rattle.model.specs.declared.Report.{Report}
 use Rattle.model.specs.declared.Taken.{Taken}
 use Rattle.calls.specs.Answers.{dated_call, undated_call}

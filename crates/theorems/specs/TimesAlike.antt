@@ -5,12 +5,12 @@ use Rattle.std.proofs.Math.Nat.{suc_inj}
 use Rattle.std.proofs.Math.Bool.{decide}
 use Rattle.std.specs.Int.Bits.{bit_and, and_step, and_zero_r}
 use Rattle.model.specs.Numbers.{choose}
-use Rattle.model.specs.Laws.Choose.{choose-false}
+use Rattle.model.proofs.Laws.Choose.{choose-false}
 use Rattle.model.specs.Map.{is_fifo, register_of, register_among, place_among, words_by}
 use Rattle.model.specs.Call.{Dated, Undated, Call, Written, Request, Asked, Ask}
 use Rattle.model.specs.SetUp.{words_among, new}
 use Rattle.model.specs.Run.{run}
-use Rattle.model.specs.Refuses.FifoPlace.{first-is-fifo, fifo-is-first}
+use Rattle.model.proofs.Refuses.FifoPlace.{first-is-fifo, fifo-is-first}
 use Rattle.theorems.specs.TwoRuns.Alike.{Each, Alike, AskedAlike, fifo_offset}
 use Rattle.theorems.specs.TwoRuns.Agree.{Agreeing}
 use Rattle.model.specs.Unused.{takes_word, SameInUse}

@@ -10,8 +10,8 @@ use Rattle.model.specs.Tests.{repeated}
 use Rattle.model.specs.Calls.{Outcome}
 use Rattle.model.specs.Replies.{Take}
 use Rattle.model.specs.Limits.{Within}
-use Rattle.model.specs.Laws.Choose.{choose-ind}
-use Rattle.model.specs.Keeps.Runs.{new-within}
+use Rattle.model.proofs.Laws.Choose.{choose-ind}
+use Rattle.model.proofs.Keeps.Runs.{new-within}
 use Rattle.model.specs.declared.Report.{Report}
 use Rattle.model.specs.declared.SetUp.{SetUp}
 use Rattle.model.specs.declared.Taken.{Taken}

@@ -14,7 +14,7 @@ use Rattle.model.specs.Map.{Word, int_ena, clkdiv, conf0, conf1, clk_conf, idle_
 use Rattle.model.specs.Calls.{written}
 use Rattle.model.specs.Tests.{host_limit}
 use Rattle.model.specs.Limits.{All, nil, cons, Fits, NoLater, flight_dates, run_dates, Within}
-use Rattle.model.specs.Laws.Lists.{all_append}
+use Rattle.model.proofs.Laws.Lists.{all_append}
 use Rattle.model.specs.Widths.{Word32, Widths}
 use Rattle.form.specs.Cells.{Cell, byte_of, bytes_of, Field, low_first, field_bytes}
 use Rattle.form.specs.Form.{byte, word, long, short, mark_of, date_mark, source_number, frame_mark, frame_source, word_list, reset_list}

@@ -5,7 +5,7 @@ use mathlib.Core.List.{List, [], ◌∷◌, ◌++◌, map, flat_map}
 use Rattle.model.specs.State.{Uart, line_bytes}
 use Rattle.model.specs.Calls.{written}
 use Rattle.model.specs.Limits.{All, nil, cons}
-use Rattle.model.specs.Laws.Lists.{all_append}
+use Rattle.model.proofs.Laws.Lists.{all_append}
 use Rattle.model.specs.Widths.{Bytes, Widths}
 use Rattle.form.specs.Cells.{bytes_of, Field, low_first, field_bytes}
 use Rattle.form.specs.Form.{short, map_fields, word_fields, date_and_mark_fields, run_fields, head_length, pairs_from, form}

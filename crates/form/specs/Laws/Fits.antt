@@ -7,7 +7,7 @@ use Rattle.model.specs.Numbers.{choose}
 use Rattle.model.specs.State.{Sent, Run, OnTheLine, Uart, line_of, line_bytes}
 use Rattle.model.specs.Map.{Word, value_of as Map·value_of}
 use Rattle.model.specs.Limits.{All, nil, cons, Fits, NoLater, flight_dates, run_dates}
-use Rattle.model.specs.Laws.Lists.{all_take, all_drop}
+use Rattle.model.proofs.Laws.Lists.{all_take, all_drop}
 use Rattle.model.specs.Widths.{Word32, Bytes, Widths}
 use Rattle.form.specs.Read.{value_of, number_at, numbers_in, parts_from, parts_in, part_at, map_in, date_in, source_in, fixed_widths}
 use Rattle.form.specs.Read.{flying_in, dates_in}

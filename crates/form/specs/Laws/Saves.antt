@@ -10,7 +10,7 @@ use Rattle.model.specs.Numbers.{choose}
 use Rattle.model.specs.State.{Uart}
 use Rattle.model.specs.Replies.{no_report}
 use Rattle.model.specs.Tests.{refuse_if}
-use Rattle.model.specs.Laws.Choose.{choose-true, choose-false}
+use Rattle.model.proofs.Laws.Choose.{choose-true, choose-false}
 use Rattle.model.specs.Calls.{Outcome, refusing, unless, carried, outcome, quiet, filled, not_taken}
 use Rattle.form.specs.Form.{form}
 use Rattle.form.specs.Load.{save, saved}

@@ -12,7 +12,7 @@ use borrow.Author.Tests.{ltb-true, leb-true, eqb-true, lt-ltb, le-leb, eq-eqb, n
 use Rattle.model.specs.State.{OnTheLine, Uart, line_of}
 use Rattle.model.specs.Tests.{date_end}
 use Rattle.model.specs.Limits.{Chain, empty, single, link, All, nil, cons, NoLater, Fits, flight_dates, run_dates, Within}
-use Rattle.model.specs.Ends.Passes.{apart}
+use Rattle.model.proofs.Ends.Passes.{apart}
 use Rattle.dates.specs.Dates
 use Rattle.form.specs.Tests.{chained, every, no_later, is_none, closed, all_pass, limits, is_within}
 use Rattle.model.specs.declared.Date.{Date}

@@ -9,7 +9,7 @@ use mathlib.Core.List.{List, [], ◌∷◌, map, map-id}
 use Rattle.std.proofs.lemmas.Nat.{or_lt}
 use Rattle.std.specs.Int.Bits.{and_le_l}
 use Rattle.dates.specs.Dates
-use Rattle.model.specs.Laws.Lists.{all_head}
+use Rattle.model.proofs.Laws.Lists.{all_head}
 use Rattle.model.specs.Numbers.{choose}
 use Rattle.model.specs.State.{Sent, OnTheLine, Uart, line_of, line_bytes}
 use Rattle.theorems.specs.TwoRuns.Renamed.{map_sent, map_receiving, map_uart}
@@ -31,19 +31,19 @@ use Rattle.model.specs.Run.{Step, stepped, answering, replying, plan_by, writing
 use Rattle.model.specs.SetUp.{words_among, fifo_counts, map_of, new_control, new}
 use Rattle.model.specs.Limits.{All, nil, cons, NoLater}
 use Rattle.model.specs.Widths.{Word32, Bytes, Given, AskedGiven, Widths}
-use Rattle.model.specs.Laws.Choose.{choose-ind}
-use Rattle.model.specs.Laws.Cases.{KeptOnLine, passes-ind}
-use Rattle.model.specs.Laws.AccessCases.{write-ind, unless-ind, read_register-ind, write_register-ind}
-use Rattle.model.specs.Refuses.Conditions.{carried_out, Result, refusal, done}
-use Rattle.model.specs.Refuses.Refusals.{asked-result}
-use Rattle.model.specs.Ends.Settlings.{call-changes, settled-all}
+use Rattle.model.proofs.Laws.Choose.{choose-ind}
+use Rattle.model.proofs.Laws.Cases.{KeptOnLine, passes-ind}
+use Rattle.model.proofs.Laws.AccessCases.{write-ind, unless-ind, read_register-ind, write_register-ind}
+use Rattle.model.proofs.Refuses.Conditions.{carried_out, Result, refusal, done}
+use Rattle.model.proofs.Refuses.Refusals.{asked-result}
+use Rattle.model.proofs.Ends.Settlings.{call-changes, settled-all}
 use Rattle.theorems.specs.TwoRuns.Renamed.{itself}
 use Rattle.theorems.specs.TwoRuns.Natural.{bytes-nat}
 use Rattle.theorems.specs.TwoRuns.NaturalCalls.{map_put, map_placed, map_step}
 use Rattle.theorems.specs.TwoRuns.NaturalRuns.{map_asked, asked-nat}
-use Rattle.model.specs.Laws.Placed.{Put, changed_dated, changed_undated, changed, changed_asked, put_at, placed, placed_asked}
-use Rattle.model.specs.Laws.Placed.{step_placed}
-use Rattle.model.specs.Keeps.MapKept.{asked-kept, asked-placed}
+use Rattle.model.proofs.Laws.Placed.{Put, changed_dated, changed_undated, changed, changed_asked, put_at, placed, placed_asked}
+use Rattle.model.proofs.Laws.Placed.{step_placed}
+use Rattle.model.proofs.Keeps.MapKept.{asked-kept, asked-placed}
 use Rattle.model.specs.declared.Line.{Line}
 use Rattle.model.specs.declared.Frame.{Frame}
 use Rattle.model.specs.declared.Settings.{Settings}

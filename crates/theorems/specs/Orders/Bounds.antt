@@ -7,7 +7,7 @@ use Rattle.std.proofs.lemmas.List.{length-map}
 use Rattle.model.specs.State.{Sent, OnTheLine, Uart, line_bytes}
 use Rattle.model.specs.Calls.{written}
 use Rattle.model.specs.Limits.{All}
-use Rattle.model.specs.Laws.Placed.{placed_asked}
+use Rattle.model.proofs.Laws.Placed.{placed_asked}
 use Rattle.form.specs.Cells.{Cell}
 use Rattle.form.specs.Load.{Loading, loaded, refused, load}
 use Rattle.form.specs.Orders.{Order, Answered, LoadOf, CallersOrder, OrderStep}

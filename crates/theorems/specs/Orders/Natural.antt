@@ -10,7 +10,7 @@ use Rattle.model.specs.Numbers.{choose}
 use Rattle.model.specs.State.{Sent, OnTheLine, Uart, line_bytes}
 use Rattle.model.specs.Replies.{Take}
 use Rattle.model.specs.Calls.{filled, not_taken, written}
-use Rattle.model.specs.Laws.Choose.{choose-nat}
+use Rattle.model.proofs.Laws.Choose.{choose-nat}
 use Rattle.form.specs.Cells.{Cell, Field, field_bytes, numbers}
 use Rattle.form.specs.Form.{frame_mark, frame_source, short, head_length, map_fields, word_fields, date_and_mark_fields, run_fields}
 use Rattle.form.specs.Form.{pairs_from, parts_of, laid_out, form}

@@ -9,7 +9,7 @@ use mathlib.Core.List.{List, [], ◌∷◌, ◌++◌, map, map-id, append_assoc}
 use Rattle.std.proofs.Math.ListN.{length, drop}
 use Rattle.model.specs.State.{Sent, OnTheLine, Uart, line_bytes}
 use Rattle.model.specs.Calls.{written}
-use Rattle.model.specs.Laws.Placed.{placed_asked}
+use Rattle.model.proofs.Laws.Placed.{placed_asked}
 use Rattle.form.specs.Load.{Loading, loaded, refused, load}
 use Rattle.form.specs.Orders.{Order, LoadOf, CallersOrder}
 use Rattle.theorems.specs.TwoRuns.Renamed.{map_sent, map_receiving, map_uart, itself, forget}

@@ -7,7 +7,7 @@ use Rattle.std.proofs.Math.Bool.{decide}
 use Rattle.std.proofs.Math.Option.{Option, none, some}
 use mathlib.Core.List.{List, [], ◌∷◌, ◌++◌, map, flat_map}
 use Rattle.std.proofs.Math.ListN.{length, get_or, length-map}
-use Rattle.model.specs.Laws.Choose.{choose-false}
+use Rattle.model.proofs.Laws.Choose.{choose-false}
 use Rattle.model.specs.State.{Sent, OnTheLine, Uart, line_bytes}
 use Rattle.model.specs.Map.{Register, is_fifo, register_of}
 use Rattle.model.specs.Registers.{write_register}
@@ -15,8 +15,8 @@ use Rattle.model.specs.Calls.{outcome, written, write_placed}
 use Rattle.model.specs.Call.{Dated, Call, date_of, Asked, Ask, given, writes}
 use Rattle.model.specs.Run.{Step, stepped, replying, plan_by, asked_by}
 use Rattle.model.specs.Unused.{takes_word}
-use Rattle.model.specs.Laws.Placed.{Put, changed, changed_dated, changed_asked, put_at, placed, placed_asked, putting, step_by}
-use Rattle.model.specs.Laws.Placed.{step_placed}
+use Rattle.model.proofs.Laws.Placed.{Put, changed, changed_dated, changed_asked, put_at, placed, placed_asked, putting, step_by}
+use Rattle.model.proofs.Laws.Placed.{step_placed}
 use Rattle.form.specs.Load.{Loading, loaded}
 use Rattle.form.specs.Orders.{Order, Answered, order_by, CallersOrder}
 use Rattle.theorems.specs.TwoRuns.Alike.{Alike, AskedAlike, fifo_offset, given_by, host_given, fifo_given}

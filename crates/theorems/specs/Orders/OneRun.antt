@@ -6,7 +6,7 @@ use Prim.Native.Nat.{ℕ, ◌+◌}
 use mathlib.Core.List.{List, [], ◌∷◌, ◌++◌, map, flat_map}
 use Rattle.model.specs.State.{Uart}
 use Rattle.model.specs.Limits.{All, cons}
-use Rattle.model.specs.Laws.Lists.{all_head}
+use Rattle.model.proofs.Laws.Lists.{all_head}
 use Rattle.form.specs.Cells.{Cell}
 use Rattle.form.specs.Orders.{Answered, OrderStep, CallersOrder, order_step, run_orders}
 use Rattle.theorems.specs.TwoRuns.Renamed.{map_uart, itself, forget, map_take, map_answer}

@@ -3,7 +3,7 @@
 use Rattle.std.specs.Prelude.{ℕ, zero, suc, List, [], ◌∷◌, map}
 use Rattle.model.specs.State.{Uart}
 use Rattle.model.specs.Call.{Asked}
-use Rattle.model.specs.Laws.Placed.{Placed, step_placed}
+use Rattle.model.proofs.Laws.Placed.{Placed, step_placed}
 use Rattle.model.specs.Run.{asked_by}
 use Rattle.form.specs.Cells.{Cell}
 use Rattle.form.specs.Load.{Loading, loaded, refused}

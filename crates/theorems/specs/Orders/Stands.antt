@@ -4,9 +4,9 @@ use Rattle.std.proofs.Common.{sym, ap, subst, ◌∙◌}
 use Rattle.std.proofs.lemmas.List.{map-append}
 use Rattle.model.specs.State.{Uart}
 use Rattle.model.specs.Limits.{All, cons, Within}
-use Rattle.model.specs.Laws.Lists.{all_snoc}
-use Rattle.model.specs.Keeps.MapKept.{asked-placed}
-use Rattle.model.specs.Keeps.Runs.{asked-within}
+use Rattle.model.proofs.Laws.Lists.{all_snoc}
+use Rattle.model.proofs.Keeps.MapKept.{asked-placed}
+use Rattle.model.proofs.Keeps.Runs.{asked-within}
 use Rattle.model.specs.Widths.{Bytes, Widths, AskedGiven}
 use Rattle.theorems.specs.Keeps.Widths.{asked-widths}
 use Rattle.form.specs.Cells.{bytes_of}

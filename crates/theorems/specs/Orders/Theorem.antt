@@ -13,8 +13,8 @@ use Rattle.model.specs.Limits.{All}
 use Rattle.model.specs.Widths.{Word32}
 use Rattle.model.specs.Replies.{Take}
 use Rattle.model.specs.Call.{Asked, Ask, Answer}
-use Rattle.model.specs.Keeps.Runs.{new-within}
-use Rattle.model.specs.Ends.Passes.{apart}
+use Rattle.model.proofs.Keeps.Runs.{new-within}
+use Rattle.model.proofs.Ends.Passes.{apart}
 use Rattle.form.specs.Cells.{Cell}
 use Rattle.form.specs.Load.{Loading, loaded, refused}
 use Rattle.form.specs.Orders.{Order, Answered, loading, order_by, LoadOf, CallersOrder, Parked, order_step, run_orders}

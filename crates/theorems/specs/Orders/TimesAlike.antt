@@ -20,7 +20,8 @@ use Rattle.form.specs.Examples.{no-parts, no_bytes, no-parts-bytes}
 use Rattle.model.specs.Numbers.{choose}
 use Rattle.model.specs.Map.{register_of}
 use Rattle.model.specs.Tests.{repeated}
-use Rattle.model.specs.Unused.{takes_word, new-unused}
+use Rattle.model.specs.Unused.{takes_word}
+use Rattle.model.proofs.Unused.{new-unused}
 use Rattle.model.specs.Call.{Dated, Undated, Call, Request, Asked, Ask, given}
 use Rattle.theorems.specs.Orders.Renamed.{Saves, map_saves}
 use Rattle.theorems.specs.Orders.Agree.{OrdersAgree}

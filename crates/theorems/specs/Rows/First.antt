@@ -12,12 +12,12 @@ use Rattle.model.specs.Settle.{assert_levels, drive, int_status, settling_date, 
 use Rattle.model.specs.Arm.{last_gone, arm}
 use Rattle.model.specs.Registers.{Access, sent, dropped, send_byte, concluded}
 use Rattle.model.specs.Calls.{dated}
-use Rattle.model.specs.Laws.Plans.{settle_at}
-use Rattle.model.specs.Laws.Choose.{choose-ind}
-use Rattle.model.specs.Laws.Lists.{all_snoc}
+use Rattle.model.specs.Plans.{settle_at}
+use Rattle.model.proofs.Laws.Choose.{choose-ind}
+use Rattle.model.proofs.Laws.Lists.{all_snoc}
 use Rattle.model.specs.Limits.{Chain, flight_dates}
-use Rattle.model.specs.Keeps.Kept.{settle-keeps}
-use Rattle.model.specs.Ends.NothingDue.{NothingLeft, settle-nothing-left}
+use Rattle.model.proofs.Keeps.Kept.{settle-keeps}
+use Rattle.model.proofs.Ends.NothingDue.{NothingLeft, settle-nothing-left}
 use Rattle.theorems.specs.TwoSteps.Levels.{levels-dressed, levels-again}
 use Rattle.theorems.specs.Rows.Still.{Still}
 use Rattle.theorems.specs.Rows.Next.{joined, last_gone-joined, arm-again}

@@ -15,7 +15,7 @@ use Rattle.model.specs.Arm.{arm_all}
 use Rattle.model.specs.Limits.{All, nil, cons}
 use Rattle.theorems.specs.TwoSteps.Raises.{raises, raises-swap, raises-within}
 use Rattle.theorems.specs.TwoSteps.Levels.{empty-less}
-use Rattle.model.specs.ShutsOut.Wakes.{cycle_of, InTimeFor, arm_all-earliest}
+use Rattle.model.proofs.ShutsOut.Wakes.{cycle_of, InTimeFor, arm_all-earliest}
 use Rattle.model.specs.declared.Date.{Date}
 use Rattle.model.specs.declared.Date.TheVariants.{None, At}
 

@@ -21,10 +21,10 @@ use Rattle.model.specs.Tests.{date_end, transmit_full, refuse_if, refuse_date}
 use Rattle.model.specs.Calls.{Outcome, unless, after_settling, carried, outcome, send}
 use Rattle.model.specs.Row.{fifo_write}
 use Rattle.model.specs.Limits.{All, nil, cons, flight_dates, Fits}
-use Rattle.model.specs.Laws.Lists.{last_of, all_snoc}
-use Rattle.model.specs.Laws.Choose.{choose-true, choose-false}
-use Rattle.model.specs.Keeps.Access.{last_gone-last_of, sends-behind}
-use Rattle.model.specs.ShutsOut.Wakes.{cycle_of, InTimeFor}
+use Rattle.model.proofs.Laws.Lists.{last_of, all_snoc}
+use Rattle.model.proofs.Laws.Choose.{choose-true, choose-false}
+use Rattle.model.proofs.Keeps.Access.{last_gone-last_of, sends-behind}
+use Rattle.model.proofs.ShutsOut.Wakes.{cycle_of, InTimeFor}
 use Rattle.theorems.specs.Rows.Still.{Still, still-settles}
 use Rattle.theorems.specs.Rows.Levels.{more-flying, arm_all-again, arm_all-in-time, later-in-time, fourth-armed}
 use Rattle.model.specs.declared.Date.{Date}

@@ -17,11 +17,11 @@ use Rattle.model.specs.Calls.{Outcome, dated, refusing, unless, after_settling, 
 use Rattle.model.specs.Row.{row_limit, fifo_write, writes, summed}
 use Rattle.model.specs.Call.{Asked, Ask}
 use Rattle.model.specs.Limits.{All, nil, cons, Within}
-use Rattle.model.specs.Laws.Choose.{choose-ind}
-use Rattle.model.specs.Keeps.EachCall.{send-within}
-use Rattle.model.specs.Ends.NothingDue.{settle-passes, settle-nothing-left}
-use Rattle.model.specs.Ends.Settlings.{Settling, settles, settlings, Settles, call-settles}
-use Rattle.model.specs.Refuses.Exactly.{number-positive}
+use Rattle.model.proofs.Laws.Choose.{choose-ind}
+use Rattle.model.proofs.Keeps.EachCall.{send-within}
+use Rattle.model.proofs.Ends.NothingDue.{settle-passes, settle-nothing-left}
+use Rattle.model.proofs.Ends.Settlings.{Settling, settles, settlings, Settles, call-settles}
+use Rattle.model.proofs.Refuses.Exactly.{number-positive}
 use Rattle.model.specs.declared.Refusal.{Refusal}
 use Rattle.model.specs.declared.Write.{Write}
 

@@ -21,11 +21,11 @@ use Rattle.model.specs.Settle.{pass, found, ended, passes_from, pending, passes,
 use Rattle.model.specs.Settle.{settle_to, settle}
 use Rattle.model.specs.Arm.{arm}
 use Rattle.model.specs.Calls.{dated}
-use Rattle.model.specs.Laws.Plans.{settle_at}
-use Rattle.model.specs.Laws.Choose.{choose-true, choose-false}
+use Rattle.model.specs.Plans.{settle_at}
+use Rattle.model.proofs.Laws.Choose.{choose-true, choose-false}
 use Rattle.model.specs.Limits.{All, cons, flight_dates}
-use Rattle.model.specs.Ends.Passes.{After, LineQuiet}
-use Rattle.model.specs.Ends.NothingDue.{NothingLeft}
+use Rattle.model.proofs.Ends.Passes.{After, LineQuiet}
+use Rattle.model.proofs.Ends.NothingDue.{NothingLeft}
 use Rattle.model.specs.declared.Date.{Date}
 use Rattle.model.specs.declared.Date.TheVariants.{None, At}
 use Rattle.model.specs.declared.Settings.{Settings}

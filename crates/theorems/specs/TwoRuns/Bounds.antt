@@ -16,7 +16,7 @@ use Rattle.model.specs.Run.{Step, asked_by, run_by}
 use Rattle.theorems.specs.TwoRuns.Renamed.{itself, map_read_of, map_take, map_reply}
 use Rattle.theorems.specs.TwoRuns.Renamed.{map_answer}
 use Rattle.theorems.specs.TwoRuns.Alike.{given_by}
-use Rattle.model.specs.Laws.Placed.{Put, Placed, changed_asked, placed_asked, step_placed, run_placed}
+use Rattle.model.proofs.Laws.Placed.{Put, Placed, changed_asked, placed_asked, step_placed, run_placed}
 use Rattle.theorems.specs.TwoRuns.NaturalCalls.{map_put, map_placed, map_step}
 use Rattle.theorems.specs.TwoRuns.NaturalRuns.{map_asked, asked-nat}
 use Rattle.theorems.specs.TwoRuns.Numbering.{writes_of, changed-twice, put_of, written_of, up_from, numbered, numbered_asked, host_in}

@@ -4,20 +4,21 @@ use Rattle.std.proofs.Math.Path.{refl, sym, ap, ap₂}
 use Rattle.std.proofs.Common.{subst, ◌∙◌, suc-ne-zero, true≢false, ne_eqb}
 use Rattle.std.proofs.Math.Bool.{decide}
 use mathlib.Core.List.{List, [], ◌∷◌, ◌++◌, map, flat_map}
-use Rattle.model.specs.Laws.Choose.{choose-false}
+use Rattle.model.proofs.Laws.Choose.{choose-false}
 use Rattle.model.specs.State.{Uart}
 use Rattle.model.specs.Map.{is_fifo, register_of}
 use Rattle.model.specs.SetUp.{map_of, new}
 use Rattle.model.specs.Call.{Dated, Call, Request, given, Asked, Ask}
 use Rattle.model.specs.Run.{asked_by, run_by, asked, run}
-use Rattle.model.specs.Refuses.FifoPlace.{first-is-fifo}
+use Rattle.model.proofs.Refuses.FifoPlace.{first-is-fifo}
 use Rattle.theorems.specs.TwoRuns.Alike.{Each, Alike, AskedAlike, fifo_offset, given_by, host_given, fifo_given}
 use Rattle.theorems.specs.TwoRuns.Renamed.{itself, map_answer, with_bytes_of}
 use Rattle.theorems.specs.TwoRuns.Agree.{Agreeing}
 use Rattle.theorems.specs.TwoRuns.Numbered.{without_rest}
-use Rattle.model.specs.Keeps.MapKept.{asked-kept}
+use Rattle.model.proofs.Keeps.MapKept.{asked-kept}
 use Rattle.theorems.specs.TwoRuns.Theorem.{OneList, one_list, lists_agree}
-use Rattle.model.specs.Unused.{takes_word, SameInUse, step-unused, new-unused}
+use Rattle.model.specs.Unused.{takes_word, SameInUse}
+use Rattle.model.proofs.Unused.{step-unused, new-unused}
 
 -- two calls that are alike, or write any two words to a place that is not FIFO and takes none
 pub data AlikeInUse (offsets : List ℕ) : Request → Request → Type 0 where

@@ -19,8 +19,8 @@ use Rattle.model.specs.Arm.{nth_gone, last_gone, below_threshold_at, next_start,
 use Rattle.model.specs.declared.Fate.{Fate}
 use Rattle.model.specs.declared.Fate.TheVariants.{Stored, Overflowed, Cleared, ClockOff, Unheard}
 use Rattle.model.specs.declared.Settings.{Settings}
-use Rattle.model.specs.Laws.Choose.{choose-nat}
-use Rattle.model.specs.Laws.Lists.{map-take, map-drop}
+use Rattle.model.proofs.Laws.Choose.{choose-nat}
+use Rattle.model.proofs.Laws.Lists.{map-take, map-drop}
 
 -- events with other bytes
 unfoldable pub map_event : {H H' W W' : Type 0} → (H → H') → (W → W') → Event H W → Event H' W'

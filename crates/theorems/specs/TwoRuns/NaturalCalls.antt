@@ -25,14 +25,14 @@ use Rattle.model.specs.Run.{Step, stepped, replying, plan_by}
 use Rattle.theorems.specs.TwoRuns.Natural.{map_event, map_settled, found-nat, passes-in-nat, overflows-in-nat, bytes-nat}
 use Rattle.theorems.specs.TwoRuns.Natural.{last_gone-nat, pending-nat, levels-nat, settle-nat, arm-nat}
 use Rattle.theorems.specs.TwoRuns.Alike.{Each}
-use Rattle.model.specs.Laws.Placed.{Put, Placed, changed_dated, changed_undated, changed, putting, step_placed, step_by}
+use Rattle.model.proofs.Laws.Placed.{Put, Placed, changed_dated, changed_undated, changed, putting, step_placed, step_by}
 use Rattle.theorems.specs.TwoRuns.Renamed.{map_read_of, map_take, map_reply, map_answer, itself}
 use Rattle.model.specs.declared.Refusal.{Refusal}
 use Rattle.model.specs.declared.Unsupported.{Unsupported}
 use Rattle.model.specs.declared.Write.{Write}
 use Rattle.model.specs.declared.Done.{Done}
-use Rattle.model.specs.Laws.Choose.{choose-nat}
-use Rattle.model.specs.Laws.Lists.{map-take, map-drop}
+use Rattle.model.proofs.Laws.Choose.{choose-nat}
+use Rattle.model.proofs.Laws.Lists.{map-take, map-drop}
 
 unfoldable pub map_put : {W W' : Type 0} → (W → W') → Put W → Put W'
 map_put g (Put.byte b) = Put.byte (g b)

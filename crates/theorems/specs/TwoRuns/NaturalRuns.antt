@@ -15,11 +15,11 @@ use Rattle.model.specs.Calls.{Outcome, unless}
 use Rattle.model.specs.Row.{row_limit, notes_of, fifo_write, writes, left_by, summed, first_test, row}
 use Rattle.model.specs.Call.{Asked, rows}
 use Rattle.model.specs.Run.{answering, asked_by, run_by}
-use Rattle.model.specs.Laws.Choose.{choose-nat}
-use Rattle.model.specs.Laws.Lists.{map-take, flat_map-map}
+use Rattle.model.proofs.Laws.Choose.{choose-nat}
+use Rattle.model.proofs.Laws.Lists.{map-take, flat_map-map}
 use Rattle.theorems.specs.TwoRuns.Renamed.{map_uart, itself, map_reply, map_answer}
 use Rattle.theorems.specs.TwoRuns.Natural.{map_event}
-use Rattle.model.specs.Laws.Placed.{Put, Placed, putting, changed_asked, step_placed, run_placed}
+use Rattle.model.proofs.Laws.Placed.{Put, Placed, putting, changed_asked, step_placed, run_placed}
 use Rattle.theorems.specs.TwoRuns.NaturalCalls.{map_put, map_placed, map_step, map_outcome, unless-nat, outcome-nat, putting-nat}
 use Rattle.theorems.specs.TwoRuns.NaturalCalls.{step_placed-nat}
 use Rattle.model.specs.declared.Refusal.{Refusal}

@@ -11,11 +11,11 @@ use Rattle.std.proofs.Math.ListN.{length}
 use Rattle.std.proofs.Math.Seq.{drop-append_seam}
 use Rattle.model.specs.Numbers.{choose}
 use Rattle.model.specs.Map.{Register, is_fifo, register_among, register_of}
-use Rattle.model.specs.Laws.Choose.{choose-true, choose-false}
-use Rattle.model.specs.Laws.Lists.{flat_map-map}
-use Rattle.model.specs.Refuses.FifoPlace.{after_first}
+use Rattle.model.proofs.Laws.Choose.{choose-true, choose-false}
+use Rattle.model.proofs.Laws.Lists.{flat_map-map}
+use Rattle.model.proofs.Refuses.FifoPlace.{after_first}
 use Rattle.model.specs.Call.{Dated, Undated, Call, Written, Request, given, host_of, Asked, Ask}
-use Rattle.model.specs.Laws.Placed.{Put, Placed, changed_dated, changed_undated, changed, changed_asked, put_at, placed, placed_asked}
+use Rattle.model.proofs.Laws.Placed.{Put, Placed, changed_dated, changed_undated, changed, changed_asked, put_at, placed, placed_asked}
 use Rattle.theorems.specs.TwoRuns.Alike.{Each, Alike, same, host_bytes, fifo_word, lent_to_take_tx, lent_to_take_written, AskedAlike}
 use Rattle.theorems.specs.TwoRuns.Alike.{given_by, host_given, fifo_given}
 use Rattle.theorems.specs.TwoRuns.Renamed.{itself, forget}

@@ -13,14 +13,14 @@ use Rattle.model.specs.Map.{Register, same_register, register_of}
 use Rattle.model.specs.Registers.{source_notes, looks, pop, read_register, read_looking, read_at}
 use Rattle.model.specs.Tests.{refuse_date}
 use Rattle.model.specs.Calls.{Plan, refusing, unless, after_settling, carried, outcome, read_placed}
-use Rattle.model.specs.Laws.Plans.{settle_at}
+use Rattle.model.specs.Plans.{settle_at}
 use Rattle.model.specs.Call.{Dated, Undated, Call, date_of, Request, Asked, Ask, Reply, reads, writes, does, takes, left, pends}
 use Rattle.model.specs.Run.{Step, stepped, replying, plan_by, asked_by, run_by}
 use Rattle.model.specs.Run.{answering}
-use Rattle.model.specs.Laws.Plans.{replied}
-use Rattle.model.specs.Ends.Passes.{apart}
-use Rattle.model.specs.Laws.Placed.{changed_dated, changed_undated, changed, changed_asked, placed, placed_asked, step_placed, step_by}
-use Rattle.model.specs.Laws.Placed.{run_placed}
+use Rattle.model.proofs.Laws.Plans.{replied}
+use Rattle.model.proofs.Ends.Passes.{apart}
+use Rattle.model.proofs.Laws.Placed.{changed_dated, changed_undated, changed, changed_asked, placed, placed_asked, step_placed, step_by}
+use Rattle.model.proofs.Laws.Placed.{run_placed}
 use Rattle.theorems.specs.TwoRuns.Alike.{Each}
 use Rattle.theorems.specs.TwoRuns.Numbering.{host_in, written_in, other_place, fifo-place, numbered, numbered_asked, number}
 use Rattle.theorems.specs.TwoRuns.Numbered.{NotFifo, Shape, AskedShape}

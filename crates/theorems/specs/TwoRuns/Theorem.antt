@@ -18,13 +18,13 @@ use Rattle.theorems.specs.TwoRuns.Renamed.{map_take, map_reply, map_answer, with
 use Rattle.theorems.specs.TwoRuns.Agree.{Agree, Agreeing}
 use Rattle.theorems.specs.TwoRuns.Numbered.{Bare, bare_reply, without_rest, byte_read, bytes_read, bytes_sent, Below, EachBelow, Shape}
 use Rattle.theorems.specs.TwoRuns.Numbered.{AskedShape}
-use Rattle.model.specs.Laws.Placed.{Placed, placed_asked, run_placed}
-use Rattle.model.specs.Keeps.MapKept.{run-placed}
+use Rattle.model.proofs.Laws.Placed.{Placed, placed_asked, run_placed}
+use Rattle.model.proofs.Keeps.MapKept.{run-placed}
 use Rattle.theorems.specs.TwoRuns.NaturalRuns.{map_asked, run_placed-nat}
 use Rattle.theorems.specs.TwoRuns.Numbering.{number, host-placed, written-placed, asks_back, asks-alike}
 use Rattle.theorems.specs.TwoRuns.Bounds.{run-below}
 use Rattle.theorems.specs.TwoRuns.Shapes.{run-shape}
-use Rattle.model.specs.Ends.Passes.{apart}
+use Rattle.model.proofs.Ends.Passes.{apart}
 use Rattle.model.specs.declared.Report.{Report}
 use Rattle.model.specs.declared.Row.{Row}
 

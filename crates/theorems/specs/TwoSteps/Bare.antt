@@ -11,8 +11,8 @@ use Rattle.model.specs.Setters.{with_line_of}
 use Rattle.model.specs.Events.{Event, departure, timeout, landing, nothing}
 use Rattle.model.specs.Line.{after_date, timeout_at, start, fate}
 use Rattle.model.specs.Settle.{Pass, nothing_due, timed_out, landed, in_frame, begun, before_start, idle, line_free, pass_on, pass}
-use Rattle.model.specs.Laws.Choose.{choose-ind, choose-true, choose-false, choose-nat}
-use Rattle.model.specs.Ends.Passes.{apart, Takes, pass-law, time_out-free, land-free}
+use Rattle.model.proofs.Laws.Choose.{choose-ind, choose-true, choose-false, choose-nat}
+use Rattle.model.proofs.Ends.Passes.{apart, Takes, pass-law, time_out-free, land-free}
 use Rattle.theorems.specs.TwoSteps.Later.{Closed, closed-due, start-closed}
 use Rattle.model.specs.declared.Date.TheVariants.{None, At}
 use Rattle.model.specs.declared.Source.{Source}

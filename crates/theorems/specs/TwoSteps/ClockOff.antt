@@ -11,10 +11,10 @@ use Rattle.model.specs.Setters.{with_idle_since, with_line_free_at, with_line_of
 use Rattle.model.specs.Events.{Event}
 use Rattle.model.specs.Line.{after_date, timeout_at, time_out, start, fate, land}
 use Rattle.model.specs.Settle.{Pass, nothing_due, timed_out, landed, begun, pass, passes}
-use Rattle.model.specs.Laws.Choose.{choose-ind, choose-true, choose-false}
-use Rattle.model.specs.Laws.Cases.{KeptOnLine, pass-cases, passes-ind}
-use Rattle.model.specs.Ends.Passes.{After, time_out-closes}
-use Rattle.model.specs.Ends.Through.{Through, ends, goes, through, through-quiet}
+use Rattle.model.proofs.Laws.Choose.{choose-ind, choose-true, choose-false}
+use Rattle.model.proofs.Laws.Cases.{KeptOnLine, pass-cases, passes-ind}
+use Rattle.model.proofs.Ends.Passes.{After, time_out-closes}
+use Rattle.model.proofs.Ends.Through.{Through, ends, goes, through, through-quiet}
 use Rattle.theorems.specs.TwoSteps.Later.{due-later}
 use Rattle.theorems.specs.TwoSteps.Bare.{bare}
 use Rattle.theorems.specs.TwoSteps.Moves.{passes-bare}

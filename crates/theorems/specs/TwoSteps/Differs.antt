@@ -17,7 +17,7 @@ use Rattle.model.specs.Settle.{settling_date, levels, leveled, settings_of, sett
 use Rattle.model.specs.Tests.{among, repeated}
 use Rattle.model.specs.Limits.{nil, cons, empty, single, Within}
 use Rattle.theorems.specs.TwoSteps.Exception.{Exception}
-use Rattle.model.specs.Keeps.Parts.{is_heard}
+use Rattle.model.proofs.Keeps.Parts.{is_heard}
 use Rattle.model.specs.declared.Date.TheVariants.{None, At}
 use Rattle.model.specs.declared.Source.{Source}
 use Rattle.model.specs.declared.Words.{Words}

@@ -12,8 +12,8 @@ use Rattle.model.specs.Events.{Event}
 use Rattle.model.specs.Line.{raise_if, note_source, opened, timeout_at, time_out, start, land}
 use Rattle.model.specs.Settle.{Pass, nothing_due, timed_out, landed, in_frame, begun, before_start, idle, line_free, pass_on}
 use Rattle.model.specs.Settle.{pass, passes}
-use Rattle.model.specs.Laws.Choose.{choose-nat}
-use Rattle.model.specs.Ends.Through.{Through, ends, goes, through, passes-are}
+use Rattle.model.proofs.Laws.Choose.{choose-nat}
+use Rattle.model.proofs.Ends.Through.{Through, ends, goes, through, passes-are}
 use Rattle.model.specs.declared.Line.{Line}
 use Rattle.model.specs.declared.Frame.{Frame}
 use Rattle.model.specs.declared.Settings.{Settings}

@@ -15,10 +15,10 @@ use Rattle.model.specs.State.{Run, OnTheLine, Uart, line_of}
 use Rattle.model.specs.Events.{Event, goes_on}
 use Rattle.model.specs.Line.{note_source, after_date, timeout_at, start}
 use Rattle.model.specs.Settle.{Pass, nothing_due, timed_out, landed, in_frame, begun, before_start, idle, line_free, pass_on, pass, passes}
-use Rattle.model.specs.Laws.Choose.{choose-ind, choose-true, choose-false}
-use Rattle.model.specs.Laws.Cases.{KeptOnLine, pass-ind}
-use Rattle.model.specs.Ends.Passes.{apart, time_out-closes}
-use Rattle.model.specs.Ends.Through.{Through, ends, goes, through, passes-are, passes_go}
+use Rattle.model.proofs.Laws.Choose.{choose-ind, choose-true, choose-false}
+use Rattle.model.proofs.Laws.Cases.{KeptOnLine, pass-ind}
+use Rattle.model.proofs.Ends.Passes.{apart, time_out-closes}
+use Rattle.model.proofs.Ends.Through.{Through, ends, goes, through, passes-are, passes_go}
 use Rattle.model.specs.declared.Date.{Date}
 use Rattle.model.specs.declared.Date.TheVariants.{None, At}
 use Rattle.model.specs.declared.Line.{Line}

@@ -7,7 +7,7 @@ use Rattle.std.proofs.lemmas.Bool.{false≢true}
 use Rattle.model.specs.State.{Uart, line_of}
 use Rattle.model.specs.Events.{Event, departure, timeout, landing, nothing, goes_on, landings_in}
 use Rattle.model.specs.Settle.{Pass, pass, passes}
-use Rattle.model.specs.Ends.Through.{Through, ends, goes, through}
+use Rattle.model.proofs.Ends.Through.{Through, ends, goes, through}
 use Rattle.theorems.specs.TwoSteps.Later.{start-closed, Follows, pass-later}
 use Rattle.theorems.specs.TwoSteps.Bare.{bare, bare_pass, move, MovedTo, Moved, pass-moves, as-bare}
 use Rattle.model.specs.declared.Settings.{Settings}

@@ -7,7 +7,7 @@ use Rattle.std.proofs.Math.Arith.{bin_ind}
 use Rattle.std.specs.Int.Bits.{bit_or, or_step, or_self}
 use Rattle.std.proofs.lemmas.Nat.{or_comm, or_shr}
 use Rattle.model.specs.Numbers.{choose}
-use Rattle.model.specs.Laws.Choose.{choose-nat}
+use Rattle.model.proofs.Laws.Choose.{choose-nat}
 
 -- ---- the or of words
 

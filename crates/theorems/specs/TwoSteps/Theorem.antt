@@ -15,8 +15,8 @@ use Rattle.model.specs.Line.{raise_if}
 use Rattle.model.specs.Settle.{depart, departures, passes, assert_levels, drive, settling_date, levels, leveled}
 use Rattle.model.specs.Settle.{settings_of, settle_to, settle}
 use Rattle.model.specs.Limits.{Within}
-use Rattle.model.specs.Laws.Events.{landings-append, lost_in, overflows-append, overflows-land, departures-land}
-use Rattle.model.specs.Keeps.Kept.{settle-keeps}
+use Rattle.model.proofs.Laws.Events.{landings-append, lost_in, overflows-append, overflows-land, departures-land}
+use Rattle.model.proofs.Keeps.Kept.{settle-keeps}
 use Rattle.theorems.specs.TwoSteps.Departures.{departures-twice}
 use Rattle.theorems.specs.TwoSteps.Bare.{bare}
 use Rattle.theorems.specs.TwoSteps.Moves.{passes-bare}

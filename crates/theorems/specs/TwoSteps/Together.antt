@@ -13,11 +13,11 @@ use Rattle.model.specs.Timing.{settings}
 use Rattle.model.specs.Line.{TX-DONE, raise_if}
 use Rattle.model.specs.Settle.{gone, tx_done, leave, depart, departures, pass, passes}
 use Rattle.model.specs.Settle.{assert_levels, drive, levels, leveled, settings_of, settle_to}
-use Rattle.model.specs.Laws.Choose.{choose-nat}
-use Rattle.model.specs.Laws.Cases.{passes_on}
-use Rattle.model.specs.Ends.Passes.{Kept}
-use Rattle.model.specs.Ends.Through.{through, through-kept}
-use Rattle.model.specs.ShutsOut.Landings.{pass-grows}
+use Rattle.model.proofs.Laws.Choose.{choose-nat}
+use Rattle.model.proofs.Laws.Cases.{passes_on}
+use Rattle.model.proofs.Ends.Passes.{Kept}
+use Rattle.model.proofs.Ends.Through.{through, through-kept}
+use Rattle.model.proofs.ShutsOut.Landings.{pass-grows}
 use Rattle.theorems.specs.TwoSteps.Dressed.{dressed, passes-dressed}
 use Rattle.theorems.specs.TwoSteps.Departures.{departing, depart-dressed, depart-twice}
 use Rattle.theorems.specs.TwoSteps.Levels.{leveling, levels-dressed, levels-again}

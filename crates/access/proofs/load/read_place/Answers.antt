@@ -6,7 +6,7 @@ use mathlib.Core.List.{[], ◌∷◌}
 use Prim.Native.Nat.{◌≤◌}
 use borrow.Enum.Refused.{opened}
 use Rattle.model.specs.Map.{is_fifo}
-use Rattle.model.specs.Laws.Choose.{choose-ind}
+use Rattle.model.proofs.Laws.Choose.{choose-ind}
 use Rattle.queue.specs.Cursors.{Held}
 use Rattle.device.specs.declared.Core.{Core}
 use Rattle.registers.specs.Places.{register_at}

@@ -5,8 +5,8 @@ use Rattle.model.specs.Registers.{read_at}
 use Rattle.model.specs.Calls.{after_settling, read_placed}
 use Rattle.model.specs.Calls
 use Rattle.model.specs.Replies.{refused, as_read, read_number}
-use Rattle.model.specs.Keeps.EachCall.{read-within}
-use Rattle.model.specs.Refuses.Carried.{looking-proper}
+use Rattle.model.proofs.Keeps.EachCall.{read-within}
+use Rattle.model.proofs.Refuses.Carried.{looking-proper}
 use Rattle.replies.specs.Calls.{read-tests}
 use Rattle.replies.specs.Refusals.{dates_only}
 use Rattle.calls.specs.Answers.{carried, turned-away, passes, refuses, in-time}

@@ -1,6 +1,6 @@
 -- `row::over` meets its contract, by the tests. Assumes nothing.
 use mathlib.Core.Path.{sym, ◌∙◌}
-use Rattle.model.specs.Laws.Choose.{choose-true, choose-false}
+use Rattle.model.proofs.Laws.Choose.{choose-true, choose-false}
 use Rattle.access.specs.RowParts.{over_of}
 use Rattle.access.proofs.row.over.Goals as goal
 

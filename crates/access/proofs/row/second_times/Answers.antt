@@ -1,6 +1,6 @@
 -- `row::second_times` meets its contract, by cases on what is told of. Assumes nothing.
 use mathlib.Core.Path.{sym, ◌∙◌}
-use Rattle.model.specs.Ends.Passes.{apart}
+use Rattle.model.proofs.Ends.Passes.{apart}
 use Rattle.access.specs.Row.{times_none, times-some}
 use Rattle.access.proofs.row.second_times.Goals as goal
 

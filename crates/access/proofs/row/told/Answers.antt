@@ -1,7 +1,7 @@
 -- `row::told` meets its contract, by the test. Assumes nothing.
 use mathlib.Core.Path.{sym}
 use borrow.Author.Tests.{lt-ltb, le-ltb}
-use Rattle.model.specs.Laws.Choose.{choose-true, choose-false}
+use Rattle.model.proofs.Laws.Choose.{choose-true, choose-false}
 use Rattle.access.proofs.row.told.Goals as goal
 
 pub returns-then-sent-gt0 : goal.returns-then-sent-gt0

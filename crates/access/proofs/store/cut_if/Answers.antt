@@ -1,6 +1,6 @@
 -- `store::cut_if` meets its contract, by the test. Assumes nothing.
 use mathlib.Core.Path.{sym, ◌∙◌}
-use Rattle.model.specs.Laws.Choose.{choose-true, choose-false}
+use Rattle.model.proofs.Laws.Choose.{choose-true, choose-false}
 use Rattle.access.proofs.store.cut_if.Goals as goal
 
 pub returns-then-yes : goal.returns-then-yes

@@ -1,6 +1,6 @@
 -- `words::blank_word` meets its contract. Assumes nothing.
 use mathlib.Core.Path.{sym, ap, ◌∙◌}
-use Rattle.model.specs.Laws.Choose.{choose-true, choose-false}
+use Rattle.model.proofs.Laws.Choose.{choose-true, choose-false}
 use Rattle.model.specs.Unused.{takes_word}
 use Rattle.theorems.specs.Blanked.{blank_word}
 use Rattle.blanking.proofs.words.blank_word.Goals as goal

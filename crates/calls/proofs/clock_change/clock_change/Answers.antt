@@ -2,13 +2,13 @@
 use mathlib.Core.Option.{none}
 use Rattle.model.specs.Calls.{machine}
 use Rattle.model.specs.Call.{Machine}
-use Rattle.model.specs.Keeps.EachCall.{clock_change-within}
+use Rattle.model.proofs.Keeps.EachCall.{clock_change-within}
 use Rattle.replies.specs.Calls.{clock-tests}
 use Rattle.replies.specs.Refusals.{clocking}
 use Rattle.calls.specs.Answers.{passes, refuses, in-time}
 use Rattle.calls.specs.Done.{done-carried, done_refused, clock-zero}
 use borrow.Author.Tests.{ltb-false}
-use Rattle.model.specs.Keeps.Dated.{not-refused}
+use Rattle.model.proofs.Keeps.Dated.{not-refused}
 use Rattle.calls.proofs.clock_change.clock_change.Goals as goal
 
 pub enum_known-tests : goal.enum_known-tests

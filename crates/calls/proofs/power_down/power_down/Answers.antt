@@ -2,7 +2,7 @@
 use mathlib.Core.Path.{refl}
 use Rattle.model.specs.Calls.{dated, machine}
 use Rattle.model.specs.Call.{Machine}
-use Rattle.model.specs.Keeps.EachCall.{power_down-within}
+use Rattle.model.proofs.Keeps.EachCall.{power_down-within}
 use Rattle.replies.specs.Calls.{power-down-tests}
 use Rattle.calls.specs.Answers.{passes, refuses}
 use Rattle.calls.specs.Changes.{shape_of}

@@ -2,7 +2,7 @@
 use mathlib.Core.Option.{none}
 use Rattle.model.specs.Calls.{machine}
 use Rattle.model.specs.Call.{Machine}
-use Rattle.model.specs.Keeps.EachCall.{reset-within}
+use Rattle.model.proofs.Keeps.EachCall.{reset-within}
 use Rattle.replies.specs.Calls.{reset-tests}
 use Rattle.replies.specs.Refusals.{dates_only}
 use Rattle.calls.specs.Answers.{passes, refuses, in-time}

@@ -2,7 +2,7 @@
 use mathlib.Core.Path.{refl}
 use Rattle.model.specs.Calls.{dated, machine}
 use Rattle.model.specs.Call.{Machine}
-use Rattle.model.specs.Keeps.EachCall.{watch-within}
+use Rattle.model.proofs.Keeps.EachCall.{watch-within}
 use Rattle.replies.specs.Calls.{watch-tests}
 use Rattle.calls.specs.Answers.{passes, refuses}
 use Rattle.calls.specs.Changes.{ready, shape_of}

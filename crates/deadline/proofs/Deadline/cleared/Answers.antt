@@ -2,7 +2,7 @@
 use mathlib.Core.Path.{ap, sym, ◌∙◌}
 use Rattle.model.specs.Arm.{called}
 use Rattle.model.specs.declared.Date.{Date}
-use Rattle.model.specs.ShutsOut.Wakes.{called-due, called-before}
+use Rattle.model.proofs.ShutsOut.Wakes.{called-due, called-before}
 use Rattle.deadline.specs.Laws.{called-none}
 use Rattle.deadline.specs.declared.Deadline.{Deadline}
 use Rattle.deadline.proofs.Deadline.cleared.Goals as goal

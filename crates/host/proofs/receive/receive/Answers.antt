@@ -1,6 +1,6 @@
 -- `receive::receive` meets its contract: refused as the tests say, or carried out. Assumes nothing.
 use Rattle.model.specs.Calls.{receive}
-use Rattle.model.specs.Keeps.EachCall.{receive-within}
+use Rattle.model.proofs.Keeps.EachCall.{receive-within}
 use Rattle.calls.specs.Answers.{passes, refuses}
 use Rattle.calls.specs.Done.{done-carried, done_refused, receive-zero}
 use Rattle.host.specs.Receives.{receive-checks, left-room}

@@ -1,8 +1,8 @@
 -- `take_tx::take_tx` meets its contract: refused as the tests say, or carried out. Assumes nothing.
 use mathlib.Core.Option.{none}
 use borrow.Author.Tests.{ltb-false}
-use Rattle.model.specs.Keeps.Dated.{not-refused}
-use Rattle.model.specs.Keeps.EachCall.{take_tx-within}
+use Rattle.model.proofs.Keeps.Dated.{not-refused}
+use Rattle.model.proofs.Keeps.EachCall.{take_tx-within}
 use Rattle.replies.specs.Refusals.{taking_tx, taking_written}
 use Rattle.replies.specs.Calls.{take-tests}
 use Rattle.calls.specs.Answers.{passes, refuses, in-time}

@@ -2,10 +2,10 @@
 use mathlib.Core.Path.{refl}
 use mathlib.Core.Option.{none}
 use borrow.Author.Tests.{ltb-false}
-use Rattle.model.specs.Keeps.Dated.{not-refused}
+use Rattle.model.proofs.Keeps.Dated.{not-refused}
 use Rattle.model.specs.Replies.{taken_number}
 use Rattle.model.specs.Calls.{carried, quiet, filled, take_written}
-use Rattle.model.specs.Keeps.EachCall.{take_written-within}
+use Rattle.model.proofs.Keeps.EachCall.{take_written-within}
 use Rattle.replies.specs.Refusals.{taking_written}
 use Rattle.replies.specs.Calls.{written-tests}
 use Rattle.calls.specs.Answers.{passes, refuses}

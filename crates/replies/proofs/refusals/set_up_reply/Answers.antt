@@ -1,6 +1,6 @@
 -- `refusals::set_up_reply` meets its contract. Assumes nothing.
 use mathlib.Core.Path.{sym, ◌∙◌}
-use Rattle.model.specs.Laws.Choose.{choose-true, choose-false}
+use Rattle.model.proofs.Laws.Choose.{choose-true, choose-false}
 use Rattle.model.specs.SetUp.{set_up_reply}
 use Rattle.replies.proofs.refusals.set_up_reply.Goals as goal
 

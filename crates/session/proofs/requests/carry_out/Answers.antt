@@ -7,7 +7,7 @@ use lib.Dec.{eqb}
 use lib.ListN.{take, drop, get_or}
 use Rattle.trace.specs.Low.{low_of}
 use Rattle.model.specs.Call.{Machine, Dated, Call, Asked, reads, writes, does}
-use Rattle.model.specs.Laws.StepCases.{step-cases}
+use Rattle.model.proofs.Laws.StepCases.{step-cases}
 use Rattle.uart.specs.Whole.{meaning}
 use Rattle.answers.specs.Replies.{read_text, write_text, done_text}
 use Rattle.trace.specs.Pairs.{firsts_in, seconds_in}

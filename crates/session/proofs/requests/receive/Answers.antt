@@ -4,7 +4,7 @@ use mathlib.Core.Option.{some}
 use mathlib.Core.List.{List, []}
 use Prim.Native.Nat.{ℕ}
 use Rattle.model.specs.Call.{Dated, Call, Asked, does}
-use Rattle.model.specs.Laws.StepCases.{step-cases}
+use Rattle.model.proofs.Laws.StepCases.{step-cases}
 use Rattle.uart.specs.Whole.{meaning}
 use Rattle.answers.specs.Replies.{done_text}
 use Rattle.session.specs.Requests.{calls}

@@ -1,7 +1,7 @@
 -- `source::source_period` meets its contract, by the test on SCLK_SEL. Assumes nothing.
 use mathlib.Core.Path.{sym, ◌∙◌}
 use borrow.Author.Tests.{eq-eqb, ne_eqb}
-use Rattle.model.specs.Laws.Choose.{choose-true, choose-false}
+use Rattle.model.proofs.Laws.Choose.{choose-true, choose-false}
 use Rattle.model.specs.Timing.{source_period}
 use Rattle.timing.proofs.source.source_period.Goals as goal
 

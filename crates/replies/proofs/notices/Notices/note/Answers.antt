@@ -3,7 +3,7 @@ use mathlib.Core.Path.{sym}
 use native.Mathlib.Omega.{arith}
 use borrow.Author.Tests.{lt-ltb, le-ltb}
 use Rattle.model.specs.Replies.{notice_places}
-use Rattle.model.specs.Laws.Choose.{choose-true, choose-false}
+use Rattle.model.proofs.Laws.Choose.{choose-true, choose-false}
 use Rattle.replies.specs.Notices.{added}
 use Rattle.replies.proofs.notices.Notices.note.Goals as goal
 

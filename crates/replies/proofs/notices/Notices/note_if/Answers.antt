@@ -1,6 +1,6 @@
 -- `notices::Notices::note_if` meets its contract, by its test. Assumes nothing.
 use mathlib.Core.Path.{sym, ◌∙◌}
-use Rattle.model.specs.Laws.Choose.{choose-true, choose-false}
+use Rattle.model.proofs.Laws.Choose.{choose-true, choose-false}
 use Rattle.replies.specs.Notices.{added_if}
 use Rattle.replies.proofs.notices.Notices.note_if.Goals as goal
 
