@@ -1,0 +1,12 @@
+-- `marks::frame_source` meets its contract, by its cases. Assumes nothing.
+use Rattle.device.specs.Holds.{on_the_line}
+use borrow.Author.Rules.{rules}
+use Rattle.park.proofs.marks.frame_source.Goals as goal
+
+pub returns-in-None : goal.returns-in-None
+unfolding on_the_line
+returns-in-None c = search rules
+
+pub returns-in-OnTheLine : goal.returns-in-OnTheLine
+unfolding on_the_line
+returns-in-OnTheLine c = search rules

@@ -1,0 +1,12 @@
+-- `marks::instant` meets its contract, by its cases. Assumes nothing.
+use Rattle.model.specs.Numbers.{instant_of}
+use borrow.Author.Rules.{rules}
+use Rattle.park.proofs.marks.instant.Goals as goal
+
+pub returns-in-None : goal.returns-in-None
+unfolding instant_of
+returns-in-None c = search rules
+
+pub returns-in-At : goal.returns-in-At
+unfolding instant_of
+returns-in-At c = search rules
