@@ -6,7 +6,7 @@ use Rattle.model.specs.Call.{Request, Asked, Reply, rows}
 use Rattle.form.specs.Cells.{Cell}
 use Rattle.form.specs.Orders.{Order, Answered, LoadOf, CallersOrder, Parked, order_step}
 use Rattle.theorems.specs.TwoRuns.Alike.{fifo_offset}
-use Rattle.theorems.specs.TwoRuns.Agree.{Agree}
+use Rattle.theorems.specs.TwoRuns.AgreeBy.{AgreeBy}
 use Rattle.theorems.specs.Orders.Renamed.{map_cell}
 use Rattle.theorems.specs.Orders.Alike.{order_host, order_written}
 use Rattle.model.specs.declared.Report.{Report}
@@ -22,10 +22,10 @@ CellBelow h w (Cell.written n) = n < w
 
 -- what a number stands for: f and g look up a host byte and a written one of the first list, f' and g' of the second
 module _ (f f' g g' : ℕ → ℕ) where
-  -- where the map has these offsets, and h host bytes and w written ones have been given. A call's answer agrees as in Agree, a row's is
+  -- where the map has these offsets, and h host bytes and w written ones have been given. A call's answer agrees as in AgreeBy, a row's is
   -- the same, and so is a load's. Saved bytes are one list of cells, of which each byte has the same number in both and all else is equal
   pub data OrderAgree (offsets : List ℕ) (h w : ℕ) : CallersOrder → Answered ℕ ℕ ℕ → Answered ℕ ℕ ℕ → Type 0 where
-    call : {c : Request} {r : Report} {x y : Reply ℕ ℕ ℕ} → Agree (fifo_offset offsets) f f' g g' h w r c x y
+    call : {c : Request} {r : Report} {x y : Reply ℕ ℕ ℕ} → AgreeBy (fifo_offset offsets) f f' g g' h w r c x y
         → OrderAgree offsets h w (Order.ask (Asked.call c)) (Answered.answers (record { reply = x; report = r }))
         (Answered.answers (record { reply = y; report = r }))
     row : {now : ℕ} {bs : List ℕ} {r : Report} {x : Row} → OrderAgree offsets h w (Order.ask (Asked.row now bs))

@@ -12,32 +12,29 @@ use Rattle.model.specs.declared.Source.{Source}
 use Rattle.model.specs.declared.Taken.{Taken}
 use Rattle.model.specs.declared.Unsupported.TheVariants.{UartEmptyRead, UartReceiveClock}
 
--- what a number stands for: f and g look up a host byte and a written one of the first list, f' and g' of the second
-module _ (fifo : ℕ) (f f' g g' : ℕ → ℕ) where
-  -- the replies of two lists to a call with which h host bytes and w FIFO writes have been given; their report is
+module _ (fifo : ℕ) (cs ds : List Ask) where
+  -- the replies of two lists, cs and ds, to a call with which h host bytes and w FIFO writes have been given; their report is
   -- one and the same. They differ at most in the byte that a read of FIFO gives and in the bytes handed out as sent, which have the same
   -- numbers in both, and in what was lent. A read of FIFO notes a mistimed reception where there was one, and then UartEmptyRead where it
   -- gives 0
   pub data Agree (h w : ℕ) (r : Report) : Request → Reply ℕ ℕ ℕ → Reply ℕ ℕ ℕ → Type 0 where
     fifo_byte : {now n : ℕ} (s : Source) → Notes r (source_notes UartReceiveClock s) → n < h
-        → Agree h w r (Call.at now (Dated.read fifo)) (reads (byte (f n))) (reads (byte (f' n)))
+        → Agree h w r (Call.at now (Dated.read fifo)) (reads (byte (host_byte cs n))) (reads (byte (host_byte ds n)))
     fifo_empty : {now : ℕ} (s : Source) → Notes r (source_notes UartReceiveClock s ++ (UartEmptyRead ∷ []))
         → Agree h w r (Call.at now (Dated.read fifo)) (reads (word 0)) (reads (word 0))
     fifo_refused : {now : ℕ} {x : Refusal} → Agree h w r (Call.at now (Dated.read fifo)) (reads (refused x)) (reads (refused x))
     handed_out : {c : Request} {t : Taken} {ns : List ℕ} {rest rest' : List ℕ} → ((now : ℕ) → ¬ (c ≡ Call.at now (Dated.read fifo)))
         → All (λ n. n < w) ns → length rest ≡ length rest'
-        → Agree h w r c (takes (record { taken = t; front = map g ns; rest = rest }))
-        (takes (record { taken = t; front = map g' ns; rest = rest' }))
+        → Agree h w r c (takes (record { taken = t; front = map (write_byte fifo cs) ns; rest = rest }))
+        (takes (record { taken = t; front = map (write_byte fifo ds) ns; rest = rest' }))
     no_byte : {c : Request} {x : Reply ℕ ℕ ℕ} → ((now : ℕ) → ¬ (c ≡ Call.at now (Dated.read fifo))) → ((b : ℕ) → ¬ (x ≡ reads (byte b)))
         → ((t : Take ℕ ℕ) → ¬ (x ≡ takes t)) → Agree h w r c x x
 
-module _ (fifo : ℕ) (cs ds : List Ask) where
   -- one by one, h host bytes and w FIFO writes having been given before; a row is as many writes as it has bytes, and is answered alike
   pub data Agreeing : ℕ → ℕ → List Ask → List (Answer ℕ ℕ ℕ) → List (Answer ℕ ℕ ℕ) → Type 0 where
     nil : {h w : ℕ} → Agreeing h w [] [] []
     call : {h w : ℕ} {c : Request} {rest : List Ask} {r : Report} {x y : Reply ℕ ℕ ℕ} {s t : List (Answer ℕ ℕ ℕ)}
-        → Agree fifo (host_byte cs) (host_byte ds) (write_byte fifo cs) (write_byte fifo ds) (h + length (host_of c))
-        (w + length (fifo_bytes_of fifo c)) r c x y
+        → Agree (h + length (host_of c)) (w + length (fifo_bytes_of fifo c)) r c x y
         → Agreeing (h + length (host_of c)) (w + length (fifo_bytes_of fifo c)) rest s t
         → Agreeing h w (Asked.call c ∷ rest) (record { reply = x; report = r } ∷ s) (record { reply = y; report = r } ∷ t)
     row : {h w now : ℕ} {bs : List ℕ} {rest : List Ask} {r : Report} {x : Row} {s t : List (Answer ℕ ℕ ℕ)}
