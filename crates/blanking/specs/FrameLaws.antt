@@ -6,7 +6,7 @@ use Rattle.std.proofs.Math.ListN.{length}
 use Rattle.std.proofs.Math.Seq.{take_all}
 use Rattle.trace.specs.Pairs.{firsts_in, seconds_in, Kept}
 use Rattle.figures.specs.Figures.{figures_of}
-use Rattle.figures.specs.Exactly.{Unfit, refused-exactly, first-decide, Result, result}
+use Rattle.figures.proofs.Exactly.{Unfit, refused-exactly, first-decide, Result, result}
 use Rattle.figures.specs.declared.report.Figures.{Figures}
 use Rattle.figures.specs.declared.report.LineFigures.{LineFigures}
 use Rattle.blanking.specs.Entries.{number, pairs, blank_starts, blank_ends}

@@ -22,6 +22,10 @@ pub record Field : Type 0 where
   pub width : ℕ
   pub value : ℕ
 
+-- a number of one width
+abbrev pub of_width : ℕ → ℕ → Field
+of_width w n = record { width = w; value = n }
+
 -- the low byte first
 unfoldable pub low_first : ℕ → ℕ → List ℕ
 low_first zero n = []

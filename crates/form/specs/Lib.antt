@@ -5,6 +5,4 @@ pub mod Read
 pub mod Tests
 pub mod Load
 pub mod Orders
-pub mod Laws
-pub mod Parked
 pub mod Examples

@@ -21,8 +21,8 @@ use Rattle.form.specs.Cells.{Cell, bytes_of, Field, field_bytes}
 use Rattle.form.specs.Form.{short, long, frame_mark, frame_source, map_fields, word_fields, date_and_mark_fields, run_fields}
 use Rattle.form.specs.Form.{parts_of, head_length, form}
 use Rattle.form.specs.Load.{save, saved}
-use Rattle.form.specs.Laws.Lengths.{map-long, words_long, dates-long, runs-long, form-long}
-use Rattle.form.specs.Laws.Parts.{laid_bytes, numbers-bytes, host-bytes, written-bytes, laid-bytes}
+use Rattle.form.proofs.Laws.Lengths.{map-long, words_long, dates-long, runs-long, form-long}
+use Rattle.form.proofs.Laws.Parts.{laid_bytes, numbers-bytes, host-bytes, written-bytes, laid-bytes}
 use Rattle.park.specs.Puts.{Puts, puts-front}
 use Rattle.park.specs.Fields.{control_fields, line_marked, line_fields, fields-both}
 use Rattle.park.specs.Rings.{line_count, line-count}

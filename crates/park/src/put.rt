@@ -1,7 +1,7 @@
 // Numbers put into a lent buffer, the low byte first. Each function gives the place behind what it put.
 ghost use Rattle.std.specs.Prelude.{◌+◌, ◌*◌, ◌≤◌, map, length};
 ghost use Rattle.form.specs.Cells.{low_first, field_bytes};
-ghost use Rattle.form.specs.Laws.Numbers.{of_width};
+ghost use Rattle.form.specs.Cells.{of_width};
 ghost use Rattle.park.specs.Puts.{Puts};
 
 // The low `width` bytes of a number.

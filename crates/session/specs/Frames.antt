@@ -3,7 +3,7 @@ use Rattle.std.specs.Prelude.{◌≡◌, List, ℕ, ◌-◌, take, drop}
 use Rattle.std.proofs.Common.{ap, ap₂, ◌∙◌, arith}
 use Rattle.trace.specs.Pairs.{firsts_in, seconds_in, Kept}
 use Rattle.figures.specs.Figures.{figures_of}
-use Rattle.figures.specs.Exactly.{first-decide}
+use Rattle.figures.proofs.Exactly.{first-decide}
 
 pub kept-figures : {s starts ends : List ℕ} {n : ℕ} → Kept s starts ends n
     → figures_of (take (n - 0) (drop 0 starts)) (take (n - 0) (drop 0 ends)) ≡ figures_of (firsts_in s) (seconds_in s)

@@ -5,8 +5,8 @@ use Rattle.std.proofs.lemmas.List.{map-append}
 use Rattle.model.specs.State.{Uart, line_bytes}
 use Rattle.form.specs.Cells.{bytes_of}
 use Rattle.form.specs.Form.{form}
-use Rattle.form.specs.Laws.Parts.{laid_bytes}
-use Rattle.form.specs.Laws.Back.{seven, form-bytes}
+use Rattle.form.proofs.Laws.Parts.{laid_bytes}
+use Rattle.form.proofs.Laws.Back.{seven, form-bytes}
 use Rattle.theorems.specs.Blanked.{blank_byte}
 use Rattle.theorems.specs.TwoRuns.NaturalCalls.{written-nat}
 use Rattle.theorems.specs.Orders.Natural.{line-nat, dates-nat}

@@ -16,8 +16,8 @@ use Rattle.form.specs.Form.{frame_mark, frame_source, short, head_length, map_fi
 use Rattle.form.specs.Form.{pairs_from, parts_of, laid_out, form}
 use Rattle.form.specs.Load.{Loading, loaded, refused, saved}
 use Rattle.form.specs.Orders.{Order, Answered, kept_by, loading, order_by}
-use Rattle.form.specs.Laws.Parts.{pairs-mapped, joined-mapped}
-use Rattle.form.specs.Laws.Saves.{saved-is}
+use Rattle.form.proofs.Laws.Parts.{pairs-mapped, joined-mapped}
+use Rattle.form.proofs.Laws.Saves.{saved-is}
 use Rattle.theorems.specs.TwoRuns.Renamed.{map_sent, map_receiving, map_uart, map_take}
 use Rattle.theorems.specs.TwoRuns.NaturalCalls.{map_step, written-nat, filled-nat, not_taken-nat}
 use Rattle.theorems.specs.TwoRuns.NaturalRuns.{asked-nat}

@@ -15,7 +15,7 @@ use Rattle.form.specs.Load.{Loading, loaded, refused, load, saved}
 use Rattle.form.specs.Orders.{Order, Answered, OrderStep, kept_by, loading, order_by, LoadOf, CallersOrder, Parked}
 use Rattle.form.specs.Orders.{find_bytes, order_step}
 use Rattle.form.specs.Examples.{no_bytes}
-use Rattle.form.specs.Parked.{saved-loads, loaded-is-form}
+use Rattle.form.proofs.Parked.{saved-loads, loaded-is-form}
 use Rattle.theorems.specs.Orders.Renamed.{nth_save, find_state, Saves, placed_step}
 use Rattle.theorems.specs.Orders.Numbering.{placed_order}
 use Rattle.model.specs.declared.Taken.{Taken}

@@ -15,7 +15,7 @@ use Rattle.form.specs.Cells.{bytes_of}
 use Rattle.form.specs.Form.{form}
 use Rattle.form.specs.Load.{Loading, loaded, refused, load}
 use Rattle.form.specs.Orders.{Order, LoadOf, CallersOrder, Parked, order_step, run_orders}
-use Rattle.form.specs.Laws.Bytes.{form-is-bytes}
+use Rattle.form.proofs.Laws.Bytes.{form-is-bytes}
 use Rattle.form.specs.Examples.{no-parts, no_bytes, no-parts-bytes}
 use Rattle.model.specs.Numbers.{choose}
 use Rattle.model.specs.Map.{register_of}
@@ -29,7 +29,7 @@ use Rattle.theorems.specs.Orders.OneRun.{Here, numbered_next, here-next, parked-
 use Rattle.theorems.specs.Orders.OneNumbering.{OneStep, order-one}
 use Rattle.theorems.specs.Orders.Theorem.{new_parked, new_saves, new_saves-nat, here, orders-agree-alike}
 use Rattle.theorems.specs.TimesAlike.{blanked-resets, length-blank, asked-alike, asked-same, same-blank}
-use Rattle.form.specs.Parked.{FormOf, saved-loads, loaded-is-form}
+use Rattle.form.proofs.Parked.{FormOf, saved-loads, loaded-is-form}
 use Rattle.form.specs.declared.NotLoaded.TheVariants.{Layout, NoState}
 use Rattle.theorems.specs.Blanked.{blank_byte, blank_word, blank_written, blank_resets, blanked, blanked_asked}
 use Rattle.theorems.specs.TwoRuns.Renamed.{map_sent, map_on_the_line, map_receiving, map_uart, forget}

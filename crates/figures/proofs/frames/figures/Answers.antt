@@ -1,11 +1,9 @@
 -- `frames::figures` meets its contract. The loop's invariant: the frames before the i-th are passed, in order, and what is left gives the
 -- figures of all. Assumes nothing.
 use mathlib.Core.Path.{ap, ◌∙◌}
-use Prim.Native.Nat.{◌-◌}
-use lib.ListN.{length}
 use Rattle.figures.specs.declared.report.LineFigures.{LineFigures}
-use Rattle.figures.specs.Pass.{Part, part_same, part-begins, other-lengths, too_many, part-ends, starts-early, ends-early}
-use Rattle.figures.specs.Pass.{follows, part-on}
+use Rattle.figures.proofs.OnePass.{part_same, part-begins, other-lengths, too_many, part-ends, starts-early, ends-early}
+use Rattle.figures.proofs.OnePass.{follows, part-on}
 use Rattle.figures.proofs.frames.figures.Goals as goal
 
 pub returns-then-starts-ends : goal.returns-then-starts-ends

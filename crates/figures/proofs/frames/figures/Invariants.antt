@@ -1,10 +1,7 @@
 -- What each loop of `frames::figures` keeps, and what gets less.
-use mathlib.Core.Path.{ap, ◌∙◌}
 use Prim.Native.Nat.{◌-◌}
 use lib.ListN.{length}
-use Rattle.figures.specs.declared.report.LineFigures.{LineFigures}
-use Rattle.figures.specs.Pass.{Part, part_same, part-begins, other-lengths, too_many, part-ends, starts-early, ends-early}
-use Rattle.figures.specs.Pass.{follows, part-on}
+use Rattle.figures.proofs.OnePass.{Part}
 use Rattle.figures.proofs.frames.figures.Given as goal
 
 abbrev pub invariant-loop-i : goal.invariant-loop-i

@@ -5,7 +5,7 @@ use mathlib.Core.List.{List}
 use Prim.Native.Nat.{ℕ, suc, ◌+◌, ◌-◌, ◌≤◌, ◌/◌, ◌%◌}
 use lib.ListN.{length, set, length-set}
 use Rattle.form.specs.Cells.{low_first}
-use Rattle.form.specs.Laws.Numbers.{length-low}
+use Rattle.form.proofs.Laws.Numbers.{length-low}
 use Rattle.park.specs.Puts.{wrote}
 use native.Mathlib.Omega.{arith}
 use Rattle.park.proofs.put.put.Goals as goal

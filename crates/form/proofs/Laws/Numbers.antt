@@ -5,7 +5,7 @@ use native.Mathlib.Omega.{arith}
 use mathlib.Core.List.{List, [], ◌∷◌, ◌++◌, map, flat_map, append-nil, append_assoc}
 use Rattle.model.specs.Events.{total}
 use Rattle.model.specs.Limits.{All, nil, cons}
-use Rattle.form.specs.Cells.{Field, low_first, field_bytes}
+use Rattle.form.specs.Cells.{Field, low_first, field_bytes, of_width}
 use Rattle.form.specs.Read.{value_of, numbers_in}
 
 pub length-low : (k n : ℕ) → length (low_first k n) ≡ k
@@ -54,27 +54,24 @@ length_fields (f ∷ fs) =
 -- ---- numbers of one width
 
 module _ (w : ℕ) where
-  abbrev pub of_width : ℕ → Field
-  of_width n = record { width = w; value = n }
-
-  pub widths : (ns : List ℕ) → map (λ f. f.width) (map of_width ns) ≡ replicate (length ns) w
+  pub widths : (ns : List ℕ) → map (λ f. f.width) (map (of_width w) ns) ≡ replicate (length ns) w
   widths [] = refl
   widths (n ∷ ns) = ap (λ l. w ∷ l) (widths ns)
 
-  pub values : (ns : List ℕ) → map (λ f. f.value) (map of_width ns) ≡ ns
+  pub values : (ns : List ℕ) → map (λ f. f.value) (map (of_width w) ns) ≡ ns
   values [] = refl
   values (n ∷ ns) = ap (λ l. n ∷ l) (values ns)
 
-  pub each_holds : (ns : List ℕ) → All (λ n. n < 256 ^ w) ns → All Holds (map of_width ns)
+  pub each_holds : (ns : List ℕ) → All (λ n. n < 256 ^ w) ns → All Holds (map (of_width w) ns)
   each_holds [] nil = nil
   each_holds (n ∷ ns) (cons h a) = cons h (each_holds ns a)
 
-  pub width-total : (ns : List ℕ) → total (λ f. f.width) (map of_width ns) ≡ w * length ns
+  pub width-total : (ns : List ℕ) → total (λ f. f.width) (map (of_width w) ns) ≡ w * length ns
   unfolding total
   width-total [] = omega arith
   width-total (n ∷ ns) = omega (arith, width-total ns)
 
-  pub one-width-back : (ns : List ℕ) → All (λ n. n < 256 ^ w) ns → numbers_in (replicate (length ns) w) (field_bytes (map of_width ns)) ≡ ns
+  pub one-width-back : (ns : List ℕ) → All (λ n. n < 256 ^ w) ns → numbers_in (replicate (length ns) w) (field_bytes (map (of_width w) ns)) ≡ ns
   one-width-back ns a =
-      ap₂ numbers_in (sym (widths ns)) (sym (append-nil (field_bytes (map of_width ns))))
-      ∙ numbers-back (map of_width ns) [] (each_holds ns a) ∙ values ns
+      ap₂ numbers_in (sym (widths ns)) (sym (append-nil (field_bytes (map (of_width w) ns))))
+      ∙ numbers-back (map (of_width w) ns) [] (each_holds ns a) ∙ values ns

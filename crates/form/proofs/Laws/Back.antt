@@ -23,10 +23,10 @@ use Rattle.form.specs.Read.{value_of, number_at, numbers_in, parts_in, words_in,
 use Rattle.form.specs.Read.{fixed_length}
 use Rattle.form.specs.Read.{flying_in, dates_in, control_with, receiving_in, waiting_in, sent_in, runs_from, runs_in, state_with, state_in}
 use Rattle.form.specs.Load.{lies}
-use Rattle.form.specs.Laws.Numbers.{Holds, value-back, numbers-back, length_fields, widths, values, each_holds, width-total}
-use Rattle.form.specs.Laws.Numbers.{one-width-back}
-use Rattle.form.specs.Laws.Parts.{laid_bytes, parts-read, parts-lie, numbers-bytes, host-bytes, written-bytes, laid-bytes}
-use Rattle.form.specs.Laws.Lengths.{dates-long, runs-long, form-long, form-largest}
+use Rattle.form.proofs.Laws.Numbers.{Holds, value-back, numbers-back, length_fields, widths, values, each_holds, width-total}
+use Rattle.form.proofs.Laws.Numbers.{one-width-back}
+use Rattle.form.proofs.Laws.Parts.{laid_bytes, parts-read, parts-lie, numbers-bytes, host-bytes, written-bytes, laid-bytes}
+use Rattle.form.proofs.Laws.Lengths.{dates-long, runs-long, form-long, form-largest}
 use Rattle.model.specs.declared.Date.{Date}
 use Rattle.model.specs.declared.Date.TheVariants.{None, At}
 use Rattle.model.specs.declared.Source.{Source}

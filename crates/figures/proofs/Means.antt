@@ -10,7 +10,7 @@ use Rattle.figures.specs.declared.report.LineFigures.{LineFigures}
 use Rattle.figures.specs.Lists.{choose, total, least, greatest, first_place}
 use Rattle.figures.specs.Figures.{Frame, frame, frames_of, lasts, quiets_after, quiets, longest_place, mean_of, remainder_of, reported}
 use Rattle.figures.specs.Figures.{ordered, figures_of}
-use Rattle.figures.specs.Exactly.{Result, result}
+use Rattle.figures.proofs.Exactly.{Result, result}
 
 -- ---- frames by their places
 

@@ -12,7 +12,7 @@ use Rattle.model.specs.Widths.{Word32, Bytes, Widths}
 use Rattle.form.specs.Read.{value_of, number_at, numbers_in, parts_from, parts_in, part_at, map_in, date_in, source_in, fixed_widths}
 use Rattle.form.specs.Read.{flying_in, dates_in}
 use Rattle.form.specs.Read.{receiving_in, waiting_in, sent_in, runs_from, runs_in, state_with, state_in}
-use Rattle.form.specs.Laws.Within.{Wide}
+use Rattle.form.proofs.Laws.Within.{Wide}
 use Rattle.model.specs.declared.Date.{Date}
 use Rattle.model.specs.declared.Date.TheVariants.{None, At}
 

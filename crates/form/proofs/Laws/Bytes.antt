@@ -9,8 +9,8 @@ use Rattle.model.proofs.Laws.Lists.{all_append}
 use Rattle.model.specs.Widths.{Bytes, Widths}
 use Rattle.form.specs.Cells.{bytes_of, Field, low_first, field_bytes}
 use Rattle.form.specs.Form.{short, map_fields, word_fields, date_and_mark_fields, run_fields, head_length, pairs_from, form}
-use Rattle.form.specs.Laws.Parts.{joined, laid_bytes}
-use Rattle.form.specs.Laws.Back.{seven, form-bytes}
+use Rattle.form.proofs.Laws.Parts.{joined, laid_bytes}
+use Rattle.form.proofs.Laws.Back.{seven, form-bytes}
 
 low-bytes : (k n : ℕ) → Bytes (low_first k n)
 unfolding low_first

@@ -15,8 +15,8 @@ use Rattle.form.specs.Form.{word, short, word_list, reset_list, map_fields, word
 use Rattle.form.specs.Form.{head_length, pairs_from}
 use Rattle.form.specs.Form.{laid_out, form, shortest_form, largest_form}
 use Rattle.form.specs.Read.{fixed_length}
-use Rattle.form.specs.Laws.Numbers.{length_fields, width-total}
-use Rattle.form.specs.Laws.Parts.{head-long}
+use Rattle.form.proofs.Laws.Numbers.{length_fields, width-total}
+use Rattle.form.proofs.Laws.Parts.{head-long}
 use Rattle.model.specs.declared.Words.{Words}
 use Rattle.model.specs.declared.RegisterMap.{RegisterMap}
 

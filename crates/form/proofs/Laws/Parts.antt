@@ -13,7 +13,7 @@ use Rattle.form.specs.Cells.{Cell, byte_of, bytes_of, Field, low_first, field_by
 use Rattle.form.specs.Form.{short, head_length, pairs_from, laid_out}
 use Rattle.form.specs.Read.{value_of, number_at, parts_from, parts_in}
 use Rattle.form.specs.Load.{pairs_lie, lies}
-use Rattle.form.specs.Laws.Numbers.{value-back, length_fields}
+use Rattle.form.proofs.Laws.Numbers.{value-back, length_fields}
 
 abbrev pub joined : List (List ℕ) → List ℕ
 joined qs = flat_map (λ q. q) qs

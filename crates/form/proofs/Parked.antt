@@ -13,9 +13,9 @@ use Rattle.form.specs.Form.{form}
 use Rattle.form.specs.Read.{state_in}
 use Rattle.form.specs.Tests.{is_within}
 use Rattle.form.specs.Load.{lies, same_bytes, is_form, Loading, loaded, refused, load}
-use Rattle.form.specs.Laws.Within.{both, within-passes, passes-within}
-use Rattle.form.specs.Laws.Fits.{state-wide, state-widths}
-use Rattle.form.specs.Laws.Back.{form-lies, form-back}
+use Rattle.form.proofs.Laws.Within.{both, within-passes, passes-within}
+use Rattle.form.proofs.Laws.Fits.{state-wide, state-widths}
+use Rattle.form.proofs.Laws.Back.{form-lies, form-back}
 use Rattle.form.specs.declared.NotLoaded.TheVariants.{Layout, NoState}
 
 -- a state within the limits whose numbers fit their widths, and whose form these bytes are
