@@ -12,6 +12,5 @@ returns-in-2 c = sym (ap stop_half_bits c.in-2.is)
 pub returns-in-0-to-1 : goal.returns-in-0-to-1
 returns-in-0-to-1 c = sym (stop-one _ (omega arith))
 
-
 pub returns-in_default : goal.returns-in_default
 returns-in_default c = sym (stop-two _ (omega arith))

@@ -6,7 +6,7 @@ use native.Mathlib.Nat.{mul-zero}
 use lib.ListN.{length, take}
 use lib.Seq.{take_all}
 use Rattle.form.specs.Cells.{field_bytes}
-use Rattle.form.proofs.Laws.Numbers.{of_width}
+use Rattle.form.specs.Cells.{of_width}
 use Rattle.park.specs.Puts.{Puts, put-nothing, puts-same}
 use Rattle.park.specs.Fields.{puts-number, one-fits}
 use native.Mathlib.Omega.{arith}

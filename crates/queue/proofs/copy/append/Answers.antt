@@ -13,5 +13,8 @@ returns c =
     let slot = c.back-at.ensures.0 in
     let begin = c in
     let a = begin.args in
-    let p = begin.requires in record { value = refl; slots_after = appended a.cap a.slots.now (a.cursor.start + a.cursor.count) a.bytes.now p.1 (omega arith) (omega arith)
-          (omega arith) slot first copy then }
+    let p = begin.requires in record {
+      value = refl;
+      slots_after = appended a.cap a.slots.now (a.cursor.start + a.cursor.count) a.bytes.now p.1 (omega arith) (omega arith)
+          (omega arith) slot first copy then;
+    }

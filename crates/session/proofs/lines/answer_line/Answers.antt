@@ -20,9 +20,12 @@ returns-then-input c =
     let far = c in
     let a = c.args in
     let d = stands_for a.session in
-    let long = c.if-input.true in record { gives = gives_as (too_long a.input a.line.now a.bytes.now d long)
+    let long = c.if-input.true in record {
+      gives = gives_as (too_long a.input a.line.now a.bytes.now d long)
           (moved c.put_long-at.ensures (says long_text d) a.session refl refl
-          c.requires.good c.with_output.ensures); bytes_after = bytes-kept a.input a.line.now a.bytes.now d long }
+          c.requires.good c.with_output.ensures);
+      bytes_after = bytes-kept a.input a.line.now a.bytes.now d long;
+    }
 
 pub returns-in-Nothing : goal.returns-in-Nothing
 returns-in-Nothing c =
@@ -35,8 +38,11 @@ returns-in-Nothing c =
     let got = c.read_line-read.ensures in
     let same = read_as-told a.input a.line.now a.bytes.now d short count got.value c.in-Nothing.is in
     let kept = got.bytes_after ∙ bytes-as a.input a.line.now a.bytes.now d short count in
-    let room : Room [] a.out.now a.session.at = record { fits = omega (arith, c.requires.wide) } in record { gives = gives_as same (moved (put-nothing a.out.now a.session.at room) (says [] d) a.session refl refl
-          c.requires.good refl); bytes_after = kept }
+    let room : Room [] a.out.now a.session.at = record { fits = omega (arith, c.requires.wide) } in record {
+      gives = gives_as same (moved (put-nothing a.out.now a.session.at room) (says [] d) a.session refl refl
+          c.requires.good refl);
+      bytes_after = kept;
+    }
 
 pub returns-in-Wrong : goal.returns-in-Wrong
 returns-in-Wrong c =
@@ -67,11 +73,14 @@ returns-then-session c =
     let name = c.in-Call.name in
     let last = c.in-Call.last in
     let cmd = command_of name (numbers_in s) last (bytes_after s a.bytes.now) s in
-    let u = meaning a.session.uart in record { gives = gives_as (ap₂ (λ (ns : List ℕ) (bs : List ℕ). carried_out (command_of name ns last bs s) [] (some u)) got.numbers_after got.bytes_after
+    let u = meaning a.session.uart in record {
+      gives = gives_as (ap₂ (λ (ns : List ℕ) (bs : List ℕ). carried_out (command_of name ns last bs s) [] (some u)) got.numbers_after got.bytes_after
           ∙ carried-any cmd [] (no_uart s) u
           ∙ ap (carried_out cmd (no_uart s)) (sym (is-ready a.session c.if-session.true))
           ∙ same)
-          c.carry_out.ensures; bytes_after = kept }
+          c.carry_out.ensures;
+      bytes_after = kept;
+    }
 
 pub returns-else-session : goal.returns-else-session
 returns-else-session c =
@@ -87,7 +96,10 @@ returns-else-session c =
     let kept = got.bytes_after ∙ bytes-as a.input a.line.now a.bytes.now d short count in
     let name = c.in-Call.name in
     let last = c.in-Call.last in
-    let cmd = command_of name (numbers_in s) last (bytes_after s a.bytes.now) s in record { gives = gives_as (ap (λ (ns : List ℕ). carried_out (command_of name ns last (bytes_after s a.bytes.now) s) (no_uart s) none) got.numbers_after
+    let cmd = command_of name (numbers_in s) last (bytes_after s a.bytes.now) s in record {
+      gives = gives_as (ap (λ (ns : List ℕ). carried_out (command_of name ns last (bytes_after s a.bytes.now) s) (no_uart s) none) got.numbers_after
           ∙ ap (carried_out cmd (no_uart s)) (sym (not-ready a.session c.if-session.false))
           ∙ same)
-          (c.first_call.ensures last (bytes_after s a.bytes.now)); bytes_after = kept }
+          (c.first_call.ensures last (bytes_after s a.bytes.now));
+      bytes_after = kept;
+    }
