@@ -1,7 +1,7 @@
 -- What a reader may rely on: a saved state is loaded as it was, nothing but a form is loaded, and one state has one form. Of every
 -- state within the limits, reached by calls or not. Assumes nothing.
-use Rattle.std.specs.Prelude.{◌≡◌, refl, ◌↔◌, ℕ, ◌≤◌, ◌<◌, Bool, true, false, ◌&&◌, List, [], ◌∷◌, eqb}
-use Rattle.std.proofs.Common.{sym, ap, ap₂, subst, ◌∙◌, true≢false, eqb-true, eq-eqb}
+use Rattle.std.specs.Prelude.{◌≡◌, refl, ◌↔◌, ℕ, Bool, true, false, ◌&&◌, List, [], ◌∷◌, eqb}
+use Rattle.std.proofs.Common.{sym, ap, ap₂, subst, ◌∙◌, eqb-true, eq-eqb}
 use Rattle.std.proofs.lemmas.Bool.{false≢true}
 use Rattle.model.specs.Numbers.{choose}
 use Rattle.model.specs.State.{Uart}
@@ -12,7 +12,7 @@ use Rattle.form.specs.Cells.{bytes_of}
 use Rattle.form.specs.Form.{form}
 use Rattle.form.specs.Read.{state_in}
 use Rattle.form.specs.Tests.{is_within}
-use Rattle.form.specs.Load.{lies, same_bytes, is_form, Loading, loaded, refused, load}
+use Rattle.form.specs.Load.{lies, same_bytes, is_form, loaded, refused, load}
 use Rattle.form.proofs.Laws.Within.{both, within-passes, passes-within}
 use Rattle.form.proofs.Laws.Fits.{state-wide, state-widths}
 use Rattle.form.proofs.Laws.Back.{form-lies, form-back}

@@ -8,7 +8,7 @@ use Rattle.model.specs.State.{Uart}
 use Rattle.model.specs.Events.{total}
 use Rattle.model.specs.Calls.{written}
 use Rattle.model.specs.Tests.{repeated, among}
-use Rattle.model.specs.Limits.{All, nil, cons}
+use Rattle.model.specs.Limits.{nil, cons}
 use Rattle.model.specs.Widths.{Bytes}
 use Rattle.form.specs.Cells.{byte_of, bytes_of, low_first, field_bytes, numbers}
 use Rattle.form.specs.Form.{map_fields, word_fields, date_and_mark_fields, run_fields, parts_of, pairs_from, laid_out, form}

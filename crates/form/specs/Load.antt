@@ -1,6 +1,6 @@
 -- Saving and loading. Both are undated and never settle: a save changes nothing, a load gives a whole state, last date included. Assumes
 -- nothing.
-use Rattle.std.specs.Prelude.{ℕ, zero, suc, ◌+◌, Bool, true, false, ◌&&◌, not, List, [], ◌∷◌, leb, ltb, eqb, length}
+use Rattle.std.specs.Prelude.{ℕ, zero, suc, ◌+◌, Bool, true, false, ◌&&◌, List, [], ◌∷◌, leb, ltb, eqb, length}
 use Rattle.std.proofs.Math.Option.{none}
 use Rattle.model.specs.Numbers.{choose}
 use Rattle.model.specs.State.{Uart}

@@ -1,20 +1,15 @@
 -- The bytes follow: a pass of the definition is what `move` decides, carried out on the bytes. Assumes nothing.
-use Rattle.std.specs.Prelude.{◌≡◌, ℕ, Bool, true, false, ltb, length, take, drop}
+use Rattle.std.specs.Prelude.{◌≡◌, ℕ, Bool, true, false, length, take, drop}
 use Rattle.std.proofs.Math.Path.{refl}
-use Rattle.std.proofs.Common.{ap, sym, ◌∙◌}
 use Rattle.std.proofs.Math.Option.{Option, none, some}
-use mathlib.Core.List.{List, [], ◌∷◌, ◌++◌, append-nil}
-use Rattle.dates.specs.Dates.{later, earlier}
-use Rattle.model.specs.Numbers.{choose, due_by}
+use mathlib.Core.List.{List, [], ◌∷◌, ◌++◌}
 use Rattle.model.proofs.Laws.Choose.{choose-both}
 use Rattle.model.specs.State.{Run, OnTheLine, Uart, line_of}
 use Rattle.model.specs.Setters.{with_rx, with_receiving, with_host, with_line_of}
-use Rattle.model.specs.Line.{timeout_at, time_out, frame, start, fate, land}
+use Rattle.model.specs.Line.{frame, fate}
 use Rattle.model.specs.Settle
 use Rattle.model.specs.Settle.{pop_run, received, nothing_due, timed_out, landed, begun, pass_on, pass}
 use Rattle.model.specs.declared.Date.{Date}
-use Rattle.model.specs.declared.Line.{Line}
-use Rattle.model.specs.declared.Frame.{Frame}
 use Rattle.model.specs.declared.Settings.{Settings}
 use Rattle.model.specs.declared.Fate.{Fate}
 use Rattle.model.specs.declared.Fate.TheVariants.{Stored, Overflowed, Cleared, ClockOff, Unheard}

@@ -1,5 +1,5 @@
 -- The laws of what the definition does not use (specs/Unused). Assumes nothing.
-use Rattle.std.specs.Prelude.{◌≡◌, refl, ℕ, true, false, List}
+use Rattle.std.specs.Prelude.{◌≡◌, refl, ℕ, false, List}
 use Rattle.std.proofs.Common.{ap, true≢false}
 use Rattle.std.proofs.Math.Bool.{decide}
 use Rattle.std.proofs.Math.Option.{some}

@@ -1,12 +1,11 @@
 -- A form is read back as the state that it is the form of. Assumes nothing.
-use Rattle.std.specs.Prelude.{◌≡◌, ℕ, zero, suc, ◌+◌, ◌-◌, ◌*◌, ◌/◌, ◌^◌, ◌≤◌, ◌<◌, Bool, true, false, eqb, length, get_or, take, drop}
+use Rattle.std.specs.Prelude.{◌≡◌, ℕ, ◌-◌, ◌/◌, ◌^◌, ◌≤◌, ◌<◌, Bool, true, false, eqb, length, get_or, take, drop}
 use Rattle.std.proofs.Math.Path.{refl, sym, ap, ap₂}
-use Rattle.std.proofs.Common.{subst, ◌∙◌, arith}
+use Rattle.std.proofs.Common.{◌∙◌, arith}
 use Rattle.std.proofs.Math.Option.{Option, none, some}
 use mathlib.Core.List.{List, [], ◌∷◌, ◌++◌, map, flat_map, append-nil}
 use Rattle.std.proofs.Math.ListN.{replicate, length-append, length-map}
 use Rattle.std.proofs.Math.Seq.{take_at, drop_at}
-use Rattle.dates.specs.Dates
 use Rattle.model.specs.Events.{total}
 use Rattle.model.specs.Numbers.{choose, instant_of}
 use Rattle.model.specs.State.{Sent, Run, OnTheLine, Uart, line_of, line_bytes}
@@ -16,17 +15,16 @@ use Rattle.model.specs.Tests.{host_limit}
 use Rattle.model.specs.Limits.{All, nil, cons, Fits, NoLater, flight_dates, run_dates, Within}
 use Rattle.model.proofs.Laws.Lists.{all_append}
 use Rattle.model.specs.Widths.{Word32, Widths}
-use Rattle.form.specs.Cells.{Cell, byte_of, bytes_of, Field, low_first, field_bytes}
-use Rattle.form.specs.Form.{byte, word, long, short, mark_of, date_mark, source_number, frame_mark, frame_source, word_list, reset_list}
-use Rattle.form.specs.Form.{map_fields, word_fields, date_and_mark_fields, run_fields, parts_of, laid_out, form}
-use Rattle.form.specs.Read.{value_of, number_at, numbers_in, parts_in, words_in, map_with, map_in, date_in, source_in, fixed_widths}
-use Rattle.form.specs.Read.{fixed_length}
+use Rattle.form.specs.Cells.{byte_of, bytes_of, Field, low_first, field_bytes}
+use Rattle.form.specs.Form.{word, mark_of, date_mark, source_number, frame_mark, frame_source, word_list, reset_list}
+use Rattle.form.specs.Form.{map_fields, word_fields, date_and_mark_fields, run_fields, parts_of, form}
+use Rattle.form.specs.Read.{number_at, numbers_in, parts_in, words_in, map_with, map_in, date_in, source_in, fixed_widths}
 use Rattle.form.specs.Read.{flying_in, dates_in, control_with, receiving_in, waiting_in, sent_in, runs_from, runs_in, state_with, state_in}
 use Rattle.form.specs.Load.{lies}
-use Rattle.form.proofs.Laws.Numbers.{Holds, value-back, numbers-back, length_fields, widths, values, each_holds, width-total}
+use Rattle.form.proofs.Laws.Numbers.{Holds, value-back, numbers-back, widths, values, each_holds}
 use Rattle.form.proofs.Laws.Numbers.{one-width-back}
 use Rattle.form.proofs.Laws.Parts.{laid_bytes, parts-read, parts-lie, numbers-bytes, host-bytes, written-bytes, laid-bytes}
-use Rattle.form.proofs.Laws.Lengths.{dates-long, runs-long, form-long, form-largest}
+use Rattle.form.proofs.Laws.Lengths.{dates-long, runs-long, form-largest}
 use Rattle.model.specs.declared.Date.{Date}
 use Rattle.model.specs.declared.Date.TheVariants.{None, At}
 use Rattle.model.specs.declared.Source.{Source}

@@ -1,7 +1,7 @@
 -- A form of a state whose bytes are bytes is bytes. Assumes nothing.
-use Rattle.std.specs.Prelude.{◌≡◌, ℕ, zero, suc, ◌/◌, ◌%◌, ◌<◌}
+use Rattle.std.specs.Prelude.{ℕ, zero, suc, ◌/◌, ◌%◌, ◌<◌}
 use Rattle.std.proofs.Common.{sym, subst, arith}
-use mathlib.Core.List.{List, [], ◌∷◌, ◌++◌, map, flat_map}
+use mathlib.Core.List.{List, [], ◌∷◌, map, flat_map}
 use Rattle.model.specs.State.{Uart, line_bytes}
 use Rattle.model.specs.Calls.{written}
 use Rattle.model.specs.Limits.{All, nil, cons}

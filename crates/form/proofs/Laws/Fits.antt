@@ -1,19 +1,18 @@
 -- A state that is read from bytes has the widths of its fields, whatever the bytes are. Assumes nothing.
-use Rattle.std.specs.Prelude.{◌≡◌, refl, ℕ, zero, suc, ◌+◌, ◌-◌, ◌/◌, ◌^◌, ◌≤◌, ◌<◌, Bool, true, false, List, [], ◌∷◌, ◌++◌, map, eqb, length, get_or, take, drop, replicate}
-use Rattle.std.proofs.Common.{sym, ap, subst, ◌∙◌, pow-suc, arith, get_or-drop}
-use Rattle.std.proofs.Math.Option.{Option, none, some}
+use Rattle.std.specs.Prelude.{refl, ℕ, zero, suc, ◌+◌, ◌-◌, ◌/◌, ◌^◌, ◌≤◌, ◌<◌, Bool, true, false, List, [], ◌∷◌, ◌++◌, map, eqb, length, get_or, take, drop, replicate}
+use Rattle.std.proofs.Common.{sym, subst, pow-suc, arith, get_or-drop}
+use Rattle.std.proofs.Math.Option.{none, some}
 use Rattle.dates.specs.Dates
 use Rattle.model.specs.Numbers.{choose}
-use Rattle.model.specs.State.{Sent, Run, OnTheLine, Uart, line_of, line_bytes}
+use Rattle.model.specs.State.{Uart, line_bytes}
 use Rattle.model.specs.Map.{Word, value_of as Map·value_of}
 use Rattle.model.specs.Limits.{All, nil, cons, Fits, NoLater, flight_dates, run_dates}
 use Rattle.model.proofs.Laws.Lists.{all_take, all_drop}
 use Rattle.model.specs.Widths.{Word32, Bytes, Widths}
-use Rattle.form.specs.Read.{value_of, number_at, numbers_in, parts_from, parts_in, part_at, map_in, date_in, source_in, fixed_widths}
+use Rattle.form.specs.Read.{value_of, number_at, numbers_in, parts_from, part_at, map_in, date_in, source_in, fixed_widths}
 use Rattle.form.specs.Read.{flying_in, dates_in}
-use Rattle.form.specs.Read.{receiving_in, waiting_in, sent_in, runs_from, runs_in, state_with, state_in}
+use Rattle.form.specs.Read.{receiving_in, waiting_in, sent_in, runs_from, state_with, state_in}
 use Rattle.form.proofs.Laws.Within.{Wide}
-use Rattle.model.specs.declared.Date.{Date}
 use Rattle.model.specs.declared.Date.TheVariants.{None, At}
 
 -- ---- numbers

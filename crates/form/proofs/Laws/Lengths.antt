@@ -1,7 +1,7 @@
 -- How long a form is. Assumes nothing.
-use Rattle.std.specs.Prelude.{◌≡◌, ℕ, ◌+◌, ◌*◌, ◌≤◌, ◌<◌, length}
+use Rattle.std.specs.Prelude.{◌≡◌, ℕ, ◌+◌, ◌*◌, ◌≤◌, length}
 use Rattle.std.proofs.Math.Path.{refl}
-use Rattle.std.proofs.Common.{sym, ap, ap₂, ◌∙◌}
+use Rattle.std.proofs.Common.{ap, ◌∙◌}
 use native.Mathlib.Omega.{arith}
 use Rattle.std.proofs.Math.Option.{Option, none, some}
 use mathlib.Core.List.{List, [], ◌∷◌, ◌++◌, map, flat_map}
@@ -11,7 +11,7 @@ use Rattle.model.specs.State.{Run, OnTheLine, Uart, line_bytes}
 use Rattle.model.specs.Calls.{written}
 use Rattle.model.specs.Limits.{flight_dates, Within}
 use Rattle.form.specs.Cells.{Cell, Field, low_first, field_bytes, numbers}
-use Rattle.form.specs.Form.{word, short, word_list, reset_list, map_fields, word_fields, date_and_mark_fields, run_fields, parts_of}
+use Rattle.form.specs.Form.{short, word_list, reset_list, map_fields, word_fields, date_and_mark_fields, run_fields, parts_of}
 use Rattle.form.specs.Form.{head_length, pairs_from}
 use Rattle.form.specs.Form.{laid_out, form, shortest_form, largest_form}
 use Rattle.form.specs.Read.{fixed_length}

@@ -1,17 +1,14 @@
 -- What a save answers, and that it changes nothing. Assumes nothing.
-use Rattle.std.specs.Prelude.{◌≡◌, Bool, ◌≤◌, ◌<◌, length}
+use Rattle.std.specs.Prelude.{◌≡◌, Bool, length}
 use Rattle.std.proofs.Math.Path.{refl}
 use Rattle.std.proofs.Math.Bool.{true, false}
-use Rattle.std.proofs.Math.Option.{none}
 use mathlib.Core.List.{List, []}
 use Rattle.std.proofs.Math.Dec.{ltb}
-use Rattle.std.proofs.Common.{lt-ltb, le-ltb}
 use Rattle.model.specs.Numbers.{choose}
 use Rattle.model.specs.State.{Uart}
 use Rattle.model.specs.Replies.{no_report}
 use Rattle.model.specs.Tests.{refuse_if}
-use Rattle.model.proofs.Laws.Choose.{choose-true, choose-false}
-use Rattle.model.specs.Calls.{Outcome, refusing, unless, carried, outcome, quiet, filled, not_taken}
+use Rattle.model.specs.Calls.{refusing, unless, carried, outcome, quiet, filled, not_taken}
 use Rattle.form.specs.Form.{form}
 use Rattle.form.specs.Load.{save, saved}
 use Rattle.model.specs.declared.Refusal.TheVariants.{BufferTooShort}

@@ -1,8 +1,8 @@
 -- The test passes exactly where a state is within the limits. Assumes nothing.
-use Rattle.std.specs.Prelude.{◌≡◌, Bool, false, ◌&&◌, ◌||◌, eqb, length}
+use Rattle.std.specs.Prelude.{◌≡◌, Bool, false, ◌&&◌, ◌||◌, length}
 use Rattle.std.proofs.Math.Path.{refl}
-use Rattle.std.proofs.Common.{sym, ap, ap₂, subst, ◌∙◌}
-use Prim.Native.Nat.{ℕ, zero, suc, ◌+◌, ◌≤◌, ◌<◌}
+use Rattle.std.proofs.Common.{sym, ap, ap₂, ◌∙◌}
+use Prim.Native.Nat.{ℕ, ◌≤◌, ◌<◌}
 use Rattle.std.proofs.Math.Bool.{true, not, or-true}
 use Rattle.std.proofs.lemmas.Bool.{false≢true}
 use Rattle.std.proofs.Math.Option.{Option, none, some, none-ne-some, some-injective}
@@ -14,7 +14,7 @@ use Rattle.model.specs.Tests.{date_end}
 use Rattle.model.specs.Limits.{Chain, empty, single, link, All, nil, cons, NoLater, Fits, flight_dates, run_dates, Within}
 use Rattle.model.proofs.Ends.Passes.{apart}
 use Rattle.dates.specs.Dates
-use Rattle.form.specs.Tests.{chained, every, no_later, is_none, closed, all_pass, limits, is_within}
+use Rattle.form.specs.Tests.{chained, every, no_later, closed, all_pass, limits, is_within}
 use Rattle.model.specs.declared.Date.{Date}
 use Rattle.model.specs.declared.Date.TheVariants.{None, At}
 

@@ -1,6 +1,6 @@
 -- What settling leaves alone: the map and the control but for the line and the level; no byte written is lost, and from the
 -- bytes in flight, the host bytes and their runs it takes only from the front. Assumes nothing.
-use Rattle.std.specs.Prelude.{◌≡◌, refl, ℕ, ◌+◌, ◌≤◌, false, List, [], ◌∷◌, ◌++◌, map, length, drop}
+use Rattle.std.specs.Prelude.{◌≡◌, refl, ℕ, ◌+◌, ◌≤◌, false, List, [], ◌∷◌, ◌++◌, length, drop}
 use Rattle.std.proofs.Common.{sym, ap, ◌∙◌, arith, le_refl, append_assoc, length-append}
 use Rattle.std.proofs.lemmas.List.{length-map}
 use Rattle.model.specs.State.{Run, Uart}

@@ -9,7 +9,6 @@ use Rattle.model.specs.State.{OnTheLine, Uart}
 use Rattle.model.specs.Timing.{byte_time, timeout_time, settings}
 use Rattle.model.specs.Settle.{settings_of, settling_date, settle}
 use Rattle.model.specs.Tests.{date_end, period_limit}
-use Rattle.model.specs.Calls
 use Rattle.model.specs.Call.{Machine, Dated, Call, date_of, Written, Request, Asked, asked_date}
 use Rattle.model.specs.Run.{number_of, plan, step}
 use Rattle.model.specs.Limits.{All, nil, Within}

@@ -8,7 +8,7 @@ use Rattle.std.proofs.Math.Dec.{eqb}
 use Rattle.model.specs.Numbers.{choose, bit}
 use Rattle.model.specs.State.{Sent, OnTheLine, Uart, line_of}
 use Rattle.model.specs.Events.{Event, departure, timeout, landing, nothing, goes_on}
-use Rattle.model.specs.Line.{RXFIFO-FULL, TXFIFO-EMPTY, RXFIFO-OVF, RXFIFO-TOUT, TX-DONE, raise_if, note_source, opened, time_out, frame}
+use Rattle.model.specs.Line.{RXFIFO-FULL, TXFIFO-EMPTY, RXFIFO-OVF, RXFIFO-TOUT, TX-DONE, raise_if, note_source, opened, time_out}
 use Rattle.model.specs.Line.{start, land}
 use Rattle.model.specs.Settle.{Pass, tx_done, leave, depart, gone, nothing_due, timed_out, landed, begun, pass}
 use Rattle.model.specs.Settle.{passes_from, pending, passes, above_full, below_empty, levels, leveled, assert_levels, drive}

@@ -1,7 +1,7 @@
 -- A call or a row that is carried out answers number 0 and at most 8 notices besides overflows. Assumes nothing.
 use Rattle.std.specs.Prelude.{◌≡◌, Bool, length, take}
 use Rattle.std.proofs.Math.Path.{refl}
-use Prim.Native.Nat.{ℕ, zero, suc, ◌%◌, ◌≤◌}
+use Prim.Native.Nat.{ℕ, suc, ◌%◌, ◌≤◌}
 use Rattle.std.proofs.Math.Nat.{le_trans}
 use native.Mathlib.Omega.{arith}
 use Rattle.std.proofs.Math.Bool.{true, false}

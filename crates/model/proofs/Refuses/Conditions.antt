@@ -1,7 +1,7 @@
 -- Document 01's table of numbers, as propositions on numbers, and the order of its tests. No test of the definition stands
 -- here. Assumes nothing.
 use Rattle.std.specs.Prelude.{◌≡◌, ℕ, ◌+◌, ◌-◌, ◌*◌, ◌^◌, ◌≤◌, ◌<◌, min, max, List, [], ◌∷◌, ◌++◌, length, take}
-use Rattle.std.proofs.Math.Option.{Option, some}
+use Rattle.std.proofs.Math.Option.{some}
 use Rattle.model.specs.State.{Run, Uart}
 use Rattle.model.specs.Replies.{no_report}
 use Rattle.model.specs.Calls.{carried}

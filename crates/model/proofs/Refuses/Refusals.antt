@@ -16,7 +16,7 @@ use Rattle.model.specs.Calls.{refusal_by, refusing, unless, carried, outcome, la
 use Rattle.model.specs.Calls.{send, write_at}
 use Rattle.model.specs.Call.{Machine, Dated, Undated, Call, date_of, Written, Request, Asked, Ask, asked_date, rows}
 use Rattle.model.specs.Row.{row_number, writes, summed, first_test, row, row_limit}
-use Rattle.model.specs.Run.{number_of, Step, stepped, answering, replying, plan_by, writing, plan, step, asked_by, asked}
+use Rattle.model.specs.Run.{number_of, stepped, answering, replying, plan_by, writing, plan, step, asked_by, asked}
 use Rattle.model.specs.Limits.{All, nil, cons}
 use Rattle.model.proofs.Ends.Passes.{apart}
 use Rattle.model.proofs.Laws.AccessCases.{write-ind}

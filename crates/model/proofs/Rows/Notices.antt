@@ -1,7 +1,7 @@
 -- A row has at most two different notices: its clock's, and UartOverflow. Assumes nothing.
-use Rattle.std.specs.Prelude.{◌≡◌, refl, ◌⊎◌, ℕ, ◌≤◌, Bool, ◌&&◌, eqb, length, take}
-use Rattle.std.proofs.Common.{sym, ap, subst, ◌∙◌, inl, inr, ⊎_elim, arith, eq-eqb}
-use Rattle.std.proofs.Math.Option.{Option, some}
+use Rattle.std.specs.Prelude.{◌≡◌, refl, ℕ, ◌≤◌, length, take}
+use Rattle.std.proofs.Common.{sym, ap, subst, ◌∙◌, arith, eq-eqb}
+use Rattle.std.proofs.Math.Option.{some}
 use mathlib.Core.List.{List, [], ◌∷◌, ◌++◌, map, flat_map}
 use Rattle.std.proofs.lemmas.List.{length-map}
 use Rattle.model.specs.Numbers.{choose}
@@ -11,8 +11,8 @@ use Rattle.model.specs.Settle.{assert_levels, drive, levels, settle}
 use Rattle.model.specs.Arm.{arm}
 use Rattle.model.specs.Replies.{notice_numbers, notices, no_report, report}
 use Rattle.model.specs.Registers.{Access, source_notes, sent, dropped, send_byte, concluded}
-use Rattle.model.specs.Calls.{Outcome, refusing, unless, after_settling, carried, outcome, send, dated}
-use Rattle.model.specs.Row.{Count, same_notice, counted, counted_all, notes_of, row_limit, fifo_write, writes, summed, row}
+use Rattle.model.specs.Calls.{Outcome, refusing, after_settling, carried, outcome, send, dated}
+use Rattle.model.specs.Row.{Count, counted, counted_all, notes_of, row_limit, fifo_write, writes, summed, row}
 use Rattle.model.specs.Limits.{All, nil, cons}
 use Rattle.model.proofs.Laws.Choose.{choose-ind}
 use Rattle.model.proofs.Laws.Lists.{all_append}

@@ -10,7 +10,7 @@ use Rattle.model.specs.Numbers.{choose, bit, due_by}
 use Rattle.model.specs.State.{OnTheLine, Uart, line_of}
 use Rattle.model.specs.Timing.{settings}
 use Rattle.model.specs.Events.{goes_on}
-use Rattle.model.specs.Line.{raise_if, fifo_bytes, after_date, timeout_at, frame, fate}
+use Rattle.model.specs.Line.{raise_if, fifo_bytes, after_date, timeout_at, fate}
 use Rattle.model.specs.Settle.{Pass, tx_done, leave, depart, received, nothing_due, timed_out, landed, in_frame, begun, pass_on, pass}
 use Rattle.model.specs.Settle.{passes_from, pending, passes, levels, leveled, settings_of, settle_to}
 use Rattle.model.specs.Settle.{settle, settling_date}

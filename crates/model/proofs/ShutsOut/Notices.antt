@@ -14,7 +14,6 @@ use Rattle.model.specs.Arm.{arm}
 use Rattle.model.specs.Replies.{notices, report}
 use Rattle.model.specs.Map.{Word, Register, register_of, value_of, words_by, replaced}
 use Rattle.model.specs.Registers.{note_if, conf0_notes, stored_notes, storing, reset_fifos, write_register, concluded}
-use Rattle.model.specs.Calls
 use Rattle.model.specs.Calls.{after_settling, write_at, write_placed, carried}
 use Rattle.model.specs.Call.{Dated, Call, Written, writes}
 use Rattle.model.specs.Run.{Step, step}

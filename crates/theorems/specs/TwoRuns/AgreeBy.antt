@@ -1,14 +1,13 @@
 -- Agree of any two ways to look a byte's number up, and that Agree is this of the bytes of two lists. Assumes nothing.
-use Rattle.std.specs.Prelude.{◌≡◌, ℕ, ◌+◌, ◌<◌, List, [], ◌∷◌, ◌++◌, map, length}
+use Rattle.std.specs.Prelude.{◌≡◌, ℕ, ◌<◌, List, [], ◌∷◌, ◌++◌, map, length}
 use Rattle.model.specs.Limits.{All}
 use Rattle.model.specs.Replies.{word, byte, refused, Take, Notes}
 use Rattle.model.specs.Registers.{source_notes}
-use Rattle.model.specs.Call.{Dated, Call, Request, host_of, Asked, Ask, Reply, reads, takes, rows, Answer}
+use Rattle.model.specs.Call.{Dated, Call, Request, Ask, Reply, reads, takes}
 use Rattle.theorems.specs.TwoRuns.Alike.{host_byte, write_byte}
 use Rattle.theorems.specs.TwoRuns.Agree.{Agree}
 use Rattle.model.specs.declared.Refusal.{Refusal}
 use Rattle.model.specs.declared.Report.{Report}
-use Rattle.model.specs.declared.Row.{Row}
 use Rattle.model.specs.declared.Source.{Source}
 use Rattle.model.specs.declared.Taken.{Taken}
 use Rattle.model.specs.declared.Unsupported.TheVariants.{UartEmptyRead, UartReceiveClock}

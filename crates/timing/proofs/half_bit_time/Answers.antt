@@ -1,9 +1,7 @@
 -- `half_bit_time` meets its contract: three factors within their bounds. Assumes nothing.
-use Prim.Native.Nat.{◌*◌}
 use native.Mathlib.Omega.{arith}
 use Rattle.model.specs.Timing.{half_bit_time}
-use Rattle.model.specs.Tests.{period_limit}
-use Rattle.timing.specs.Bounds.{product-most, source-most, half-bit-most}
+use Rattle.timing.specs.Bounds.{product-most, half-bit-most}
 use Rattle.timing.proofs.half_bit_time.Goals as goal
 
 pub overflow_mul-result : goal.overflow_mul-result

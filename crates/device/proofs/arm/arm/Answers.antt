@@ -1,8 +1,7 @@
 -- `arm::arm` meets its contract. Assumes nothing.
-use mathlib.Core.Path.{sym, subst, ap, ◌∙◌}
+use mathlib.Core.Path.{sym, subst, ap}
 use lib.ListN.{get_or}
 use Rattle.device.specs.Arms.{arms, Arms}
-use native.Mathlib.Omega.{arith}
 use Rattle.device.proofs.arm.arm.Goals as goal
 
 pub returns : goal.returns

@@ -2,7 +2,6 @@
 use mathlib.Core.Path.{ap, sym, ◌∙◌}
 use Rattle.line.specs.Instants.{gone_below}
 use Rattle.device.specs.Holds.{flight_of}
-use native.Mathlib.Omega.{arith}
 use Rattle.device.proofs.arm.below_threshold_at.Goals as goal
 
 pub returns-in-Never : goal.returns-in-Never

@@ -1,7 +1,5 @@
 -- `arm::last_gone` meets its contract, by the test on the count. Assumes nothing.
-use native.Mathlib.Omega.{arith}
 use Rattle.device.specs.Arms.{last-in, last_none}
-use native.Mathlib.Omega.{arith}
 use Rattle.device.proofs.arm.last_gone.Goals as goal
 
 pub returns-then-flight-gt0 : goal.returns-then-flight-gt0

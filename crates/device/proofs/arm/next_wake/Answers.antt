@@ -1,7 +1,5 @@
 -- `arm::next_wake` meets its contract: each instant is the definition's. Assumes nothing.
-use mathlib.Core.Path.{sym, subst, ap, ◌∙◌}
 use Rattle.device.specs.Arms.{armed-by}
-use native.Mathlib.Omega.{arith}
 use Rattle.device.proofs.arm.next_wake.Goals as goal
 
 pub returns : goal.returns

@@ -3,7 +3,6 @@ use mathlib.Core.Path.{ap, ◌∙◌}
 use lib.ListN.{get_or}
 use Rattle.model.specs.declared.Date.{Date}
 use Rattle.device.specs.Arms.{gone-in, gone-out}
-use native.Mathlib.Omega.{arith}
 use Rattle.device.proofs.arm.nth_gone.Goals as goal
 
 pub returns-then-n-flight : goal.returns-then-n-flight

@@ -1,13 +1,7 @@
 -- `departures::gone` meets its contract: what it has counted and what the definition counts in the rest make up what the
 -- definition counts in all. Assumes nothing.
 use native.Mathlib.Omega.{arith}
-use mathlib.Core.Path.{◌≡◌}
-use mathlib.Core.List.{List}
-use Prim.Native.Nat.{ℕ, ◌+◌}
-use Rattle.model.specs.Settle.{gone}
-use Rattle.queue.specs.Cursors.{Held}
 use Rattle.queue.specs.Laws.{pop-held}
-use Rattle.device.specs.Holds.{flight_of}
 use Rattle.device.specs.Leaves.{gone-none, gone-later, gone-first}
 use Rattle.device.proofs.departures.gone.Goals as goal
 

@@ -1,13 +1,10 @@
 -- What each loop of `departures::gone` keeps, and what gets less.
-use native.Mathlib.Omega.{arith}
 use mathlib.Core.Path.{◌≡◌}
 use mathlib.Core.List.{List}
 use Prim.Native.Nat.{ℕ, ◌+◌}
 use Rattle.model.specs.Settle.{gone}
 use Rattle.queue.specs.Cursors.{Held}
-use Rattle.queue.specs.Laws.{pop-held}
 use Rattle.device.specs.Holds.{flight_of}
-use Rattle.device.specs.Leaves.{gone-none, gone-later, gone-first}
 use Rattle.device.proofs.departures.gone.Given as goal
 
 abbrev pub invariant-loop-rest : goal.invariant-loop-rest

@@ -1,8 +1,8 @@
 -- `departures::leave` meets its contract. The loop's invariant: i bytes have been moved. Assumes nothing.
 use native.Mathlib.Omega.{arith}
 use mathlib.Core.Path.{◌≡◌}
-use Prim.Native.Nat.{◌-◌, ◌≤◌, ◌<◌}
-use Rattle.device.specs.Leaves.{Leaves, leaves_none, leaves-more}
+use Prim.Native.Nat.{◌<◌}
+use Rattle.device.specs.Leaves.{leaves_none, leaves-more}
 use Rattle.device.proofs.departures.leave.Goals as goal
 
 pub loop-i-init : goal.loop-i-init

@@ -1,8 +1,6 @@
 -- What each loop of `departures::leave` keeps, and what gets less.
-use native.Mathlib.Omega.{arith}
-use mathlib.Core.Path.{◌≡◌}
-use Prim.Native.Nat.{◌-◌, ◌≤◌, ◌<◌}
-use Rattle.device.specs.Leaves.{Leaves, leaves_none, leaves-more}
+use Prim.Native.Nat.{◌-◌, ◌≤◌}
+use Rattle.device.specs.Leaves.{Leaves}
 use Rattle.device.proofs.departures.leave.Given as goal
 
 abbrev pub invariant-loop-i : goal.invariant-loop-i

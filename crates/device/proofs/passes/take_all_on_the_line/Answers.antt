@@ -2,14 +2,8 @@
 -- stands is what is left of what it runs from the start. The measure is how many passes are left. Assumes nothing.
 use native.Mathlib.Omega.{arith}
 use mathlib.Core.Path.{sym, ◌∙◌}
-use Prim.Native.Nat.{ℕ, ◌-◌, ◌≤◌}
-use borrow.Author.Tests.{not-true, not-false}
-use Rattle.model.specs.State.{Uart}
-use Rattle.model.specs.Settle
-use Rattle.model.specs.Events.{passes_in}
 use Rattle.line.specs.Seen.{lost-low}
-use Rattle.device.specs.Receives.{Fit, with}
-use Rattle.device.specs.Rounds.{Ran, blank, few-passes, ran_first, ran-more, ran-end}
+use Rattle.device.specs.Rounds.{blank, few-passes, ran_first, ran-more, ran-end}
 use Rattle.device.proofs.passes.take_all_on_the_line.Goals as goal
 
 pub loop-settings-init : goal.loop-settings-init

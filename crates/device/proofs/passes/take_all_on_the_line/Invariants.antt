@@ -1,14 +1,10 @@
 -- What each loop of `passes::take_all_on_the_line` keeps, and what gets less.
-use native.Mathlib.Omega.{arith}
-use mathlib.Core.Path.{sym, ◌∙◌}
 use Prim.Native.Nat.{ℕ, ◌-◌, ◌≤◌}
-use borrow.Author.Tests.{not-true, not-false}
 use Rattle.model.specs.State.{Uart}
 use Rattle.model.specs.Settle
 use Rattle.model.specs.Events.{passes_in}
-use Rattle.line.specs.Seen.{lost-low}
 use Rattle.device.specs.Receives.{Fit, with}
-use Rattle.device.specs.Rounds.{Ran, blank, few-passes, ran_first, ran-more, ran-end}
+use Rattle.device.specs.Rounds.{Ran, blank}
 use Rattle.device.proofs.passes.take_all_on_the_line.Given as goal
 
 abbrev pub invariant-loop-settings : goal.invariant-loop-settings

@@ -1,10 +1,8 @@
 -- `places::place_of` meets its contract: the offset is looked up among the places not yet passed. Assumes nothing.
-use mathlib.Core.Path.{◌≡◌, refl, sym, ◌∙◌}
-use Prim.Native.Nat.{◌≤◌, ◌-◌}
+use mathlib.Core.Path.{refl, sym, ◌∙◌}
 use native.Mathlib.Omega.{arith}
-use lib.ListN.{length}
 use Rattle.model.specs.Map.{registers, register_of}
-use Rattle.registers.specs.Places.{register_at, nth-register, register_from, register-found, register-passed, register-end}
+use Rattle.registers.specs.Places.{register_at, nth-register, register-found, register-passed, register-end}
 use Rattle.registers.proofs.places.place_of.Goals as goal
 
 pub loop-at-init : goal.loop-at-init

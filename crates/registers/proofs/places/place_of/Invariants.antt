@@ -1,10 +1,9 @@
 -- What each loop of `places::place_of` keeps, and what gets less.
-use mathlib.Core.Path.{◌≡◌, refl, sym, ◌∙◌}
+use mathlib.Core.Path.{◌≡◌}
 use Prim.Native.Nat.{◌≤◌, ◌-◌}
-use native.Mathlib.Omega.{arith}
 use lib.ListN.{length}
 use Rattle.model.specs.Map.{registers, register_of}
-use Rattle.registers.specs.Places.{register_at, nth-register, register_from, register-found, register-passed, register-end}
+use Rattle.registers.specs.Places.{register_from}
 use Rattle.registers.proofs.places.place_of.Given as goal
 
 abbrev pub invariant-loop-at : goal.invariant-loop-at

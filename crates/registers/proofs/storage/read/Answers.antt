@@ -1,5 +1,5 @@
 -- `storage::read` meets its contract, place by place. Assumes nothing.
-use mathlib.Core.Path.{◌≡◌, refl, sym, ap}
+use mathlib.Core.Path.{◌≡◌, refl}
 use mathlib.Core.List.{[], ◌∷◌}
 use Rattle.model.specs.Replies.{as_read}
 use Rattle.model.specs.Map.{value_of}

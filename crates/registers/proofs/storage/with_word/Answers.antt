@@ -1,5 +1,5 @@
 -- `storage::with_word` meets its contract, place by place. Assumes nothing.
-use mathlib.Core.Path.{◌≡◌, refl, sym, ap}
+use mathlib.Core.Path.{◌≡◌, refl}
 use mathlib.Core.List.{[], ◌∷◌}
 use mathlib.Core.Bool.{decide}
 use Rattle.model.specs.Numbers.{choose}

@@ -3,7 +3,7 @@ use mathlib.Core.Path.{ap, ◌∙◌}
 use native.Mathlib.Omega.{arith}
 use mathlib.Core.List.{[]}
 use Rattle.replies.specs.NoticeLaws.{added-noted}
-use Rattle.replies.specs.Notices.{noted, added}
+use Rattle.replies.specs.Notices.{added}
 use Rattle.replies.proofs.notices.one.Goals as goal
 
 pub returns : goal.returns

@@ -1,9 +1,6 @@
 -- `offsets::repeated` meets its contract: each offset is looked for among those behind it. Assumes nothing.
-use mathlib.Core.Path.{◌≡◌, refl, sym, ◌∙◌}
-use Prim.Native.Nat.{◌≤◌, ◌-◌}
+use mathlib.Core.Path.{refl, sym, ◌∙◌}
 use native.Mathlib.Omega.{arith}
-use lib.ListN.{length, drop}
-use Rattle.model.specs.Tests.{repeated}
 use Rattle.replies.specs.Offsets.{repeated-found, repeated-passed, repeated-end}
 use Rattle.replies.proofs.offsets.repeated.Goals as goal
 

@@ -1,10 +1,8 @@
 -- What each loop of `offsets::repeated` keeps, and what gets less.
-use mathlib.Core.Path.{◌≡◌, refl, sym, ◌∙◌}
+use mathlib.Core.Path.{◌≡◌}
 use Prim.Native.Nat.{◌≤◌, ◌-◌}
-use native.Mathlib.Omega.{arith}
 use lib.ListN.{length, drop}
 use Rattle.model.specs.Tests.{repeated}
-use Rattle.replies.specs.Offsets.{repeated-found, repeated-passed, repeated-end}
 use Rattle.replies.proofs.offsets.repeated.Given as goal
 
 abbrev pub invariant-loop-at : goal.invariant-loop-at

@@ -1,9 +1,6 @@
 -- `offsets::stands_from` meets its contract: the offset is looked for among those not yet passed. Assumes nothing.
-use mathlib.Core.Path.{◌≡◌, refl, sym, ◌∙◌}
-use Prim.Native.Nat.{◌≤◌, ◌-◌}
+use mathlib.Core.Path.{refl, sym, ◌∙◌}
 use native.Mathlib.Omega.{arith}
-use lib.ListN.{length, drop}
-use Rattle.model.specs.Tests.{among}
 use Rattle.replies.specs.Offsets.{among-found, among-passed, among-end}
 use Rattle.replies.proofs.offsets.stands_from.Goals as goal
 

@@ -1,10 +1,8 @@
 -- What each loop of `offsets::stands_from` keeps, and what gets less.
-use mathlib.Core.Path.{◌≡◌, refl, sym, ◌∙◌}
+use mathlib.Core.Path.{◌≡◌}
 use Prim.Native.Nat.{◌≤◌, ◌-◌}
-use native.Mathlib.Omega.{arith}
 use lib.ListN.{length, drop}
 use Rattle.model.specs.Tests.{among}
-use Rattle.replies.specs.Offsets.{among-found, among-passed, among-end}
 use Rattle.replies.proofs.offsets.stands_from.Given as goal
 
 abbrev pub invariant-loop-at : goal.invariant-loop-at

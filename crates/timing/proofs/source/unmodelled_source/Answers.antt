@@ -1,5 +1,5 @@
 -- `source::unmodelled_source` meets its contract, case by case. Assumes nothing.
-use mathlib.Core.Path.{◌≡◌, refl, sym, ap, ◌∙◌}
+use mathlib.Core.Path.{sym, ap, ◌∙◌}
 use native.Mathlib.Omega.{arith}
 use Rattle.model.specs.Timing.{unmodelled, unmodelled_source}
 use Rattle.timing.specs.Cases.{modelled}
