@@ -54,7 +54,7 @@ impl Part {
         }
         let Some(asked) = asked(call) else { return };
         if self.in_rows <= MOST_IN_ROWS {
-            self.cases.push(format!("asCase ({asked}) {}", list(numbers(call, line).iter())));
+            self.cases.push(format!("as_case ({asked}) {}", list(numbers(call, line).iter())));
             self.rows += usize::from(is_row);
         }
     }
@@ -90,12 +90,12 @@ fn request(call: &Call) -> Option<String> {
         Call::Wake { now } => format!("Call.at {now} (Dated.machine Machine.wake)"),
         Call::Watch { now, watched } => format!("Call.at {now} (Dated.machine (Machine.watch {watched}))"),
         Call::Reset { now } => format!("Call.at {now} (Dated.machine Machine.reset)"),
-        Call::PowerDown { now } => format!("Call.at {now} (Dated.machine Machine.powerDown)"),
-        Call::Clock { now, period } => format!("Call.at {now} (Dated.machine (Machine.clockChange {period}))"),
-        Call::TakeTx { now, length } => format!("Call.at {now} (Dated.takeTx (replicate {length} 165))"),
-        Call::TakeWritten { length } => format!("Call.undated (Undated.takeWritten (replicate {length} 165))"),
-        Call::HasLeft => "Call.undated Undated.hasLeft".to_owned(),
-        Call::HostPending => "Call.undated Undated.hostPending".to_owned(),
+        Call::PowerDown { now } => format!("Call.at {now} (Dated.machine Machine.power_down)"),
+        Call::Clock { now, period } => format!("Call.at {now} (Dated.machine (Machine.clock_change {period}))"),
+        Call::TakeTx { now, length } => format!("Call.at {now} (Dated.take_tx (replicate {length} 165))"),
+        Call::TakeWritten { length } => format!("Call.undated (Undated.take_written (replicate {length} 165))"),
+        Call::HasLeft => "Call.undated Undated.has_left".to_owned(),
+        Call::HostPending => "Call.undated Undated.host_pending".to_owned(),
     })
 }
 
@@ -246,7 +246,7 @@ fn put_lists(out: &mut impl Write, answered: &[(Call, String)]) -> io::Result<()
         let starts = list(frames.iter().map(|frame| frame.start));
         let ends = list(frames.iter().map(|frame| frame.end));
         let wanted = figures(text);
-        writeln!(out, "\nequal{lists} : figuresNumbers (figuresOf {starts} {ends}) ≡ {}", list(wanted.iter()))?;
+        writeln!(out, "\nequal{lists} : figures_numbers (figures_of {starts} {ends}) ≡ {}", list(wanted.iter()))?;
         writeln!(out, "unfolding {}", FIGURES_UNFOLDED.trim_end())?;
         writeln!(out, "equal{lists} = refl")?;
         lists += 1;
