@@ -1,8 +1,6 @@
 -- What is proved of whole runs, of blanked ones, of settlings in steps and of a row's writes.
 pub mod TwoRuns
 pub mod Blanked
-pub mod TimesAlike
-mod Examples
 pub mod Keeps
 pub mod TwoSteps
 pub mod Rows

@@ -7,8 +7,4 @@ pub mod Numbered
 pub mod Natural
 pub mod NaturalCalls
 pub mod NaturalRuns
-pub mod Numbering
-pub mod Bounds
-pub mod Shapes
-pub mod Theorem
 pub mod InUse

@@ -22,18 +22,18 @@ use Rattle.theorems.specs.Keeps.Widths.{new-widths}
 use Rattle.theorems.specs.TwoRuns.Alike.{fifo_offset}
 use Rattle.theorems.specs.TwoRuns.Renamed.{itself, map_take, map_reply, map_answer}
 use Rattle.theorems.specs.TwoRuns.Numbered.{Bare, without_rest, AskedShape}
-use Rattle.theorems.specs.TwoRuns.Shapes.{asked-shape}
-use Rattle.theorems.specs.TwoRuns.Theorem.{agree, row-known, firsts, new-nat}
+use Rattle.theorems.proofs.TwoRuns.Shapes.{asked-shape}
+use Rattle.theorems.proofs.TwoRuns.Theorem.{agree, row-known, firsts, new-nat}
 use Rattle.theorems.specs.Orders.Renamed.{Saves, placed_step, map_saves, map_answered}
 use Rattle.theorems.specs.Orders.Alike.{OrdersAlike, order_host, order_written, host_of_orders, written_of_orders, host_number}
 use Rattle.theorems.specs.Orders.Alike.{written_number}
 use Rattle.theorems.specs.Orders.Agree.{OrderAgree, OrdersAgree}
-use Rattle.theorems.specs.Orders.Numbering.{numbered_order}
-use Rattle.theorems.specs.Orders.Stands.{OrderFits, SoundSaves, parked_as}
-use Rattle.theorems.specs.Orders.OneRun.{bare_answered, numbered_run, Here, numbered_next, here-next, parked-next, run-numbered}
-use Rattle.theorems.specs.Orders.OneNumbering.{runs-one}
+use Rattle.theorems.proofs.Orders.Numbering.{numbered_order}
+use Rattle.theorems.proofs.Orders.Stands.{OrderFits, SoundSaves, parked_as}
+use Rattle.theorems.proofs.Orders.OneRun.{bare_answered, numbered_run, Here, numbered_next, here-next, parked-next, run-numbered}
+use Rattle.theorems.proofs.Orders.OneNumbering.{runs-one}
 use Rattle.form.specs.declared.NotLoaded.{NotLoaded}
-use Rattle.theorems.specs.Orders.Bounds.{BelowAnswered, FixedSaves, next-fixed, answer-below}
+use Rattle.theorems.proofs.Orders.Bounds.{BelowAnswered, FixedSaves, next-fixed, answer-below}
 
 -- ---- the kind of each answer
 

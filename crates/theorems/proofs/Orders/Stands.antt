@@ -17,7 +17,7 @@ use Rattle.form.specs.Orders.{find_bytes, order_step}
 use Rattle.form.specs.Examples.{no_bytes}
 use Rattle.form.proofs.Parked.{saved-loads, loaded-is-form}
 use Rattle.theorems.specs.Orders.Renamed.{nth_save, find_state, Saves, placed_step}
-use Rattle.theorems.specs.Orders.Numbering.{placed_order}
+use Rattle.theorems.proofs.Orders.Numbering.{placed_order}
 use Rattle.model.specs.declared.Taken.{Taken}
 
 -- ---- what a caller gives fits its types

@@ -22,9 +22,9 @@ use Rattle.theorems.specs.TwoRuns.Numbered.{AskedShape}
 use Rattle.model.proofs.Laws.Placed.{Placed, placed_asked, run_placed}
 use Rattle.model.proofs.Keeps.MapKept.{run-placed}
 use Rattle.theorems.specs.TwoRuns.NaturalRuns.{map_asked, run_placed-nat}
-use Rattle.theorems.specs.TwoRuns.Numbering.{number, host-placed, written-placed, asks_back, asks-alike}
-use Rattle.theorems.specs.TwoRuns.Bounds.{run-below}
-use Rattle.theorems.specs.TwoRuns.Shapes.{run-shape}
+use Rattle.theorems.proofs.TwoRuns.Numbering.{number, host-placed, written-placed, asks_back, asks-alike}
+use Rattle.theorems.proofs.TwoRuns.Bounds.{run-below}
+use Rattle.theorems.proofs.TwoRuns.Shapes.{run-shape}
 use Rattle.model.proofs.Ends.Passes.{apart}
 use Rattle.model.specs.declared.Report.{Report}
 use Rattle.model.specs.declared.Row.{Row}

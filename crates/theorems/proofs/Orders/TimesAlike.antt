@@ -25,17 +25,17 @@ use Rattle.model.proofs.Unused.{new-unused}
 use Rattle.model.specs.Call.{Dated, Undated, Call, Request, Asked, Ask, given}
 use Rattle.theorems.specs.Orders.Renamed.{Saves, map_saves}
 use Rattle.theorems.specs.Orders.Agree.{OrdersAgree}
-use Rattle.theorems.specs.Orders.OneRun.{Here, numbered_next, here-next, parked-next}
-use Rattle.theorems.specs.Orders.OneNumbering.{OneStep, order-one}
-use Rattle.theorems.specs.Orders.Theorem.{new_parked, new_saves, new_saves-nat, here, orders-agree-alike}
-use Rattle.theorems.specs.TimesAlike.{blanked-resets, length-blank, asked-alike, asked-same, same-blank}
+use Rattle.theorems.proofs.Orders.OneRun.{Here, numbered_next, here-next, parked-next}
+use Rattle.theorems.proofs.Orders.OneNumbering.{OneStep, order-one}
+use Rattle.theorems.proofs.Orders.Theorem.{new_parked, new_saves, new_saves-nat, here, orders-agree-alike}
+use Rattle.theorems.proofs.TimesAlike.{blanked-resets, length-blank, asked-alike, asked-same, same-blank}
 use Rattle.form.proofs.Parked.{FormOf, saved-loads, loaded-is-form}
 use Rattle.form.specs.declared.NotLoaded.TheVariants.{Layout, NoState}
 use Rattle.theorems.specs.Blanked.{blank_byte, blank_word, blank_written, blank_resets, blanked, blanked_asked}
 use Rattle.theorems.specs.TwoRuns.Renamed.{map_sent, map_on_the_line, map_receiving, map_uart, forget}
 use Rattle.theorems.specs.Orders.Alike.{SameButBytes, LoadsAlike, both_refused, both_loaded, OrderAlike, OrdersAlike, order_host}
 use Rattle.theorems.specs.Orders.Alike.{order_written, host_of_orders, written_of_orders, host_number, written_number}
-use Rattle.theorems.specs.Orders.Stands.{OrderFits, parked_as}
+use Rattle.theorems.proofs.Orders.Stands.{OrderFits, parked_as}
 use Rattle.theorems.specs.Orders.Blanked.{blanked_state, blanked_loading, blanked_order, blanked_orders}
 
 -- ---- a state with other bytes

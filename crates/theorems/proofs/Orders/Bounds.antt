@@ -13,14 +13,14 @@ use Rattle.form.specs.Load.{Loading, loaded, refused, load}
 use Rattle.form.specs.Orders.{Order, Answered, LoadOf, CallersOrder, OrderStep}
 use Rattle.theorems.specs.TwoRuns.Renamed.{map_sent, map_receiving, map_uart, itself, forget, map_take}
 use Rattle.theorems.specs.TwoRuns.Numbered.{Below}
-use Rattle.theorems.specs.TwoRuns.Numbering.{host-of-placed, written-of-placed}
-use Rattle.theorems.specs.TwoRuns.Bounds.{Keeps, shifted, shifted-keeps, kept-below, up_from-fixed, asked-fixed, below-fixed}
+use Rattle.theorems.proofs.TwoRuns.Numbering.{host-of-placed, written-of-placed}
+use Rattle.theorems.proofs.TwoRuns.Bounds.{Keeps, shifted, shifted-keeps, kept-below, up_from-fixed, asked-fixed, below-fixed}
 use Rattle.theorems.specs.Orders.Renamed.{map_cell, map_loading, LoadFrom, Saves, placed_step, map_from, map_saves, map_order, map_answered}
 use Rattle.theorems.specs.Orders.Renamed.{map_order_step}
 use Rattle.theorems.specs.Orders.Natural.{order-nat}
 use Rattle.theorems.specs.Orders.Alike.{host_bytes, loaded_host, loaded_written, order_host, order_written}
 use Rattle.theorems.specs.Orders.Agree.{CellBelow}
-use Rattle.theorems.specs.Orders.Numbering.{numbered_flight, numbered_uart, numbered_loading, numbered_order}
+use Rattle.theorems.proofs.Orders.Numbering.{numbered_flight, numbered_uart, numbered_loading, numbered_order}
 
 -- ---- what an answer holds
 

@@ -19,9 +19,9 @@ use Rattle.theorems.specs.TwoRuns.Alike.{given_by}
 use Rattle.model.proofs.Laws.Placed.{Put, Placed, changed_asked, placed_asked, step_placed, run_placed}
 use Rattle.theorems.specs.TwoRuns.NaturalCalls.{map_put, map_placed, map_step}
 use Rattle.theorems.specs.TwoRuns.NaturalRuns.{map_asked, asked-nat}
-use Rattle.theorems.specs.TwoRuns.Numbering.{writes_of, changed-twice, put_of, written_of, up_from, numbered, numbered_asked, host_in}
-use Rattle.theorems.specs.TwoRuns.Numbering.{written_in}
-use Rattle.theorems.specs.TwoRuns.Numbering.{number, host-of-placed, written-of-placed}
+use Rattle.theorems.proofs.TwoRuns.Numbering.{writes_of, changed-twice, put_of, written_of, up_from, numbered, numbered_asked, host_in}
+use Rattle.theorems.proofs.TwoRuns.Numbering.{written_in}
+use Rattle.theorems.proofs.TwoRuns.Numbering.{number, host-of-placed, written-of-placed}
 use Rattle.theorems.specs.TwoRuns.Numbered.{Bare, byte_read, bytes_read, bytes_sent, Below, EachBelow}
 
 -- ---- the bytes in an answer with other bytes

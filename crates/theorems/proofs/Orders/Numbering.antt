@@ -13,8 +13,8 @@ use Rattle.model.proofs.Laws.Placed.{placed_asked}
 use Rattle.form.specs.Load.{Loading, loaded, refused, load}
 use Rattle.form.specs.Orders.{Order, LoadOf, CallersOrder}
 use Rattle.theorems.specs.TwoRuns.Renamed.{map_sent, map_receiving, map_uart, itself, forget}
-use Rattle.theorems.specs.TwoRuns.Numbering.{up_from, numbered_asked, head-back, up_from-back, past, asked-back}
-use Rattle.theorems.specs.TwoRuns.Numbering.{host-of-placed, written-of-placed}
+use Rattle.theorems.proofs.TwoRuns.Numbering.{up_from, numbered_asked, head-back, up_from-back, past, asked-back}
+use Rattle.theorems.proofs.TwoRuns.Numbering.{host-of-placed, written-of-placed}
 use Rattle.theorems.specs.Orders.Renamed.{map_loading, LoadFrom, PlacedOrder, map_from, map_order}
 use Rattle.theorems.specs.Orders.Alike.{host_bytes, loaded_host, loaded_written, order_host, order_written}
 

@@ -22,15 +22,16 @@ use Rattle.form.specs.Orders.{Order, Answered, order_by, CallersOrder}
 use Rattle.theorems.specs.TwoRuns.Alike.{Alike, AskedAlike, fifo_offset, given_by, host_given, fifo_given}
 use Rattle.theorems.specs.TwoRuns.Renamed.{map_sent, map_receiving, map_uart, forget}
 use Rattle.theorems.specs.TwoRuns.NaturalCalls.{map_put}
-use Rattle.theorems.specs.TwoRuns.Numbering.{numbered, numbered_asked, forget-alike, asked-alike, given-alike}
-use Rattle.theorems.specs.TwoRuns.Numbering.{host-of-placed, written-of-placed}
-use Rattle.theorems.specs.TwoRuns.InUse.{AlikeInUse, not_first}
+use Rattle.theorems.proofs.TwoRuns.Numbering.{numbered, numbered_asked, forget-alike, asked-alike, given-alike}
+use Rattle.theorems.proofs.TwoRuns.Numbering.{host-of-placed, written-of-placed}
+use Rattle.theorems.specs.TwoRuns.InUse.{AlikeInUse}
+use Rattle.theorems.proofs.TwoRuns.InUse.{not_first}
 use Rattle.theorems.specs.Orders.Renamed.{LoadFrom, Saves, placed_step, map_saves}
 use Rattle.theorems.specs.Orders.Alike.{LoadsAlike, both_refused, both_loaded, OrderAlike, OrdersAlike, host_bytes}
 use Rattle.theorems.specs.Orders.Alike.{loaded_host, loaded_written, order_host, order_written}
-use Rattle.theorems.specs.Orders.Numbering.{numbered_flight, numbered_uart, numbered_loading, numbered_order}
-use Rattle.theorems.specs.Orders.OneRun.{numbered_run, Here, numbered_next, here-next, parked-next}
-use Rattle.theorems.specs.Orders.Stands.{parked_as}
+use Rattle.theorems.proofs.Orders.Numbering.{numbered_flight, numbered_uart, numbered_loading, numbered_order}
+use Rattle.theorems.proofs.Orders.OneRun.{numbered_run, Here, numbered_next, here-next, parked-next}
+use Rattle.theorems.proofs.Orders.Stands.{parked_as}
 
 -- ---- a state has the same numbers whatever its bytes are
 

@@ -14,7 +14,8 @@ use Rattle.model.proofs.Refuses.FifoPlace.{first-is-fifo, fifo-is-first}
 use Rattle.theorems.specs.TwoRuns.Alike.{Each, Alike, AskedAlike, fifo_offset}
 use Rattle.theorems.specs.TwoRuns.Agree.{Agreeing}
 use Rattle.model.specs.Unused.{takes_word, SameInUse}
-use Rattle.theorems.specs.TwoRuns.InUse.{AlikeInUse, runs-agree-in-use}
+use Rattle.theorems.specs.TwoRuns.InUse.{AlikeInUse}
+use Rattle.theorems.proofs.TwoRuns.InUse.{runs-agree-in-use}
 use Rattle.theorems.specs.Blanked.{blank_byte, blank_word, blank_written, blank_resets, blanked, blanked_asked, blanked_list}
 
 pub length-blank : (bs : List ℕ) → length bs ≡ length (map blank_byte bs)

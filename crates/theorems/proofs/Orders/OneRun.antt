@@ -11,13 +11,13 @@ use Rattle.form.specs.Cells.{Cell}
 use Rattle.form.specs.Orders.{Answered, OrderStep, CallersOrder, order_step, run_orders}
 use Rattle.theorems.specs.TwoRuns.Renamed.{map_uart, itself, forget, map_take, map_answer}
 use Rattle.theorems.specs.TwoRuns.Numbered.{without_rest}
-use Rattle.theorems.specs.TwoRuns.Numbering.{past}
-use Rattle.theorems.specs.TwoRuns.Theorem.{bare-mapped}
+use Rattle.theorems.proofs.TwoRuns.Numbering.{past}
+use Rattle.theorems.proofs.TwoRuns.Theorem.{bare-mapped}
 use Rattle.theorems.specs.Orders.Renamed.{map_cell, Saves, placed_step, map_saves, map_answered, map_order_step}
 use Rattle.theorems.specs.Orders.Natural.{order-nat}
 use Rattle.theorems.specs.Orders.Alike.{order_host, order_written, host_of_orders, written_of_orders}
-use Rattle.theorems.specs.Orders.Numbering.{placed_order, numbered_order, uart-itself, order-back}
-use Rattle.theorems.specs.Orders.Stands.{OrderFits, SoundSaves, parked_as, order-as, order-sound}
+use Rattle.theorems.proofs.Orders.Numbering.{placed_order, numbered_order, uart-itself, order-back}
+use Rattle.theorems.proofs.Orders.Stands.{OrderFits, SoundSaves, parked_as, order-as, order-sound}
 
 -- ---- without the rest of a lent buffer
 

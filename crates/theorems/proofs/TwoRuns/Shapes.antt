@@ -22,7 +22,7 @@ use Rattle.model.proofs.Ends.Passes.{apart}
 use Rattle.model.proofs.Laws.Placed.{changed_dated, changed_undated, changed, changed_asked, placed, placed_asked, step_placed, step_by}
 use Rattle.model.proofs.Laws.Placed.{run_placed}
 use Rattle.theorems.specs.TwoRuns.Alike.{Each}
-use Rattle.theorems.specs.TwoRuns.Numbering.{host_in, written_in, other_place, fifo-place, numbered, numbered_asked, number}
+use Rattle.theorems.proofs.TwoRuns.Numbering.{host_in, written_in, other_place, fifo-place, numbered, numbered_asked, number}
 use Rattle.theorems.specs.TwoRuns.Numbered.{NotFifo, Shape, AskedShape}
 use Rattle.model.specs.declared.Refusal.{Refusal}
 use Rattle.model.specs.declared.Report.{Report}

@@ -1,0 +1,4 @@
+mod Examples
+pub mod TimesAlike
+pub mod TwoRuns
+pub mod Orders
