@@ -28,7 +28,8 @@ writes_of c = (given c).1
 -- ---- laws of a call with other parts
 
 module _ {R X X' X'' H H' H'' L L' L'' : Type 0} (x : X → X') (h : List H → List H') (l : List L → List L')
-    (x' : X' → X'') (h' : List H' → List H'') (l' : List L' → List L'') (x'' : X → X'') (h'' : List H → List H'') (l'' : List L → List L'') where
+    (x' : X' → X'') (h' : List H' → List H'') (l' : List L' → List L'') (x'' : X → X'') (h'' : List H → List H'') (l'' : List L → List L'')
+        where
   -- two changes are one where they are on what the call writes, gives and lends
   pub changed-twice : (c : Call R X H L) → ((a : X) → writes_of c ≡ a ∷ [] → x' (x a) ≡ x'' a) → h' (h (host_of c)) ≡ h'' (host_of c)
       → ((bs : List L) → l' (l bs) ≡ l'' bs)
