@@ -62,7 +62,7 @@ module _ (s : List ℕ) (start i : ℕ) (after : start ≤ i) where
       let here : start + (i - start) ≡ i = omega arith in
       let there : suc (i - start) ≡ i + 1 - start = omega arith in
       let byte : get_or (drop start s) (i - start) 0 ≡ get_or s i 0 = get_or-drop start s (i - start) 0
-          ∙ ap (λ (k : ℕ). get_or s k 0) here in
+      ∙ ap (λ (k : ℕ). get_or s k 0) here in
       ap (λ (b : ℕ). map shown (take (i - start) (drop start s)) ++ (shown b ∷ [])) (sym byte)
       ∙ sym (map-append shown (take (i - start) (drop start s)) (get_or (drop start s) (i - start) 0 ∷ []))
       ∙ ap (map shown) (sym (take-suc (drop start s) (i - start) 0 (omega (arith, length-drop start s))))

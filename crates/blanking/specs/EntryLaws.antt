@@ -204,8 +204,11 @@ module _ (offsets ns : List ℕ) (last : ℕ) (bs s : List ℕ) (h : length bs �
   words-few Setup = omega (arith, set-up-few (map low_of (drop 0 ns)) (take 16 (map low_of (drop 16 ns))))
   words-few Read = omega (arith, two-few (get_or ns 0 0) (low_of (get_or ns 1 0)))
   words-few Write =
-      omega (arith, three-few (get_or ns 0 0) (low_of (get_or ns 1 0))
-          (blank_word offsets (low_of (get_or ns 1 0)) (low_of (get_or ns 2 0))))
+      omega (
+        arith,
+        three-few (get_or ns 0 0) (low_of (get_or ns 1 0))
+            (blank_word offsets (low_of (get_or ns 1 0)) (low_of (get_or ns 2 0))),
+      )
   words-few WriteRow = row-few (get_or ns 0 0) last bs h
   words-few Receive = received-few (get_or ns 0 0) (get_or ns 1 0) last bs h
   words-few Wake = omega (arith, number-few (get_or ns 0 0))

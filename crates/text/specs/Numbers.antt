@@ -98,7 +98,7 @@ module _ (base limit : ℕ) where
   unfolding number_after all_digits value_after
   after-cons value c s =
       nested (ltb (digit_value c) base) (all_digits base s) (at_most limit (value_after base (value * base + digit_value c) s))
-          Number.NoNumber
+      Number.NoNumber
 
   above : (value : ℕ) (s : List ℕ) → 0 < base → limit < value → number_after base limit value s ≡ Number.NoNumber
   unfolding number_after at_most

@@ -283,6 +283,6 @@ module _ (u : Uart ℕ ℕ) (within : Within u) (wide : Widths u) where
   unfolding state_in
   form-back =
       ap (λ ps. state_with (get_or ps 0 []) (get_or ps 1 []) (get_or ps 2 []) (get_or ps 3 []) (get_or ps 4 []) (get_or ps 5 [])
-          (get_or ps 6 []))
+      (get_or ps 6 []))
       (ap parts_in (form-bytes u) ∙ parts-read (seven u) refl form_small)
       ∙ state-back

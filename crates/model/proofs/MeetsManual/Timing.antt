@@ -138,7 +138,7 @@ module _ (now : ℕ) (u : Uart ℕ ℕ) (x : Written) (m : Meant u.control) (t :
         lasts,
         gone
             ∙ ap (λ (l : List (Sent ℕ)). l ++ (record
-                { gone_at = after (starts_at (subcycles now) (last_gone l)) time; byte = x.value % 256 }
+            { gone_at = after (starts_at (subcycles now) (last_gone l)) time; byte = x.value % 256 }
             ∷ [])) alone
             ∙ ap (λ (k : ℕ). record { gone_at = k; byte = x.value % 256 } ∷ []) (held-twice (now * 32) time),
       )

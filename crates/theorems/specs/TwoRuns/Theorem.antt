@@ -226,7 +226,7 @@ module _ (fifo : ℕ) (f f' g g' : ℕ → ℕ) where
 module _ (fifo : ℕ) (cs ds : List Ask) where
   agreeing : {h w : ℕ} {rest : List Ask} {t : List Bare} → Each (AskedShape fifo) rest t → EachBelow fifo h w rest t
       → (xs ys : List (Answer ℕ ℕ ℕ)) → map without_rest xs ≡ map (with_bytes_of fifo cs) t → map without_rest ys
-          ≡ map (with_bytes_of fifo ds) t
+      ≡ map (with_bytes_of fifo ds) t
       → Agreeing fifo cs ds h w rest xs ys
   unfolding with_bytes_of map_answer map_reply without_rest given_by again
   agreeing Each.nil EachBelow.nil [] [] e f = Agreeing.nil
