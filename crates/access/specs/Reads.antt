@@ -9,7 +9,8 @@ use Rattle.model.specs.Setters.{with_mistimed, with_line}
 use Rattle.model.specs.Settle.{int_status}
 use Rattle.model.specs.Replies.{ReadOf, word, no_value, as_read}
 use Rattle.model.specs.Map.{Shown, Register, fifo, int_clr, unknown, shown, stored, is_fifo, value_of}
-use Rattle.model.specs.Registers.{Access, source_notes, status_word, fsm_status, pop, gives, shown_in, read_register, looks, read_looking, read_at}
+use Rattle.model.specs.Registers.{Access, source_notes, status_word, fsm_status, pop, gives, shown_in, read_register, looks, read_looking}
+use Rattle.model.specs.Registers.{read_at}
 use Rattle.model.proofs.Ends.Passes.{apart}
 use Rattle.model.proofs.Laws.Choose.{choose-true, choose-false, choose-ind}
 use Rattle.model.specs.declared.Read.{Read}
@@ -178,7 +179,8 @@ module _ (p : Register) (c : Core) (a : Arrays) (k : Shape c a) {yes : Bool} {s 
       (sym (seen_read ∙ ap (λ (q : Register). read_register (source_notes UartReceiveClock s) q (abs seen a)) ep))
       (pop-accesses s seen a held_in (eg ∙ ap₂ (popped seen) (sym ea) em))
 
-  pub reads_word : is_fifo p ≡ false → {reply : Read} → reply ≡ as_read (word_at seen p) → Accesses as_read (read_at p (abs c a)) seen a reply m
+  pub reads_word : is_fifo p ≡ false → {reply : Read} → reply ≡ as_read (word_at seen p)
+      → Accesses as_read (read_at p (abs c a)) seen a reply m
   reads_word ew {reply} er =
       subst (λ (x : Access (ReadOf ℕ) ℕ ℕ). Accesses as_read x seen a reply m) (sym seen_read)
       (subst (λ (n : Notices). Accesses as_read (read_register (source_notes UartReceiveClock s) p (abs seen a)) seen a reply n) (sym em)

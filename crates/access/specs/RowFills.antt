@@ -176,7 +176,8 @@ fills-next cycle bytes from n i c dates flight r less cᵢ datesᵢ flightᵢ r�
 abbrev pub flying_by : Cursor → Date → Core → Core
 flying_by f w c = with_wake_of w (with_flight_of f c)
 
-module _ (c : Core) (f : Cursor) (w : Date) {dates flight bytes : List ℕ} {from n : ℕ} (r : Room (flying_by f w c) dates flight bytes from n)
+module _ (c : Core) (f : Cursor) (w : Date) {dates flight bytes : List ℕ} {from n : ℕ}
+    (r : Room (flying_by f w c) dates flight bytes from n)
     (some : 1 ≤ n) {f' : Cursor} (e : f' ≡ pushed f) where
   -- what arming asks
   pub longer-held : (slot date : ℕ) → Held 129 f' × (length (set dates slot date) ≡ 129)

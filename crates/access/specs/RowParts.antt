@@ -1,5 +1,6 @@
 -- A row over a core and its arrays: what the parts of `write_row` give. Assumes nothing.
-use Rattle.std.specs.Prelude.{◌≡◌, Bool, true, false, ◌&&◌, not, List, ◌∷◌, ℕ, suc, ◌+◌, ◌-◌, ◌*◌, ◌<◌, ◌≤◌, min, ltb, length, drop, take, get_or, replicate}
+use Rattle.std.specs.Prelude.{◌≡◌, Bool, true, false, ◌&&◌, not, List, ◌∷◌, ℕ, suc, ◌+◌, ◌-◌, ◌*◌, ◌<◌, ◌≤◌, min, ltb, length, drop, take}
+use Rattle.std.specs.Prelude.{get_or, replicate}
 use Rattle.model.specs.Numbers.{choose, due_by}
 use Rattle.model.specs.State
 use Rattle.model.specs.Timing.{unmodelled_source}

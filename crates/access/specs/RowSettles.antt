@@ -59,7 +59,8 @@ cut-next n i bytes h less =
     drop-next i (take n bytes) (omega (arith, cut n bytes h))
     ∙ ap (λ (b : ℕ). b ∷ drop (suc i) (take n bytes)) (cut-get n i bytes less)
 
-pub so-far-none : {cycle : ℕ} {c : Core} {a : Arrays} {bytes : List ℕ} {n : ℕ} → Begins cycle c a bytes n → {r : RowSoFar} → r ≡ none_yet c n
+pub so-far-none : {cycle : ℕ} {c : Core} {a : Arrays} {bytes : List ℕ} {n : ℕ} → Begins cycle c a bytes n → {r : RowSoFar} → r
+    ≡ none_yet c n
     → SoFar cycle bytes n (abs r.core a) r a
 so-far-none {cycle} {c} {a} {bytes} {n} k e = rw e (record {
   ok = k.ok;

@@ -139,7 +139,8 @@ module _ (now : ℕ) (bs : List ℕ) {u₀ : State.Uart ℕ ℕ} (early : now < 
 
     After : Access Write ℕ ℕ → ℕ → Type 0
     After a d =
-        Wrote now bs u₀ (concluded a).state (suc made) (p + passes_in (settle_at now u).events) (o + overflows_in (settle_at now u).events) d
+        Wrote now bs u₀ (concluded a).state (suc made) (p + passes_in (settle_at now u).events) (o + overflows_in (settle_at now u).events)
+        d
 
     pub settled-dropped : ltb fifo_bytes (length (settle_at now u).state.in_flight) ≡ true
         → Wrote now bs u₀ (concluded (send_byte now b (settle_at now u).state)).state (suc made) (p + passes_in (settle_at now u).events)

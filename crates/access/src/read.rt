@@ -65,7 +65,8 @@ fn carry_out<'a>(
 ) -> ReadCore
     requires { Ok core (arrays gone_at.now flight.now tx.old host.now run_at.now run_len.old rx.old) × (cycle < date_end) }
     ensures { Works as_read
-        (dated_work cycle (read_placed cycle (register_at place)) (abs core (arrays gone_at.now flight.now tx.old host.now run_at.now run_len.old rx.old)))
+        (dated_work cycle (read_placed cycle (register_at place))
+        (abs core (arrays gone_at.now flight.now tx.old host.now run_at.now run_len.old rx.old)))
         result.core
         (arrays gone_at.now flight.now tx.new host.now run_at.now run_len.new rx.new)
         result.reply result.report }

@@ -97,7 +97,8 @@ fn carry_out<'a>(
 ) -> WriteCore
     requires { Ok core (arrays gone_at.old flight.old tx.old host.now run_at.now run_len.old rx.old) × (cycle < date_end) }
     ensures { Works (λ x. x)
-        (work_at fifo cycle byte (register_at place) value (abs core (arrays gone_at.old flight.old tx.old host.now run_at.now run_len.old rx.old)))
+        (work_at fifo cycle byte (register_at place) value
+        (abs core (arrays gone_at.old flight.old tx.old host.now run_at.now run_len.old rx.old)))
         result.core
         (arrays gone_at.new flight.new tx.new host.now run_at.now run_len.new rx.new)
         result.reply result.report }

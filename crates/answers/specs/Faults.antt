@@ -1,6 +1,7 @@
 -- What is answered to a line that is no call. Assumes nothing.
 use Rattle.std.specs.Prelude.{◌≡◌, List, [], ◌∷◌, ◌++◌, map, ℕ, suc, ◌+◌, ◌-◌, ◌<◌, ◌≤◌, ltb, length, take, drop, get_or}
-use Rattle.std.proofs.Common.{ap, sym, ◌∙◌, append-nil, arith, lt-ltb, le-ltb, length-take, length-drop, take_all, take-suc, take-take, get_or-drop}
+use Rattle.std.proofs.Common.{ap, sym, ◌∙◌, append-nil, arith, lt-ltb, le-ltb, length-take, length-drop, take_all, take-suc, take-take}
+use Rattle.std.proofs.Common.{get_or-drop}
 use Rattle.std.proofs.lemmas.List.{map-append}
 use Rattle.text.specs.Ascii.{ascii}
 use Rattle.text.specs.Pick.{pick}
@@ -60,7 +61,8 @@ module _ (s : List ℕ) (start i : ℕ) (after : start ≤ i) where
   shown-on h =
       let here : start + (i - start) ≡ i = omega arith in
       let there : suc (i - start) ≡ i + 1 - start = omega arith in
-      let byte : get_or (drop start s) (i - start) 0 ≡ get_or s i 0 = get_or-drop start s (i - start) 0 ∙ ap (λ (k : ℕ). get_or s k 0) here in
+      let byte : get_or (drop start s) (i - start) 0 ≡ get_or s i 0 = get_or-drop start s (i - start) 0
+      ∙ ap (λ (k : ℕ). get_or s k 0) here in
       ap (λ (b : ℕ). map shown (take (i - start) (drop start s)) ++ (shown b ∷ [])) (sym byte)
       ∙ sym (map-append shown (take (i - start) (drop start s)) (get_or (drop start s) (i - start) 0 ∷ []))
       ∙ ap (map shown) (sym (take-suc (drop start s) (i - start) 0 (omega (arith, length-drop start s))))

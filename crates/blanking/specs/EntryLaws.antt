@@ -1,7 +1,9 @@
 -- Laws of the text of a call: how it is put piece by piece, and how long it can be. Assumes nothing.
-use Rattle.std.specs.Prelude.{◌≡◌, List, [], ◌∷◌, ◌++◌, map, ℕ, zero, suc, ◌+◌, ◌-◌, ◌*◌, ◌/◌, ◌<◌, ◌≤◌, min, ltb, length, get_or, take, drop, replicate}
+use Rattle.std.specs.Prelude.{◌≡◌, List, [], ◌∷◌, ◌++◌, map, ℕ, zero, suc, ◌+◌, ◌-◌, ◌*◌, ◌/◌, ◌<◌, ◌≤◌, min, ltb, length, get_or, take}
+use Rattle.std.specs.Prelude.{drop, replicate}
 use Rattle.std.proofs.Math.Path.{refl}
-use Rattle.std.proofs.Common.{ap, ap₂, sym, subst, ◌∙◌, append-nil, append_assoc, ⊎_elim, le_of_suc-le-suc, add-one, length-append, length-take}
+use Rattle.std.proofs.Common.{ap, ap₂, sym, subst, ◌∙◌, append-nil, append_assoc, ⊎_elim, le_of_suc-le-suc, add-one, length-append}
+use Rattle.std.proofs.Common.{length-take}
 use native.Mathlib.Omega.{arith}
 use Rattle.std.proofs.lemmas.List.{length-map, length-replicate}
 use Rattle.text.specs.Pick.{side}
@@ -202,7 +204,11 @@ module _ (offsets ns : List ℕ) (last : ℕ) (bs s : List ℕ) (h : length bs �
   words-few Setup = omega (arith, set-up-few (map low_of (drop 0 ns)) (take 16 (map low_of (drop 16 ns))))
   words-few Read = omega (arith, two-few (get_or ns 0 0) (low_of (get_or ns 1 0)))
   words-few Write =
-      omega (arith, three-few (get_or ns 0 0) (low_of (get_or ns 1 0)) (blank_word offsets (low_of (get_or ns 1 0)) (low_of (get_or ns 2 0))))
+      omega (
+        arith,
+        three-few (get_or ns 0 0) (low_of (get_or ns 1 0))
+            (blank_word offsets (low_of (get_or ns 1 0)) (low_of (get_or ns 2 0))),
+      )
   words-few WriteRow = row-few (get_or ns 0 0) last bs h
   words-few Receive = received-few (get_or ns 0 0) (get_or ns 1 0) last bs h
   words-few Wake = omega (arith, number-few (get_or ns 0 0))

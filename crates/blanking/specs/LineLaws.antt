@@ -134,7 +134,8 @@ unfolding kind_of
 kind-long ready long s e = rw e
 
 pub kind-read : (ready long : Bool) (s ns bs : List ℕ) (room : ℕ) (l : Line) → long ≡ false → room ≡ host_room → l ≡ line_of room s
-    → ns ≡ stored (numbers_of s) (replicate 32 0) → bs ≡ bytes_after s (replicate host_room 0) → read_kind ready ns bs s l ≡ kind_of ready long s
+    → ns ≡ stored (numbers_of s) (replicate 32 0) → bs ≡ bytes_after s (replicate host_room 0) → read_kind ready ns bs s l
+    ≡ kind_of ready long s
 unfolding kind_of
 kind-read ready long s ns bs room l e h read n b =
     ap₂ (λ (x y : List ℕ). read_kind ready x y s l) n b

@@ -1,6 +1,7 @@
 -- Bytes that are put one after the other where there is room for all of them. Assumes nothing.
 use Rattle.std.specs.Prelude.{◌≡◌, List, [], ◌++◌, ℕ, ◌+◌, ◌-◌, ◌≤◌, length, take, drop}
-use Rattle.std.proofs.Common.{ap, sym, subst, ◌∙◌, append-nil, add-zero, arith, le-ltb, length-append, length-take, length-drop, take-append-drop}
+use Rattle.std.proofs.Common.{ap, sym, subst, ◌∙◌, append-nil, add-zero, arith, le-ltb, length-append, length-take, length-drop}
+use Rattle.std.proofs.Common.{take-append-drop}
 use Rattle.text.specs.Output.{stored, Put, put_all, put_both}
 
 -- where there is room for the bytes, they are put

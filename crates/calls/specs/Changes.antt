@@ -2,7 +2,8 @@
 use Rattle.std.specs.Prelude.{◌≡◌, refl, Bool, ℕ, ◌<◌, ◌≤◌, length}
 use Rattle.std.proofs.Common.{sym, ap, arith}
 use Rattle.model.specs.State
-use Rattle.model.specs.Setters.{with_words, with_line, with_period, with_last, with_wake, with_watched, with_powered_down_at, with_level, with_control}
+use Rattle.model.specs.Setters.{with_words, with_line, with_period, with_last, with_wake, with_watched, with_powered_down_at, with_level}
+use Rattle.model.specs.Setters.{with_control}
 use Rattle.model.specs.Settle
 use Rattle.model.specs.Arm
 use Rattle.model.specs.Calls.{period_of, cleared_line, dated, clocked, cleared}

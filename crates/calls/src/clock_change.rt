@@ -38,7 +38,8 @@ fn carry_out<'a>(
     cycle: u64,
     period: u64,
 ) -> DoneCore
-    requires { Ok core (arrays gone_at.now flight.now tx.old host.now run_at.now run_len.old rx.old) × (cycle < date_end) × (period ≤ period_limit) }
+    requires { Ok core (arrays gone_at.now flight.now tx.old host.now run_at.now run_len.old rx.old) × (cycle < date_end)
+        × (period ≤ period_limit) }
     ensures { Works (λ x. x)
         (dated_work cycle (machine cycle (Machine.clock_change period))
         (abs core (arrays gone_at.now flight.now tx.old host.now run_at.now run_len.old rx.old)))

@@ -62,7 +62,8 @@ module _ (s : Settings) (held : ℕ) (waits : Date) (on : Receiving) where
   unfolding landing is_on
   lands started f l w k = record { starts = w; stores = stored-room s held f; keeps = λ _ e. never e; holds = λ e _. k e }
 
-  in_frame-allows : (date : ℕ) (started : Bool) (f : Frame) (l : Line) → (started ≡ true → is_set waits ≡ true) → (started ≡ false → is_on on ≡ true)
+  in_frame-allows : (date : ℕ) (started : Bool) (f : Frame) (l : Line) → (started ≡ true → is_set waits ≡ true)
+      → (started ≡ false → is_on on ≡ true)
       → Allows held waits on (in_frame s held date started f l)
   unfolding in_frame
   in_frame-allows date started f l w k =
@@ -71,7 +72,8 @@ module _ (s : Settings) (held : ℕ) (waits : Date) (on : Receiving) where
       (λ _. lands started f l w k))
 
   -- no byte is on the line, and none started
-  free : (l : Line) → Allows held waits on (resting false Receiving.None l) × Allows held waits on (timing_out s held false Receiving.None l)
+  free : (l : Line) → Allows held waits on (resting false Receiving.None l)
+      × Allows held waits on (timing_out s held false Receiving.None l)
   unfolding is_on
   free l = still false Receiving.None l (λ e. never e) (λ _ e. never e)
 

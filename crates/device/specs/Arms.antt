@@ -108,7 +108,8 @@ pub armed-by : (c : Core) (a : Arrays) (gone_at : List ℕ) (run_date : ℕ) →
     → gone ≡ nth_gone 0 (flight_of gone_at a.flight c.flight) → first ≡ only_if c.control.watched gone
     → w ≡ arm_all (last ∷ landing ∷ timeout ∷ below ∷ first ∷ []) c.control.wake → w ≡ arm_all (instants (abs c a)) c.control.wake
 unfolding settings_of
-armed-by c a gone_at run_date ea er hh rh {s} {last} {waits} {landing} {comes} {timeout} {below} {gone} {first} {w} {which} es el ew eg ec et
+armed-by c a gone_at run_date ea er hh rh {s} {last} {waits} {landing} {comes} {timeout} {below} {gone} {first} {w} {which} es el ew eg ec
+    et
     ek eb en ef e =
     let u : State.Uart ℕ ℕ = abs c a in
     let flying : flight_of gone_at a.flight c.flight ≡ u.in_flight = ap (λ (l : List ℕ). flight_of l a.flight c.flight) (sym ea) in

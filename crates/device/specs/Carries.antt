@@ -30,7 +30,8 @@ use Rattle.line.specs.declared.Receiving.{Receiving}
 use Rattle.line.specs.declared.Move.{Move}
 use Rattle.line.specs.Moves.{move}
 use Rattle.line.specs.Seen.{Seen}
-use Rattle.line.specs.Applied.{waiting, mark, line_byte, subject, marked, is_stored, stored_into, drop_if, pop_run_if, applied, pass-applied}
+use Rattle.line.specs.Applied.{waiting, mark, line_byte, subject, marked, is_stored, stored_into, drop_if, pop_run_if, applied}
+use Rattle.line.specs.Applied.{pass-applied}
 use Rattle.device.specs.Never.{never}
 use Rattle.device.specs.Holds.{run_in, host_of, runs_of, rx_of, on_the_line}
 use Rattle.device.specs.Waits.{waiting_at}

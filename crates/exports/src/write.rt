@@ -29,7 +29,8 @@ pub extern "C" fn wondraxu_write<'a>(
     requires { Ok (core_of core) (arrays gone_at.old flight.old tx.old host.now run_at.now run_len.old rx.old) }
     ensures { Plainly plain_write
         (λ c c'. Answers (λ x. x) write_number
-        (dated_call cycle (write cycle offset value) (abs c (arrays gone_at.old flight.old tx.old host.now run_at.now run_len.old rx.old))) c
+        (dated_call cycle (write cycle offset value) (abs c (arrays gone_at.old flight.old tx.old host.now run_at.now run_len.old rx.old)))
+        c
         (arrays gone_at.old flight.old tx.old host.now run_at.now run_len.old rx.old)
         c'
         (arrays gone_at.new flight.new tx.new host.now run_at.now run_len.new rx.new)) core result }

@@ -1,6 +1,7 @@
 -- What the figures are, said of each frame and each quiet stretch of every list of frames: by its place, from 0. Assumes nothing.
 use Rattle.std.proofs.Math.Path.{◌≡◌, ap}
-use Rattle.std.specs.Prelude.{refl, ◌⊎◌, Bool, true, false, List, [], ◌∷◌, map, ℕ, zero, suc, ◌+◌, ◌-◌, ◌*◌, ◌^◌, ◌<◌, ◌≤◌, ltb, eqb, length}
+use Rattle.std.specs.Prelude.{refl, ◌⊎◌, Bool, true, false, List, [], ◌∷◌, map, ℕ, zero, suc, ◌+◌, ◌-◌, ◌*◌, ◌^◌, ◌<◌, ◌≤◌, ltb, eqb}
+use Rattle.std.specs.Prelude.{length}
 use Rattle.std.proofs.Common.{sym, subst, ◌∙◌, inl, inr, true≢false, div-add-mod', mod-lt, arith, ltb-true, ltb-false, eqb-true, ne_eqb}
 use Rattle.std.proofs.lemmas.Bool.{eqb-false}
 use Rattle.std.proofs.Math.ListN.{get_or, get_or-map}
@@ -101,7 +102,8 @@ quiets-length (f ∷ fs) = after f.end fs ∙ omega arith
     after end (g ∷ gs) = ap suc (after g.end gs)
 
 -- from the end of the one to the start of the next
-pub quiets-at : (fs : List Frame) (i : ℕ) → suc i < length fs → get_or (quiets fs) i 0 ≡ (get_or fs (suc i) none).start - (get_or fs i none).end
+pub quiets-at : (fs : List Frame) (i : ℕ) → suc i < length fs → get_or (quiets fs) i 0 ≡ (get_or fs (suc i) none).start
+    - (get_or fs i none).end
 unfolding quiets quiets_after
 quiets-at [] i h = absurd (omega arith)
 quiets-at (f ∷ []) i h = absurd (omega arith)
@@ -127,7 +129,8 @@ first-at n (x ∷ xs) a = by-test (eqb x n) refl (first-at n xs)
     later other r zero h = other
     later other r (suc i) h = r.before i (omega arith)
 
-    by-test : (t : Bool) → eqb x n ≡ t → (Among n xs → First n xs (first_place n xs)) → First n (x ∷ xs) (choose t 0 (suc (first_place n xs)))
+    by-test : (t : Bool) → eqb x n ≡ t → (Among n xs → First n xs (first_place n xs))
+        → First n (x ∷ xs) (choose t 0 (suc (first_place n xs)))
     by-test true e rest = record { inside = omega arith; there = eqb-true x n e; before = λ i h. absurd (omega arith) }
     by-test false e rest =
         let other = eqb-false x n e in
@@ -224,7 +227,8 @@ module _ (starts ends : List ℕ) (f : Figures) (answer : figures_of starts ends
   pub busy-fits : ((i : ℕ) → i < length ends → get_or ends i 0 < 2 ^ 64) → f.busy < 2 ^ 64
   busy-fits h = by_length ends h busy-ends
     where
-      by_length : (es : List ℕ) → ((i : ℕ) → i < length es → get_or es i 0 < 2 ^ 64) → f.busy ≤ get_or es (length es - 1) 0 → f.busy < 2 ^ 64
+      by_length : (es : List ℕ) → ((i : ℕ) → i < length es → get_or es i 0 < 2 ^ 64) → f.busy ≤ get_or es (length es - 1) 0 → f.busy
+          < 2 ^ 64
       by_length [] h le = omega arith
       by_length (e ∷ es) h le = omega (arith, h (length (e ∷ es) - 1) (omega arith))
 

@@ -31,8 +31,8 @@ abbrev pub no_parts : List ℕ
 no_parts = bare_head 7 30 30
 
 pub no-parts : load no_parts ≡ refused NoState
-unfolding load lies pairs_lie number_at value_of choose is_form is_within limits all_pass state_in state_with map_in numbers_in parts_from repeated
-    among
+unfolding load lies pairs_lie number_at value_of choose is_form is_within limits all_pass state_in state_with map_in numbers_in parts_from
+    repeated among
 no-parts = refl
 
 pub no_bytes : load [] ≡ refused Layout
@@ -150,12 +150,12 @@ lunch_form =
     ∷ 128 ∷ 12 ∷ 0 ∷ 0 ∷ 0 ∷ 0 ∷ 0 ∷ 0 ∷ 1 ∷ 0 ∷ []
 
 lunch-form : bytes_of (form lunch) ≡ lunch_form
-unfolding lunch lunch_words lunch_form form laid_out parts_of pairs_from map_fields word_fields date_and_mark_fields run_fields numbers field_bytes
-    low_first byte_of flat_map written choose instant_of
+unfolding lunch lunch_words lunch_form form laid_out parts_of pairs_from map_fields word_fields date_and_mark_fields run_fields numbers
+    field_bytes low_first byte_of flat_map written choose instant_of
 lunch-form = refl
 
 lunch-loads : load lunch_form ≡ loaded lunch
-unfolding lunch lunch_words lunch_form form laid_out parts_of pairs_from map_fields word_fields date_and_mark_fields run_fields numbers field_bytes
-    low_first byte_of flat_map written choose instant_of load lies pairs_lie number_at value_of same_bytes is_form is_within limits all_pass chained
-    every state_in state_with map_in dates_in numbers_in parts_from sent_in runs_from repeated among total
+unfolding lunch lunch_words lunch_form form laid_out parts_of pairs_from map_fields word_fields date_and_mark_fields run_fields numbers
+    field_bytes low_first byte_of flat_map written choose instant_of load lies pairs_lie number_at value_of same_bytes is_form is_within
+    limits all_pass chained every state_in state_with map_in dates_in numbers_in parts_from sent_in runs_from repeated among total
 lunch-loads = refl

@@ -64,7 +64,8 @@ fn carry_out<'a, 'b>(
         × (cycle < date_end) × Room core (arrays gone_at.now flight.now tx.old host.old run_at.old run_len.old rx.old) (host_date cycle at)
         (length bytes.now) }
     ensures { Works (λ x. x)
-        (dated_work cycle (Calls·receive cycle at bytes.now) (abs core (arrays gone_at.now flight.now tx.old host.old run_at.old run_len.old rx.old)))
+        (dated_work cycle (Calls·receive cycle at bytes.now)
+        (abs core (arrays gone_at.now flight.now tx.old host.old run_at.old run_len.old rx.old)))
         result.core
         (arrays gone_at.now flight.now tx.new host.new run_at.new run_len.new rx.new)
         result.reply result.report }

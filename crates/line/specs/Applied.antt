@@ -92,9 +92,8 @@ module _ {H W : Type 0} where
 
     -- a byte on the line
     frame-law : (l : OnTheLine H) (u : Uart H W) → Law (with_receiving (some l) u)
-    unfolding found_of pass pass_on Settle.in_frame nothing_due timed_out landed applied move in_frame resting timing_out landing mark marked
-        subject
-        line_byte drop_if pop_run_if stored_into
+    unfolding found_of pass pass_on Settle.in_frame nothing_due timed_out landed applied move in_frame resting timing_out landing mark
+        marked subject line_byte drop_if pop_run_if stored_into
     frame-law l u =
         let v : Uart H W = with_receiving (some l) u in
         choose-both seen (applied v) _ refl (choose-both seen (applied v) _ refl

@@ -15,7 +15,8 @@ use Rattle.model.specs.Call.{Dated, Call, date_of, writes}
 use Rattle.model.specs.Run.{stepped, replying, plan_by, writing, plan, step}
 
 -- of a write to a place that is not FIFO and takes no word, the value changes neither the answer nor the state
-unused-at : (r : Register) → is_fifo r ≡ false → takes_word r ≡ false → (now v w : ℕ) (u : Uart ℕ ℕ) → write_at now r v u ≡ write_at now r w u
+unused-at : (r : Register) → is_fifo r ≡ false → takes_word r ≡ false → (now v w : ℕ) (u : Uart ℕ ℕ) → write_at now r v u
+    ≡ write_at now r w u
 unfolding write_at write_placed write_register choose decide
 unused-at Register.fifo f e now v w u = absurd (true≢false f)
 unused-at Register.int_clr f e now v w u = absurd (true≢false e)

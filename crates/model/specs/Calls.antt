@@ -201,7 +201,12 @@ module _ {H W : Type 0} where
   module _ {L : Type 0} where
     abbrev pub taking : List L → List (Uart H W → Uart H W) → (Uart H W → Access (Take W L) H W) → Plan (Take W L) H W
     taking lent fs work =
-        record { test = refuse_if (buffer_too_short (length lent)) BufferTooShort none; refuses = not_taken lent; changes = fs; work = work }
+        record {
+          test = refuse_if (buffer_too_short (length lent)) BufferTooShort none;
+          refuses = not_taken lent;
+          changes = fs;
+          work = work;
+        }
 
     unfoldable pub take_tx : ℕ → List L → Uart H W → Plan (Take W L) H W
     take_tx now lent u = taking lent once (λ s. quiet (filled s.tx lent) (with_tx [] s))

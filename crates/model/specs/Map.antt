@@ -37,7 +37,8 @@ is_fifo r = same_register r fifo
 abbrev pub registers : List Register
 registers =
     fifo ∷ shown int_raw ∷ shown int_st ∷ stored int_ena ∷ int_clr ∷ stored clkdiv ∷ shown status ∷ shown fsm_status ∷ stored conf0
-    ∷ stored conf1 ∷ stored clk_conf ∷ stored idle_conf ∷ stored rs485_conf ∷ stored at_cmd_char ∷ stored mem_conf ∷ shown mem_rx_status ∷ []
+    ∷ stored conf1 ∷ stored clk_conf ∷ stored idle_conf ∷ stored rs485_conf ∷ stored at_cmd_char ∷ stored mem_conf ∷ shown mem_rx_status
+    ∷ []
 
 unfoldable pub register_among : ℕ → List ℕ → List Register → Register
 register_among offset [] rs = unknown

@@ -118,16 +118,16 @@ marks =
     ∷ []
 
 pub marks-hold : Hold marks
-unfolding bench_words bench Hold p7 marks choose due_by instant_of only_if earliest in_cycles stop_half_bits frame_half_bits source_period unmodelled
-    unmodelled_source half_bit_time bit_time byte_time timeout_time settings raise_if note_source after_date opened timeout_at time_out frame
-    start fate land gone tx_done leave depart pop_run received nothing_due timed_out landed in_frame begun before_start idle line_free pass_on pass
-    total goes_on one_pass lost passes_in overflows_in on_the_line passes_from pending departures passes above_full in_fifo empty_threshold below_empty
-    assert_levels int_status drive settling_date levels leveled settings_of settle_to settle called nth_gone last_gone
-    below_threshold_at next_start landing_of next_landing instants arm_all arm number notices no_report report read_number write_number done_number
-    taken_number register_among register_of place_among decide value_of words_by replaced note_if source_notes status_word Registers.fsm_status looks
-    pop shown_in read_register read_looking read_at conf0_notes stored_notes starts_at gone_at sent dropped send_byte reset_fifos storing clearing
-    write_register concluded among repeated transmit_full host_full runs_full refuse_if refuse_date
-    refusing unless after_settling carried outcome joined last_date host_date dated quiet read_placed write_placed send hand_over Calls.receive
-    Calls.machine write_at Calls.read Calls.write words_among map_of new_control new number_of date_of stepped replying plan_by writing plan step
-    asked_by run_by
+unfolding bench_words bench Hold p7 marks choose due_by instant_of only_if earliest in_cycles stop_half_bits frame_half_bits source_period
+    unmodelled unmodelled_source half_bit_time bit_time byte_time timeout_time settings raise_if note_source after_date opened timeout_at
+    time_out frame start fate land gone tx_done leave depart pop_run received nothing_due timed_out landed in_frame begun before_start idle
+    line_free pass_on pass total goes_on one_pass lost passes_in overflows_in on_the_line passes_from pending departures passes above_full
+    in_fifo empty_threshold below_empty assert_levels int_status drive settling_date levels leveled settings_of settle_to settle called
+    nth_gone last_gone below_threshold_at next_start landing_of next_landing instants arm_all arm number notices no_report report
+    read_number write_number done_number taken_number register_among register_of place_among decide value_of words_by replaced note_if
+    source_notes status_word Registers.fsm_status looks pop shown_in read_register read_looking read_at conf0_notes stored_notes starts_at
+    gone_at sent dropped send_byte reset_fifos storing clearing write_register concluded among repeated transmit_full host_full runs_full
+    refuse_if refuse_date refusing unless after_settling carried outcome joined last_date host_date dated quiet read_placed write_placed
+    send hand_over Calls.receive Calls.machine write_at Calls.read Calls.write words_among map_of new_control new number_of date_of stepped
+    replying plan_by writing plan step asked_by run_by
 marks-hold = (refl, (refl, (refl, (refl, (refl, (refl, (refl, (refl, (refl, (refl, (refl, (refl, (refl, tt)))))))))))))

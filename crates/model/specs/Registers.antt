@@ -55,7 +55,8 @@ fsm_status flying = choose (ltb 0 flying) (2 ^ 4) 0
 -- where the firmware looks at the receiver
 unfoldable pub looks : Register → Bool
 looks r =
-    same_register r fifo || same_register r (shown Shown.int_raw) || same_register r (shown Shown.int_st) || same_register r (shown Shown.status)
+    same_register r fifo || same_register r (shown Shown.int_raw) || same_register r (shown Shown.int_st)
+    || same_register r (shown Shown.status)
 
 module _ {H W : Type 0} where
   -- the oldest byte received; from an empty FIFO 0, with a notice

@@ -1,6 +1,7 @@
 -- So many bytes put into a lent buffer from a place on. Assumes nothing.
 use Rattle.std.specs.Prelude.{◌≡◌, refl, List, [], ◌∷◌, ◌++◌, ℕ, suc, ◌+◌, ◌-◌, ◌≤◌, length, take, drop, set}
-use Rattle.std.proofs.Common.{sym, ap, ap₂, subst, ◌∙◌, append-nil, append_assoc, add-zero, arith, length-append, length-set, length-drop, drop_of_length-le, take_all, drop-drop}
+use Rattle.std.proofs.Common.{sym, ap, ap₂, subst, ◌∙◌, append-nil, append_assoc, add-zero, arith, length-append, length-set, length-drop}
+use Rattle.std.proofs.Common.{drop_of_length-le, take_all, drop-drop}
 use Rattle.std.proofs.lemmas.List.Edits.{sets, sets-eq}
 use Rattle.std.proofs.Math.Seq.{length-sets}
 

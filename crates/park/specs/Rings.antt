@@ -49,7 +49,8 @@ pub puts-run : (f : ℕ → Run) (i : ℕ) {at next dated last : ℕ} {out mid h
     → Puts (10 * (i + 1)) (field_bytes (run_fields (listed f (i + 1)))) out at after last
 puts-run f i p q r =
     puts-same (let e : 10 * i + (8 + 2) ≡ 10 * (i + 1) = omega arith in e)
-    (sym (ap (λ (k : ℕ). field_bytes (run_fields (listed f k))) (add-one i) ∙ ap (λ (l : List Run). field_bytes (run_fields l)) (listed_suc f i)
+    (sym (ap (λ (k : ℕ). field_bytes (run_fields (listed f k))) (add-one i)
+    ∙ ap (λ (l : List Run). field_bytes (run_fields l)) (listed_suc f i)
     ∙ ap field_bytes (runs-both (listed f i) (f i ∷ [])) ∙ fields-both (run_fields (listed f i)) (run_fields (f i ∷ []))
     ∙ ap (λ (l : List ℕ). field_bytes (run_fields (listed f i)) ++ l) (run-bytes (f i))))
     (puts-both p (puts-both q r))

@@ -1,7 +1,8 @@
 -- The list of a function's first values. Assumes nothing.
 use Rattle.std.specs.Prelude.{◌≡◌, ◌≢◌, length, take, drop, get_or, set}
 use Rattle.std.proofs.Math.Path.{refl, ap, ap₂}
-use Rattle.std.proofs.Common.{sym, ◌∙◌, suc-add, zero-add, zero-lt-suc, le_of_suc-le-suc, not-suc-le-zero, arith, length-drop, ext_get_or, get_or-take, get_or-drop, length-take-le}
+use Rattle.std.proofs.Common.{sym, ◌∙◌, suc-add, zero-add, zero-lt-suc, le_of_suc-le-suc, not-suc-le-zero, arith, length-drop, ext_get_or}
+use Rattle.std.proofs.Common.{get_or-take, get_or-drop, length-take-le}
 use mathlib.Core.List.{List, [], ◌∷◌, ◌++◌, map}
 use Prim.Native.Nat.{ℕ, zero, suc, ◌+◌, ◌<◌, ◌≤◌, suc-le-suc}
 use Rattle.std.proofs.Math.Nat.{suc-ne-zero, suc_inj}

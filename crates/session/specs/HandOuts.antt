@@ -1,7 +1,8 @@
 -- The line of a hand-out as it is made from the lent buffer, and that it is the one of the definition's reply: what was lent after
 -- the bytes is as it was. Assumes nothing.
 use Rattle.std.specs.Prelude.{◌≡◌, refl, Bool, true, false, ℕ, zero, suc, ◌+◌, ◌-◌, ◌<◌, ◌≤◌, min, take, drop, get_or, set}
-use Rattle.std.proofs.Common.{ap, sym, subst, ◌∙◌, add-zero, add-one, eq-eqb, ne_eqb, length-append, length-drop, drop_of_length-le, take_at, drop_at, take-suc-set, drop-cons}
+use Rattle.std.proofs.Common.{ap, sym, subst, ◌∙◌, add-zero, add-one, eq-eqb, ne_eqb, length-append, length-drop, drop_of_length-le}
+use Rattle.std.proofs.Common.{take_at, drop_at, take-suc-set, drop-cons}
 use Rattle.std.proofs.Math.Path.{ap₂}
 use Rattle.std.proofs.Math.Option.{Option, none, some}
 use mathlib.Core.List.{List, [], ◌∷◌, ◌++◌}

@@ -109,7 +109,8 @@ module _ (input : Input) (line bytes : List ℕ) (device : Option (Uart ℕ ℕ)
     read_as-told {read} {l} e told =
         ap (read_as (take n line) (bytes_after (take n line) bytes) device) (sym told ∙ e)
         ∙ ap (λ (k : ℕ). read_as (take k line) (bytes_after (take k line) bytes) device (line_of (length bytes) (take k line))) count
-        ∙ sym (ap (λ (b : Bool). pick b (says long_text device) (read_as (line_in input line) (bytes_after (line_in input line) bytes) device
+        ∙ sym (ap (λ (b : Bool). pick b (says long_text device)
+        (read_as (line_in input line) (bytes_after (line_in input line) bytes) device
         (line_of (length bytes) (line_in input line)))) short)
 
     pub bytes-as : bytes_after (take n line) bytes ≡ bytes_in input line bytes

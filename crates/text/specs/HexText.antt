@@ -21,7 +21,8 @@ hex_digit k word = letter (word / 16 ^ k % 16)
 -- `0x` and eight digits
 abbrev pub hex_word : ℕ → List ℕ
 hex_word w =
-    48 ∷ 120 ∷ hex_digit 7 w ∷ hex_digit 6 w ∷ hex_digit 5 w ∷ hex_digit 4 w ∷ hex_digit 3 w ∷ hex_digit 2 w ∷ hex_digit 1 w ∷ hex_digit 0 w ∷ []
+    48 ∷ 120 ∷ hex_digit 7 w ∷ hex_digit 6 w ∷ hex_digit 5 w ∷ hex_digit 4 w ∷ hex_digit 3 w ∷ hex_digit 2 w ∷ hex_digit 1 w ∷ hex_digit 0 w
+    ∷ []
 
 -- ---- laws
 

@@ -1,7 +1,8 @@
 -- The bytes that a word spells: pairs of hexadecimal digits, or `-` for none. Assumes nothing.
 use Rattle.std.specs.Prelude.{◌≡◌, refl, ℕ, suc, ◌+◌, ◌*◌, ◌/◌, ◌<◌, ◌≤◌, ltb, eqb, length, get_or, set}
 use Rattle.std.proofs.Math.Path.{ap, sym}
-use Rattle.std.proofs.Common.{◌∙◌, add-one, arith, length-drop, take-append-drop, drop-cons, drop-drop, drop-set-lt, length-take-le, take-suc-set}
+use Rattle.std.proofs.Common.{◌∙◌, add-one, arith, length-drop, take-append-drop, drop-cons, drop-drop, drop-set-lt, length-take-le}
+use Rattle.std.proofs.Common.{take-suc-set}
 use mathlib.Core.List.{List, [], ◌∷◌, ◌++◌, append-nil}
 use borrow.Author.Tests.{lt-ltb, le-ltb, eq-eqb, ne_eqb}
 use Rattle.std.proofs.Math.ListN.{take, drop}
@@ -60,7 +61,8 @@ module _ (s : List ℕ) (n b : ℕ) where
   unfolding spelled
   pair-on h e k = rw (two h, ← e, le-ltb 255 b k)
 
-  pub no-pair : 2 * n + 1 < length s → b ≡ pair_value (get_or s (2 * n) 0) (get_or s (2 * n + 1) 0) → 255 < b → spelled (drop (2 * n) s) ≡ []
+  pub no-pair : 2 * n + 1 < length s → b ≡ pair_value (get_or s (2 * n) 0) (get_or s (2 * n + 1) 0) → 255 < b → spelled (drop (2 * n) s)
+      ≡ []
   unfolding spelled
   no-pair h e k = rw (two h, ← e, lt-ltb 255 b k)
 

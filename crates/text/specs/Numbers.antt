@@ -97,7 +97,8 @@ module _ (base limit : ℕ) where
       ≡ pick (ltb (digit_value c) base) (number_after base limit (value * base + digit_value c) s) Number.NoNumber
   unfolding number_after all_digits value_after
   after-cons value c s =
-      nested (ltb (digit_value c) base) (all_digits base s) (at_most limit (value_after base (value * base + digit_value c) s)) Number.NoNumber
+      nested (ltb (digit_value c) base) (all_digits base s) (at_most limit (value_after base (value * base + digit_value c) s))
+      Number.NoNumber
 
   above : (value : ℕ) (s : List ℕ) → 0 < base → limit < value → number_after base limit value s ≡ Number.NoNumber
   unfolding number_after at_most

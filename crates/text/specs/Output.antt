@@ -1,6 +1,7 @@
 -- Bytes put into a buffer from a place on. Assumes nothing.
 use Rattle.std.specs.Prelude.{◌≡◌, Bool, List, ◌++◌, ℕ, ◌+◌, ◌-◌, ◌<◌, ◌≤◌, ltb, length, take, drop}
-use Rattle.std.proofs.Common.{ap, ap₂, sym, ◌∙◌, append_assoc, arith, lt-ltb, le-ltb, length-append, length-take, length-drop, drop-drop, length-take-le, take_at}
+use Rattle.std.proofs.Common.{ap, ap₂, sym, ◌∙◌, append_assoc, arith, lt-ltb, le-ltb, length-append, length-take, length-drop, drop-drop}
+use Rattle.std.proofs.Common.{length-take-le, take_at}
 use Rattle.std.proofs.Math.Seq.{drop-append-add}
 use Rattle.text.specs.Pick.{pick}
 

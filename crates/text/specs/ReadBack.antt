@@ -1,5 +1,6 @@
 -- What is put is read back: bytes as hexadecimal digits, and decimal numbers. Assumes nothing.
-use Rattle.std.specs.Prelude.{◌≡◌, refl, Bool, true, false, List, [], ◌∷◌, ◌++◌, ℕ, zero, suc, ◌+◌, ◌*◌, ◌/◌, ◌%◌, ◌^◌, ◌<◌, ◌≤◌, ltb, length, get_or}
+use Rattle.std.specs.Prelude.{◌≡◌, refl, Bool, true, false, List, [], ◌∷◌, ◌++◌, ℕ, zero, suc, ◌+◌, ◌*◌, ◌/◌, ◌%◌, ◌^◌, ◌<◌, ◌≤◌, ltb}
+use Rattle.std.specs.Prelude.{length, get_or}
 use Rattle.std.proofs.Common.{ap, ◌∙◌, inr, ⊎_elim, arith, lt-ltb, le-ltb, length-append}
 use Rattle.text.specs.Pick.{pick, side}
 use Rattle.text.specs.Digits.{digit_value, letter}

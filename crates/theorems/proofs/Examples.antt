@@ -15,7 +15,8 @@ at c = Asked.call (Call.at 100 c)
 abbrev write : ℕ → ℕ → Ask
 write offset value = at (Dated.write (record { offset = offset; value = value }))
 
-pattern : blanked_list offsets (write 0 82 ∷ write 12 256 ∷ at (Dated.receive 520 (114 ∷ 111 ∷ [])) ∷ Asked.row 200 (82 ∷ 83 ∷ 84 ∷ []) ∷ [])
+pattern : blanked_list offsets (write 0 82 ∷ write 12 256 ∷ at (Dated.receive 520 (114 ∷ 111 ∷ [])) ∷ Asked.row 200 (82 ∷ 83 ∷ 84 ∷ [])
+    ∷ [])
     ≡ write 0 0 ∷ write 12 256 ∷ at (Dated.receive 520 (0 ∷ 0 ∷ [])) ∷ Asked.row 200 (0 ∷ 0 ∷ 0 ∷ []) ∷ []
 unfolding blanked_asked blanked blank_written blank_word blank_byte choose register_of register_among
 pattern = refl

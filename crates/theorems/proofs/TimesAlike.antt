@@ -125,7 +125,8 @@ alike_same offsets (Alike.host_bytes {now = now} {at = at} {bs = bs} {bs' = bs'}
     ap (λ l. Call.at now (Dated.receive at l)) (same-blank bs bs' e)
 alike_same offsets (Alike.fifo_word {now = now} {v = v} {v' = v'}) = same_write offsets now _ v v' (fifo-takes-none offsets)
 alike_same offsets (Alike.lent_to_take_tx {now = now} {lent = l} {lent' = m} e) = ap (λ k. Call.at now (Dated.take_tx k)) (same-blank l m e)
-alike_same offsets (Alike.lent_to_take_written {lent = l} {lent' = m} e) = ap (λ k. Call.undated (Undated.take_written k)) (same-blank l m e)
+alike_same offsets (Alike.lent_to_take_written {lent = l} {lent' = m} e) = ap (λ k. Call.undated (Undated.take_written k))
+    (same-blank l m e)
 
 pub blank-same : (offsets : List ℕ) {c d : Request} → AlikeInUse offsets c d → blanked offsets c ≡ blanked offsets d
 blank-same offsets (AlikeInUse.alike a) = alike_same offsets a

@@ -3,7 +3,8 @@
 use Rattle.std.specs.Prelude.{ℕ, zero, suc, ◌*◌, ◌≤◌, Bool, true, false}
 use Rattle.std.proofs.Common.{mul-le-mul, arith}
 use Rattle.model.specs.Numbers.{choose, field}
-use Rattle.model.specs.Timing.{stop_half_bits, frame_half_bits, xtal_period, source_period, divider, source_divider, half_bit_time, bit_time}
+use Rattle.model.specs.Timing.{stop_half_bits, frame_half_bits, xtal_period, source_period, divider, source_divider, half_bit_time}
+use Rattle.model.specs.Timing.{bit_time}
 use Rattle.model.specs.Timing.{byte_time, timeout_time}
 use Rattle.model.specs.Tests.{period_limit}
 use Rattle.model.specs.declared.Words.{Words}

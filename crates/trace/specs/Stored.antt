@@ -1,6 +1,7 @@
 -- Numbers stored in an array. Assumes nothing.
 use Rattle.std.specs.Prelude.{◌≡◌, refl, List, [], ◌∷◌, ◌++◌, ℕ, zero, suc, ◌+◌, ◌<◌, ◌≤◌, length, take, drop, set}
-use Rattle.std.proofs.Common.{ap, ap₂, sym, ◌∙◌, append-nil, add-zero, add-one, arith, length-set, take-append-drop, drop-set-lt, take-suc-set}
+use Rattle.std.proofs.Common.{ap, ap₂, sym, ◌∙◌, append-nil, add-zero, add-one, arith, length-set, take-append-drop, drop-set-lt}
+use Rattle.std.proofs.Common.{take-suc-set}
 use Rattle.std.proofs.Math.Seq.{append_snoc}
 use Rattle.std.proofs.lemmas.List.{take-set-le}
 

@@ -9,7 +9,8 @@ use Rattle.std.proofs.Math.Seq.{take_at, drop_at}
 use Rattle.model.specs.Events.{total}
 use Rattle.model.specs.Numbers.{choose, instant_of}
 use Rattle.model.specs.State.{Sent, Run, OnTheLine, Uart, line_of, line_bytes}
-use Rattle.model.specs.Map.{Word, int_ena, clkdiv, conf0, conf1, clk_conf, idle_conf, rs485_conf, at_cmd_char, mem_conf, value_of as Map·value_of}
+use Rattle.model.specs.Map.{Word, int_ena, clkdiv, conf0, conf1, clk_conf, idle_conf, rs485_conf, at_cmd_char, mem_conf}
+use Rattle.model.specs.Map.{value_of as Map·value_of}
 use Rattle.model.specs.Calls.{written}
 use Rattle.model.specs.Tests.{host_limit}
 use Rattle.model.specs.Limits.{All, nil, cons, Fits, NoLater, flight_dates, run_dates, Within}
@@ -281,6 +282,7 @@ module _ (u : Uart ℕ ℕ) (within : Within u) (wide : Widths u) where
   pub form-back : state_in (bytes_of (form u)) ≡ u
   unfolding state_in
   form-back =
-      ap (λ ps. state_with (get_or ps 0 []) (get_or ps 1 []) (get_or ps 2 []) (get_or ps 3 []) (get_or ps 4 []) (get_or ps 5 []) (get_or ps 6 []))
+      ap (λ ps. state_with (get_or ps 0 []) (get_or ps 1 []) (get_or ps 2 []) (get_or ps 3 []) (get_or ps 4 []) (get_or ps 5 [])
+      (get_or ps 6 []))
       (ap parts_in (form-bytes u) ∙ parts-read (seven u) refl form_small)
       ∙ state-back

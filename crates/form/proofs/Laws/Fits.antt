@@ -1,5 +1,6 @@
 -- A state that is read from bytes has the widths of its fields, whatever the bytes are. Assumes nothing.
-use Rattle.std.specs.Prelude.{refl, ℕ, zero, suc, ◌+◌, ◌-◌, ◌/◌, ◌^◌, ◌≤◌, ◌<◌, Bool, true, false, List, [], ◌∷◌, ◌++◌, map, eqb, length, get_or, take, drop, replicate}
+use Rattle.std.specs.Prelude.{refl, ℕ, zero, suc, ◌+◌, ◌-◌, ◌/◌, ◌^◌, ◌≤◌, ◌<◌, Bool, true, false, List, [], ◌∷◌, ◌++◌, map, eqb, length}
+use Rattle.std.specs.Prelude.{get_or, take, drop, replicate}
 use Rattle.std.proofs.Common.{sym, subst, pow-suc, arith, get_or-drop}
 use Rattle.std.proofs.Math.Option.{none, some}
 use Rattle.dates.specs.Dates

@@ -71,7 +71,8 @@ module _ (w : ℕ) where
   width-total [] = omega arith
   width-total (n ∷ ns) = omega (arith, width-total ns)
 
-  pub one-width-back : (ns : List ℕ) → All (λ n. n < 256 ^ w) ns → numbers_in (replicate (length ns) w) (field_bytes (map (of_width w) ns)) ≡ ns
+  pub one-width-back : (ns : List ℕ) → All (λ n. n < 256 ^ w) ns → numbers_in (replicate (length ns) w) (field_bytes (map (of_width w) ns))
+      ≡ ns
   one-width-back ns a =
       ap₂ numbers_in (sym (widths ns)) (sym (append-nil (field_bytes (map (of_width w) ns))))
       ∙ numbers-back (map (of_width w) ns) [] (each_holds ns a) ∙ values ns

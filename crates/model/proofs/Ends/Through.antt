@@ -21,7 +21,8 @@ use Rattle.model.specs.declared.Fate.{Fate}
 
 -- a pass after another, as long as one finds something due: what they found, and the state that the last one leaves
 pub data Through {H W : Type 0} (s : Settings) (date : ℕ) : Uart H W → List (Event H W) → Uart H W → Type 0 where
-  ends : {u v : Uart H W} {e : Event H W} → pass s date u ≡ record { event = e; state = v } → goes_on e ≡ false → Through s date u (e ∷ []) v
+  ends : {u v : Uart H W} {e : Event H W} → pass s date u ≡ record { event = e; state = v } → goes_on e ≡ false
+      → Through s date u (e ∷ []) v
   goes : {u v w : Uart H W} {e : Event H W} {es : List (Event H W)}
       → pass s date u ≡ record { event = e; state = v } → goes_on e ≡ true → Through s date v es w → Through s date u (e ∷ es) w
 

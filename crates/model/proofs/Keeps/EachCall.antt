@@ -192,7 +192,8 @@ module _ {H W : Type 0} where
   has_left-within u w = w
 
   module _ {L : Type 0} where
-    pub take_tx-within : (now : ℕ) (lent : List L) (u : Uart H W) → Within u → Within (outcome (some now) (Calls.take_tx now lent u) u).state
+    pub take_tx-within : (now : ℕ) (lent : List L) (u : Uart H W) → Within u
+        → Within (outcome (some now) (Calls.take_tx now lent u) u).state
     take_tx-within now lent u = through u _ (take_tx-parts now lent u)
 
     pub take_written-within : (lent : List L) (u : Uart H W) → Within u → Within (outcome none (Calls.take_written lent u) u).state

@@ -44,7 +44,8 @@ one_more zero h = omega arith
 one_more (suc runs) h = let k : suc runs < runs_limit = h (omega arith) in omega arith
 
 -- `room` is what test 6 leaves: fewer than 64 runs where a new one is made
-pub joined-within : {H : Type 0} (date : ℕ) (rs : List Run) (hs bs : List H) → Fits date → 1 ≤ length bs → length hs + length bs ≤ host_limit
+pub joined-within : {H : Type 0} (date : ℕ) (rs : List Run) (hs bs : List H) → Fits date → 1 ≤ length bs → length hs + length bs
+    ≤ host_limit
     → (1 ≤ length rs → last_date rs < date → length rs < runs_limit) → HostWithin rs hs → HostWithin (joined date (length bs) rs) (hs ++ bs)
 joined-within date rs hs bs f h le room w = record {
   runs =

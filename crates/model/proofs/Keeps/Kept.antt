@@ -128,7 +128,8 @@ pop_run-front : (rs : List Run) → FromFront (run_dates rs) (run_dates (pop_run
 unfolding pop_run
 pop_run-front [] = front-refl _
 pop_run-front (r ∷ rs) =
-    choose-ind (λ (l : List Run). FromFront (run_dates (r ∷ rs)) (run_dates l)) _ (λ _. record { less = 1; rest = refl }) (λ _. front-refl _)
+    choose-ind (λ (l : List Run). FromFront (run_dates (r ∷ rs)) (run_dates l)) _ (λ _. record { less = 1; rest = refl })
+    (λ _. front-refl _)
 
 on_line : {H W : Type 0} (s : Settings) (u : Uart H W) → KeptOnLine s (Still u)
 unfolding timed_out landed begun pending on_the_line written

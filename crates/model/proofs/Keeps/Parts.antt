@@ -27,7 +27,13 @@ MapWithin m =
 
 -- the period, the last date and the wake
 abbrev pub ClockWithin : ℕ → ℕ → Date → Type 0
-ClockWithin period last wake = record { low : 1 ≤ period; high : period ≤ period_limit; last : last < date_end; wake : NoLater date_end wake }
+ClockWithin period last wake = record {
+  low : 1 ≤ period;
+  high : period ≤ period_limit;
+  last : last
+      < date_end;
+  wake : NoLater date_end wake;
+}
 
 -- the bytes in flight and those that have left
 abbrev pub FlightWithin : {W : Type 0} → List (Sent W) → List W → Type 0

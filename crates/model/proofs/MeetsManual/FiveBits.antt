@@ -169,7 +169,8 @@ module _ {H W : Type 0} (date : ℕ) (u : Uart H W) where
   after = (settle_to date u).state
 
   no-pass-raises : (n : ℕ) → eqb n 4 ≡ false → eqb n 8 ≡ false → passed_in n date u ≡ false
-  no-pass-raises n a b = no-pass (raised_by (settings_of u) n) (settings_of u) date (λ held f. not-raised (settings_of u) n held f a b) _ true _
+  no-pass-raises n a b = no-pass (raised_by (settings_of u) n) (settings_of u) date (λ held f. not-raised (settings_of u) n held f a b) _
+      true _
 
   overflows-raise : passed_in 4 date u ≡ Manual.RXFIFO-OVF u.control.words.conf1 (overflows_in (settle_to date u).events)
   unfolding Manual.RXFIFO-OVF settle_to leveled passes settings_of settings

@@ -81,8 +81,8 @@ machine-drives now (Machine.clock_change period) u s ss e = arm-driven _ (settle
 -- one that settles. The settled state is written out: for the checker to find it costs ten times as much
 carried-drives : (c : Request) (u : Uart ℕ ℕ) (s : Settling) (ss : List Settling) → settlings c u ≡ s ∷ ss
     → Driven (stepped (carried (date_of c) (plan c u) u)).state
-unfolding stepped carried after_settling date_of plan plan_by replying writing quiet read_at concluded Calls.read read_placed Calls.write send
-    write_placed Calls.receive Calls.take_tx
+unfolding stepped carried after_settling date_of plan plan_by replying writing quiet read_at concluded Calls.read read_placed Calls.write
+    send write_placed Calls.receive Calls.take_tx
 carried-drives (Call.at now (Dated.read offset)) u s ss e =
     let r : Register = register_of u.map.offsets offset in
     looking-driven (looks r) r (settle now (dated now u)).state (settled-driven now (dated now u))

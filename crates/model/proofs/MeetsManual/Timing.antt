@@ -9,7 +9,8 @@ use Rattle.dates.specs.Dates.{held, subcycles, after}
 use Rattle.model.specs.Numbers.{choose, field}
 use Rattle.model.specs.Manual
 use Rattle.model.specs.State.{Sent, Uart}
-use Rattle.model.specs.Timing.{xtal_period, stop_half_bits, frame_half_bits, half_bit_time, bit_time, byte_time, timeout_time, source_period}
+use Rattle.model.specs.Timing.{xtal_period, stop_half_bits, frame_half_bits, half_bit_time, bit_time, byte_time, timeout_time}
+use Rattle.model.specs.Timing.{source_period}
 use Rattle.model.specs.Settle.{levels, settle}
 use Rattle.model.specs.Arm.{arm, nth_gone, last_gone}
 use Rattle.model.specs.Map.{Register, register_of}
@@ -136,7 +137,8 @@ module _ (now : ℕ) (u : Uart ℕ ℕ) (x : Written) (m : Meant u.control) (t :
         time,
         lasts,
         gone
-            ∙ ap (λ (l : List (Sent ℕ)). l ++ (record { gone_at = after (starts_at (subcycles now) (last_gone l)) time; byte = x.value % 256 }
+            ∙ ap (λ (l : List (Sent ℕ)). l ++ (record
+            { gone_at = after (starts_at (subcycles now) (last_gone l)) time; byte = x.value % 256 }
             ∷ [])) alone
             ∙ ap (λ (k : ℕ). record { gone_at = k; byte = x.value % 256 } ∷ []) (held-twice (now * 32) time),
       )

@@ -81,7 +81,8 @@ module _ {H W : Type 0} where
   pop-proper ns [] u le = record { zero = refl; few = simp length-append (omega arith) }
   pop-proper ns (b ∷ bs) u le = record { zero = refl; few = omega arith }
 
-  gives-proper : (ns : List Unsupported) (u : Uart H W) (r : ReadOf H) → length ns ≤ 1 → read_number r ≡ 0 → Proper read_number (gives ns u r)
+  gives-proper : (ns : List Unsupported) (u : Uart H W) (r : ReadOf H) → length ns ≤ 1 → read_number r ≡ 0
+      → Proper read_number (gives ns u r)
   gives-proper ns u r le e = record { zero = e; few = omega arith }
 
   read-proper : (ns : List Unsupported) (k : Register) (u : Uart H W) → length ns ≤ 1 → Proper read_number (read_register ns k u)

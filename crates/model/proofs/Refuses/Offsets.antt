@@ -100,6 +100,7 @@ pub set-up-none : {H W : Type 0} (offsets ws : List ℕ) → Repeat offsets → 
 unfolding set_up
 set-up-none os ws r = choose-true _ _ ((repeated-exactly os).1 r)
 
-pub set-up-some : {H W : Type 0} (offsets ws : List ℕ) → repeated offsets ≡ false → set_up {H = H} {W = W} offsets ws ≡ some (new offsets ws)
+pub set-up-some : {H W : Type 0} (offsets ws : List ℕ) → repeated offsets ≡ false → set_up {H = H} {W = W} offsets ws
+    ≡ some (new offsets ws)
 unfolding set_up
 set-up-some os ws e = choose-false _ _ e

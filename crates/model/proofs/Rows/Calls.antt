@@ -147,7 +147,8 @@ module _ {H W : Type 0} (now : ℕ) (u : Uart H W) where
   unfolding row unless refusing summed row_number
   refused-row bs = by-test (refuse_date now u.control (first_test now bs u))
     where
-      by-test : (t : Option Refusal) → let x : Outcome Row H W = unless t Row.Refused (λ s. summed s (writes now s (take row_limit bs))) u in
+      by-test : (t : Option Refusal) → let x : Outcome Row H W = unless t Row.Refused (λ s. summed s (writes now s (take row_limit bs)))
+          u in
           1 ≤ row_number x.reply → (x.state ≡ u) × (x.report ≡ no_report)
       by-test none h = absurd (omega (arith, h))
       by-test (some r) h = (refl, refl)

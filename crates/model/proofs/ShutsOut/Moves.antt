@@ -97,7 +97,8 @@ byte-leaves date u s ss e h = (
   settle_to-tx date u
       ∙ ap (λ (l : List (Sent _)). u.tx ++ map (λ x. x.byte) (take (gone date l) l)) e
       ∙ ap (λ (n : ℕ). u.tx ++ map (λ x. x.byte) (take n (s ∷ ss))) (gone-first date s ss h),
-  settle_to-in_flight date u ∙ ap (λ (l : List (Sent _)). drop (gone date l) l) e ∙ ap (λ (n : ℕ). drop n (s ∷ ss)) (gone-first date s ss h),
+  settle_to-in_flight date u ∙ ap (λ (l : List (Sent _)). drop (gone date l) l) e
+      ∙ ap (λ (n : ℕ). drop n (s ∷ ss)) (gone-first date s ss h),
 )
 
 -- take_tx hands it out

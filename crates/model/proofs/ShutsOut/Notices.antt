@@ -67,6 +67,6 @@ module _ (now : ℕ) (u : Uart ℕ ℕ) (x : Written) (t : InTime now u)
 
   -- the word is stored whole
   pub conf0-stored : (step (Call.at now (Dated.write x)) u).state.control.words.conf0 ≡ x.value
-  unfolding answering carried write_placed after_settling concluded write_register storing replaced words_by value_of reset_fifos arm levels drive
-      assert_levels choose decide
+  unfolding answering carried write_placed after_settling concluded write_register storing replaced words_by value_of reset_fifos arm levels
+      drive assert_levels choose decide
   conf0-stored = ap (λ (s : Step ℕ ℕ ℕ). s.state.control.words.conf0) conf0-answer

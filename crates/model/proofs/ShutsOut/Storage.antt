@@ -105,7 +105,8 @@ module _ (now : ℕ) (u : Uart ℕ ℕ) (t : InTime now u) where
       → let s : Step ℕ ℕ ℕ = step (Call.at now (Dated.write w)) u in
       (s.answer.reply ≡ writes Write.Accepted)
       × ((y : Word) → value_of s.state.control.words y ≡ choose (same_word x y) w.value (value_of u.control.words y))
-  unfolding answering carried write_at write_placed after_settling concluded write_register storing arm levels drive assert_levels choose decide
+  unfolding answering carried write_at write_placed after_settling concluded write_register storing arm levels drive assert_levels choose
+      decide
   word-stored x w e =
       let q = write-answer t w (Register.stored x) e refl in (
         ap (λ (s : Step ℕ ℕ ℕ). s.answer.reply) q,

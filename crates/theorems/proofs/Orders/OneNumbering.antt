@@ -153,7 +153,8 @@ unused-given (fifo ∷ others) n now offset v f =
 
 -- two asks that are alike
 record OneAsk (offsets : List ℕ) (h w : ℕ) (u : Uart ℕ ℕ) (a b : Ask) : Type 0 where
-  step : asked_by step_placed (numbered_asked h w (placed_asked offsets a)) u ≡ asked_by step_placed (numbered_asked h w (placed_asked offsets b)) u
+  step : asked_by step_placed (numbered_asked h w (placed_asked offsets a)) u
+      ≡ asked_by step_placed (numbered_asked h w (placed_asked offsets b)) u
   host : length (host_given a) ≡ length (host_given b)
   written : length (fifo_given (fifo_offset offsets) a) ≡ length (fifo_given (fifo_offset offsets) b)
 

@@ -139,4 +139,5 @@ module _ (hs ws : List ℕ) where
       (ap (λ x. bare_answered x.answer) (order-as o P e.sound)
       ∙ answer-numbered h w o q (host_of_orders os) rest e.sound.uart.0.sixteen e.host e.written)
       (ap (λ x. map bare_answered (run_orders os x)) (parked-next h w o os q e.sound e.host e.written)
-      ∙ run-numbered (h + length (order_host o)) (w + length (order_written q.uart.map.offsets o)) os (numbered_next h w o q) (here-next h w o os q e))
+      ∙ run-numbered (h + length (order_host o)) (w + length (order_written q.uart.map.offsets o)) os (numbered_next h w o q)
+      (here-next h w o os q e))

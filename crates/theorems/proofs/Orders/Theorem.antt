@@ -226,7 +226,8 @@ module _ (offsets ws : List ℕ) (sixteen : length offsets ≡ 16) (differ : rep
   -- demand 3, for every register map that set-up accepts: all answers agree, apart from the byte that a read of FIFO gives, the bytes
   -- handed out as sent and those of a saved form; these agree in count at every call, and each is the byte of the same number in both runs
   pub orders-agree-alike : (cs ds : List CallersOrder) → All OrderFits cs → All OrderFits ds → OrdersAlike (new_parked offsets ws) cs ds
-      → OrdersAgree (host_number cs) (host_number ds) (written_number (new_parked offsets ws) cs) (written_number (new_parked offsets ws) ds)
+      → OrdersAgree (host_number cs) (host_number ds) (written_number (new_parked offsets ws) cs)
+      (written_number (new_parked offsets ws) ds)
       (new_parked offsets ws) 0 0 cs (run_orders cs (new_parked offsets ws)) (run_orders ds (new_parked offsets ws))
   orders-agree-alike cs ds fits fits' a =
       let o = one-list-of-orders cs ds fits fits' a in

@@ -28,20 +28,21 @@ writes_of c = (given c).1
 -- ---- laws of a call with other parts
 
 module _ {R X X' X'' H H' H'' L L' L'' : Type 0} (x : X → X') (h : List H → List H') (l : List L → List L')
-    (x' : X' → X'') (h' : List H' → List H'') (l' : List L' → List L'') (x'' : X → X'') (h'' : List H → List H'') (l'' : List L → List L'') where
-  -- two changes are one where they are on what the call writes, gives and lends
-  pub changed-twice : (c : Call R X H L) → ((a : X) → writes_of c ≡ a ∷ [] → x' (x a) ≡ x'' a) → h' (h (host_of c)) ≡ h'' (host_of c)
-      → ((bs : List L) → l' (l bs) ≡ l'' bs)
-      → changed itself x' h' l' (changed itself x h l c) ≡ changed itself x'' h'' l'' c
-  unfolding changed changed_dated changed_undated given
-  changed-twice (Call.at now (Dated.read a)) p q s = refl
-  changed-twice (Call.at now (Dated.write a)) p q s = ap (λ b. Call.at now (Dated.write b)) (p a refl)
-  changed-twice (Call.at now (Dated.receive date bs)) p q s = ap (λ b. Call.at now (Dated.receive date b)) q
-  changed-twice (Call.at now (Dated.take_tx lent)) p q s = ap (λ b. Call.at now (Dated.take_tx b)) (s lent)
-  changed-twice (Call.at now (Dated.machine m)) p q s = refl
-  changed-twice (Call.undated (Undated.take_written lent)) p q s = ap (λ b. Call.undated (Undated.take_written b)) (s lent)
-  changed-twice (Call.undated Undated.has_left) p q s = refl
-  changed-twice (Call.undated Undated.host_pending) p q s = refl
+    (x' : X' → X'') (h' : List H' → List H'') (l' : List L' → List L'') (x'' : X → X'') (h'' : List H → List H'') (l'' : List L → List L'')
+  where
+    -- two changes are one where they are on what the call writes, gives and lends
+    pub changed-twice : (c : Call R X H L) → ((a : X) → writes_of c ≡ a ∷ [] → x' (x a) ≡ x'' a) → h' (h (host_of c)) ≡ h'' (host_of c)
+        → ((bs : List L) → l' (l bs) ≡ l'' bs)
+        → changed itself x' h' l' (changed itself x h l c) ≡ changed itself x'' h'' l'' c
+    unfolding changed changed_dated changed_undated given
+    changed-twice (Call.at now (Dated.read a)) p q s = refl
+    changed-twice (Call.at now (Dated.write a)) p q s = ap (λ b. Call.at now (Dated.write b)) (p a refl)
+    changed-twice (Call.at now (Dated.receive date bs)) p q s = ap (λ b. Call.at now (Dated.receive date b)) q
+    changed-twice (Call.at now (Dated.take_tx lent)) p q s = ap (λ b. Call.at now (Dated.take_tx b)) (s lent)
+    changed-twice (Call.at now (Dated.machine m)) p q s = refl
+    changed-twice (Call.undated (Undated.take_written lent)) p q s = ap (λ b. Call.undated (Undated.take_written b)) (s lent)
+    changed-twice (Call.undated Undated.has_left) p q s = refl
+    changed-twice (Call.undated Undated.host_pending) p q s = refl
 
 module _ {R R' X X' H L : Type 0} (r : R → R') (x : X → X') where
   host-kept : (c : Call R X H L) → host_of (changed r x itself itself c) ≡ host_of c

@@ -42,8 +42,8 @@ module _ (fifo now : ℕ) where
   pop-shape passes overflows s (b ∷ bs) u = Shape.fifo_byte s (refl, refl)
 
   fifo-shape : (u : Uart ℕ ℕ) → Shape fifo (Call.at now (Dated.read fifo)) (step_placed (Call.at now (Dated.read Register.fifo)) u).answer
-  unfolding step_placed step_by plan_by date_of stepped outcome carried replying read_placed unless refusing after_settling read_at looks decide
-      read_looking read_register
+  unfolding step_placed step_by plan_by date_of stepped outcome carried replying read_placed unless refusing after_settling read_at looks
+      decide read_looking read_register
   fifo-shape u = go (refuse_date now u.control none)
     where
       go : (o : Option Refusal) → Shape fifo (Call.at now (Dated.read fifo)) (record {

@@ -12,7 +12,8 @@ use Rattle.model.specs.Limits.{All}
 use Rattle.model.specs.Replies.{word, byte, no_value, refused, Take}
 use Rattle.model.specs.Call.{host_of, Request, Asked, Ask, Reply, reads, writes, does, takes, left, pends, rows, Answer}
 use Rattle.model.specs.Run.{run}
-use Rattle.theorems.specs.TwoRuns.Alike.{Each, Alike, AskedAlike, fifo_offset, fifo_bytes_of, given_by, host_given, fifo_given, host_byte, write_byte}
+use Rattle.theorems.specs.TwoRuns.Alike.{Each, Alike, AskedAlike, fifo_offset, fifo_bytes_of, given_by, host_given, fifo_given, host_byte}
+use Rattle.theorems.specs.TwoRuns.Alike.{write_byte}
 use Rattle.theorems.specs.TwoRuns.Renamed.{itself, forget, map_read_of}
 use Rattle.theorems.specs.TwoRuns.Renamed.{map_take, map_reply, map_answer, with_bytes_of}
 use Rattle.theorems.specs.TwoRuns.Agree.{Agreeing}
@@ -224,7 +225,8 @@ module _ (fifo : ℕ) (f f' g g' : ℕ → ℕ) where
 
 module _ (fifo : ℕ) (cs ds : List Ask) where
   agreeing : {h w : ℕ} {rest : List Ask} {t : List Bare} → Each (AskedShape fifo) rest t → EachBelow fifo h w rest t
-      → (xs ys : List (Answer ℕ ℕ ℕ)) → map without_rest xs ≡ map (with_bytes_of fifo cs) t → map without_rest ys ≡ map (with_bytes_of fifo ds) t
+      → (xs ys : List (Answer ℕ ℕ ℕ)) → map without_rest xs ≡ map (with_bytes_of fifo cs) t → map without_rest ys
+      ≡ map (with_bytes_of fifo ds) t
       → Agreeing fifo cs ds h w rest xs ys
   unfolding with_bytes_of map_answer map_reply without_rest given_by again
   agreeing Each.nil EachBelow.nil [] [] e f = Agreeing.nil

@@ -120,7 +120,8 @@ module _ {H H' W W' : Type 0} (f : H → H') (g : W → W') where
   nth-nat zero (u ∷ us) = refl
   nth-nat (suc k) (u ∷ us) = nth-nat k us
 
-  find-nat : (l : LoadFrom H W) (us : List (Uart H W)) → find_state (map_from f g l) (map (map_uart f g) us) ≡ map_loading f g (find_state l us)
+  find-nat : (l : LoadFrom H W) (us : List (Uart H W)) → find_state (map_from f g l) (map (map_uart f g) us)
+      ≡ map_loading f g (find_state l us)
   unfolding find_state map_from
   find-nat (LoadFrom.given l) us = refl
   find-nat (LoadFrom.save k) us = nth-nat k us

@@ -97,7 +97,8 @@ module _ {H H' W W' : Type 0} (f : H → H') (g : W → W') where
     unfolding timed_out map_pass map_event
     timed_out-nat u = rw (length-map u.rx f)
 
-    landed-nat : (k : Fate) (l : OnTheLine H) (u : Uart H W) → landed s k (map_on_the_line f l) (map_uart f g u) ≡ map_pass f g (landed s k l u)
+    landed-nat : (k : Fate) (l : OnTheLine H) (u : Uart H W) → landed s k (map_on_the_line f l) (map_uart f g u)
+        ≡ map_pass f g (landed s k l u)
     unfolding landed map_pass map_event map_receiving
     landed-nat k l u = rw (received-nat f k l.byte u.rx)
 
@@ -192,7 +193,8 @@ module _ {H H' W W' : Type 0} (f : H → H') (g : W → W') where
       let ss : List (Sent W) = take (gone date u.in_flight) u.in_flight in
       rw (gone-nat g date u.in_flight, ← map-take (map_sent g)) (left-nat ss)
 
-  pub found-nat : (es : List (Event H W)) (t : Settled H W) → found (map (map_event f g) es) (map_settled f g t) ≡ map_settled f g (found es t)
+  pub found-nat : (es : List (Event H W)) (t : Settled H W) → found (map (map_event f g) es) (map_settled f g t)
+      ≡ map_settled f g (found es t)
   unfolding map_settled
   found-nat es t = ap (λ l. record { state = map_uart f g t.state; events = l }) (sym (map-append (map_event f g) es t.events))
 

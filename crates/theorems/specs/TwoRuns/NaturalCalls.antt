@@ -173,7 +173,8 @@ module _ {H H' W W' : Type 0} (f : H → H') (g : W → W') where
       rw (choose-nat (map f) _ {x = []} {y = u.rx} refl refl)
       (rw (choose-nat (map (map_sent g)) _ {x = take 1 u.in_flight} {y = u.in_flight} (sym (map-take (map_sent g) 1 u.in_flight)) refl))
 
-  write_register-nat : (k : Register) (v : ℕ) (u : Uart H W) → write_register k v (map_uart f g u) ≡ map_access itself f g (write_register k v u)
+  write_register-nat : (k : Register) (v : ℕ) (u : Uart H W) → write_register k v (map_uart f g u)
+      ≡ map_access itself f g (write_register k v u)
   unfolding write_register map_access
   write_register-nat Register.fifo v u = refl
   write_register-nat Register.int_clr v u = clearing-nat v u
@@ -376,6 +377,7 @@ module _ {H H' W W' : Type 0} (f : H → H') (g : W → W') where
           ∙ ap stepped (outcome-nat (map_reply f g h) f g (plan_by-nat c u) u (date_of c))
 
     -- a placed call commutes with a change of bytes
-    pub step_placed-nat : (c : Placed H W L) (u : Uart H W) → step_placed (map_placed f g h c) (map_uart f g u) ≡ map_step f g h (step_placed c u)
+    pub step_placed-nat : (c : Placed H W L) (u : Uart H W) → step_placed (map_placed f g h c) (map_uart f g u)
+        ≡ map_step f g h (step_placed c u)
     unfolding step_placed map_placed
     step_placed-nat c u = step_by-nat itself (map_put g) _ _ _ _ read_placed-nat putting-nat c u

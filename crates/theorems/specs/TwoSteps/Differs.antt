@@ -97,19 +97,19 @@ looked-exception = (_, refl, refl, 0, refl, refl)
 -- RXFIFO_TOUT, bit 8, is raised
 one-step : (line_of (settle 40 looked).state).int_raw ≡ 259
 unfolding stop_half_bits frame_half_bits source_period unmodelled unmodelled_source half_bit_time bit_time byte_time timeout_time settings
-    raise_if note_source after_date opened timeout_at time_out frame start fate land choose due_by instant_of goes_on
-    gone tx_done leave depart pop_run received nothing_due timed_out landed in_frame begun before_start idle line_free pass_on pass on_the_line
-    passes_from pending passes above_full in_fifo empty_threshold below_empty assert_levels int_status drive earliest settling_date
-    levels leveled settings_of settle_to settle
+    raise_if note_source after_date opened timeout_at time_out frame start fate land choose due_by instant_of goes_on gone tx_done leave
+    depart pop_run received nothing_due timed_out landed in_frame begun before_start idle line_free pass_on pass on_the_line passes_from
+    pending passes above_full in_fifo empty_threshold below_empty assert_levels int_status drive earliest settling_date levels leveled
+    settings_of settle_to settle
 one-step = refl
 
 -- the byte that lands at 28 lets the next one start, and that closes the idle line
 two_steps : (line_of (settle 40 (settle 28 looked).state).state).int_raw ≡ 3
 unfolding stop_half_bits frame_half_bits source_period unmodelled unmodelled_source half_bit_time bit_time byte_time timeout_time settings
-    raise_if note_source after_date opened timeout_at time_out frame start fate land choose due_by instant_of goes_on
-    gone tx_done leave depart pop_run received nothing_due timed_out landed in_frame begun before_start idle line_free pass_on pass on_the_line
-    passes_from pending passes above_full in_fifo empty_threshold below_empty assert_levels int_status drive earliest settling_date
-    levels leveled settings_of settle_to settle
+    raise_if note_source after_date opened timeout_at time_out frame start fate land choose due_by instant_of goes_on gone tx_done leave
+    depart pop_run received nothing_due timed_out landed in_frame begun before_start idle line_free pass_on pass on_the_line passes_from
+    pending passes above_full in_fifo empty_threshold below_empty assert_levels int_status drive earliest settling_date levels leveled
+    settings_of settle_to settle
 two_steps = refl
 
 pub looked-differs : ¬ ((settle 40 (settle 28 looked).state).state ≡ (settle 40 looked).state)

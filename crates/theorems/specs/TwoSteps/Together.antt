@@ -56,7 +56,8 @@ depart-leveling : {H W : Type 0} (w z : Uart H W) (date : ℕ) → depart date (
 unfolding depart leave tx_done raise_if
 depart-leveling w z date =
     let asserted = (leveling w).raise [] in
-    ap (λ (raw : ℕ). with_control (with_level (levels w).control.level (with_line (with_int_raw raw (line_of z)) z.control)) (depart date z))
+    ap (λ (raw : ℕ). with_control (with_level (levels w).control.level (with_line (with_int_raw raw (line_of z)) z.control))
+    (depart date z))
     (choose-nat asserted _ (sym ((leveling w).free [] (line_of z).int_raw (2 ^ TX-DONE))) refl)
 
 -- ---- both settlings

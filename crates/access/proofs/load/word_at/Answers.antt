@@ -36,4 +36,5 @@ returns-in_default c =
     c.read.ensures
     ∙ place-keys (λ p. as_read (loaded o.core.control.words (held_at p)) ≡ as_read (word_at o.core (register_at p))) 0
     (3 ∷ 4 ∷ 5 ∷ 8 ∷ 9 ∷ 10 ∷ 11 ∷ 12 ∷ 13 ∷ 14 ∷ 16 ∷ []) o.place
-    (refl, (refl, (refl, (refl, (refl, (refl, (refl, (refl, (refl, (refl, (refl, (refl, tt)))))))))))) (opened c.in_default.in_default-own.keys6)
+    (refl, (refl, (refl, (refl, (refl, (refl, (refl, (refl, (refl, (refl, (refl, (refl, tt))))))))))))
+    (opened c.in_default.in_default-own.keys6)

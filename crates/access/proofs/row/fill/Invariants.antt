@@ -9,7 +9,8 @@ use Rattle.access.proofs.row.fill.Given as goal
 abbrev pub invariant-loop-i : goal.invariant-loop-i
 invariant-loop-i l =
     (l.i ≤ l.n) × Room (flying_by l.flying l.wake l.core) l.gone_at l.flight l.bytes (l.from + l.i) (l.n - l.i)
-    × FilledSo l.cycle l.bytes l.from l.n l.core l.initial.gone_at l.initial.flight l.i (flying_by l.flying l.wake l.core) l.gone_at l.flight
+    × FilledSo l.cycle l.bytes l.from l.n l.core l.initial.gone_at l.initial.flight l.i (flying_by l.flying l.wake l.core) l.gone_at
+    l.flight
 
 abbrev pub decreases-loop-i : goal.decreases-loop-i
 decreases-loop-i l = l.n - l.i

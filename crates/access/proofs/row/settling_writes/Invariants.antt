@@ -15,7 +15,8 @@ use Rattle.access.proofs.row.settling_writes.Given as goal
 
 abbrev pub invariant-loop-at : goal.invariant-loop-at
 invariant-loop-at l =
-    SoFar l.cycle l.bytes l.n (abs l.initial.at.core (arrays l.initial.gone_at l.initial.flight l.initial.tx l.host l.run_at l.initial.run_len l.initial.rx)) l.at
+    SoFar l.cycle l.bytes l.n (abs l.initial.at.core
+    (arrays l.initial.gone_at l.initial.flight l.initial.tx l.host l.run_at l.initial.run_len l.initial.rx)) l.at
     (arrays l.gone_at l.flight l.tx l.host l.run_at l.run_len l.rx)
 
 abbrev pub decreases-loop-at : goal.decreases-loop-at

@@ -8,7 +8,8 @@ use Rattle.answers.proofs.notices.put_notices.Given as goal
 
 abbrev pub invariant-loop-i : goal.invariant-loop-i
 invariant-loop-i l =
-    (1 ≤ l.i) × (l.i ≤ 8) × (l.i ≤ l.noted) × (length l.out ≡ length l.initial.out) × Puts (later_texts l.i l.notices) l.initial.out l.initial.place l.out l.place
+    (1 ≤ l.i) × (l.i ≤ 8) × (l.i ≤ l.noted) × (length l.out ≡ length l.initial.out)
+    × Puts (later_texts l.i l.notices) l.initial.out l.initial.place l.out l.place
 
 abbrev pub decreases-loop-i : goal.decreases-loop-i
 decreases-loop-i l = 8 - l.i

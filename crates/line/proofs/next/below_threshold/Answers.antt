@@ -7,11 +7,21 @@ use Rattle.line.proofs.next.below_threshold.Goals as goal
 
 pub returns-then-threshold-flying : goal.returns-then-threshold-flying
 unfolding below_threshold empty_threshold choose
-returns-then-threshold-flying c = rw (← c.txfifo_empty_thrhd-threshold.ensures, lt-ltb 0 _ c.if-threshold-gt0.true, lt-ltb _ _ c.if-threshold-flying.true)
+returns-then-threshold-flying c = rw (
+  ← c.txfifo_empty_thrhd-threshold.ensures,
+  lt-ltb 0 _ c.if-threshold-gt0.true,
+  lt-ltb _ _
+      c.if-threshold-flying.true,
+)
 
 pub returns-else-threshold-flying : goal.returns-else-threshold-flying
 unfolding below_threshold empty_threshold choose
-returns-else-threshold-flying c = rw (← c.txfifo_empty_thrhd-threshold.ensures, lt-ltb 0 _ c.if-threshold-gt0.true, le-ltb _ _ c.if-threshold-flying.false)
+returns-else-threshold-flying c = rw (
+  ← c.txfifo_empty_thrhd-threshold.ensures,
+  lt-ltb 0 _ c.if-threshold-gt0.true,
+  le-ltb _ _
+      c.if-threshold-flying.false,
+)
 
 pub returns-else-threshold-gt0 : goal.returns-else-threshold-gt0
 unfolding below_threshold empty_threshold choose

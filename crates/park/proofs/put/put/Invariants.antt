@@ -11,7 +11,8 @@ use Rattle.park.proofs.put.put.Given as goal
 
 abbrev pub invariant-loop-i : goal.invariant-loop-i
 invariant-loop-i l =
-    (l.i ≤ l.width) × (length l.out ≡ length l.initial.out) × (wrote l.out (l.at + l.i) (low_first (l.width - l.i) l.rest) ≡ wrote l.initial.out l.at (low_first l.width l.n))
+    (l.i ≤ l.width) × (length l.out ≡ length l.initial.out)
+    × (wrote l.out (l.at + l.i) (low_first (l.width - l.i) l.rest) ≡ wrote l.initial.out l.at (low_first l.width l.n))
 
 abbrev pub decreases-loop-i : goal.decreases-loop-i
 decreases-loop-i l = l.width - l.i

@@ -15,7 +15,8 @@ use Rattle.park.proofs.rings.put_dates.Given as goal
 
 abbrev pub invariant-loop-i : goal.invariant-loop-i
 invariant-loop-i l =
-    (l.i ≤ l.flight.count) × Puts (8 * l.i) (field_bytes (map long (listed (λ k. slot_of l.gone_at 0 (nth_of 129 k l.flight)) l.i))) l.initial.out l.at l.out l.place
+    (l.i ≤ l.flight.count) × Puts (8 * l.i) (field_bytes (map long (listed (λ k. slot_of l.gone_at 0 (nth_of 129 k l.flight)) l.i)))
+    l.initial.out l.at l.out l.place
 
 abbrev pub decreases-loop-i : goal.decreases-loop-i
 decreases-loop-i l = l.flight.count - l.i

@@ -16,7 +16,8 @@ use Rattle.park.proofs.rings.put_runs.Given as goal
 
 abbrev pub invariant-loop-i : goal.invariant-loop-i
 invariant-loop-i l =
-    (l.i ≤ l.runs.count) × Puts (10 * l.i) (field_bytes (run_fields (listed (λ k. run_in l.run_at l.run_len (nth_of 64 k l.runs)) l.i))) l.initial.out l.at l.out l.place
+    (l.i ≤ l.runs.count) × Puts (10 * l.i) (field_bytes (run_fields (listed (λ k. run_in l.run_at l.run_len (nth_of 64 k l.runs)) l.i)))
+    l.initial.out l.at l.out l.place
 
 abbrev pub decreases-loop-i : goal.decreases-loop-i
 decreases-loop-i l = l.runs.count - l.i

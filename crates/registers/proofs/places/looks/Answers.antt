@@ -18,4 +18,5 @@ pub returns-in_default : goal.returns-in_default
 unfolding looks register_at decide
 returns-in_default c =
     place-keys (λ p. false ≡ looks (register_at p)) 3 (4 ∷ 5 ∷ 7 ∷ 8 ∷ 9 ∷ 10 ∷ 11 ∷ 12 ∷ 13 ∷ 14 ∷ 15 ∷ 16 ∷ []) c.args.place
-    (refl, (refl, (refl, (refl, (refl, (refl, (refl, (refl, (refl, (refl, (refl, (refl, (refl, tt))))))))))))) (opened c.in_default.in_default-own.keys2)
+    (refl, (refl, (refl, (refl, (refl, (refl, (refl, (refl, (refl, (refl, (refl, (refl, (refl, tt)))))))))))))
+    (opened c.in_default.in_default-own.keys2)

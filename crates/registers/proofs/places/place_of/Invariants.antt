@@ -7,7 +7,8 @@ use Rattle.registers.specs.Places.{register_from}
 use Rattle.registers.proofs.places.place_of.Given as goal
 
 abbrev pub invariant-loop-at : goal.invariant-loop-at
-invariant-loop-at l = (l.at ≤ 16) × (length l.offsets ≡ 16) × (register_from l.at l.offset l.offsets registers ≡ register_of l.offsets l.offset)
+invariant-loop-at l = (l.at ≤ 16) × (length l.offsets ≡ 16)
+    × (register_from l.at l.offset l.offsets registers ≡ register_of l.offsets l.offset)
 
 abbrev pub decreases-loop-at : goal.decreases-loop-at
 decreases-loop-at l = 16 - l.at

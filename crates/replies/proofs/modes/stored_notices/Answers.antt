@@ -49,4 +49,5 @@ returns-in_default c =
     c.none.ensures
     ∙ place-keys (λ p. noted [] ≡ noted (notes_at (held_at p) c.args.value))
     0 (1 ∷ 2 ∷ 3 ∷ 4 ∷ 5 ∷ 6 ∷ 7 ∷ 10 ∷ 11 ∷ 13 ∷ 15 ∷ 16 ∷ []) c.args.place
-    (refl, (refl, (refl, (refl, (refl, (refl, (refl, (refl, (refl, (refl, (refl, (refl, (refl, tt))))))))))))) (opened c.in_default.in_default-own.keys5)
+    (refl, (refl, (refl, (refl, (refl, (refl, (refl, (refl, (refl, (refl, (refl, (refl, (refl, tt)))))))))))))
+    (opened c.in_default.in_default-own.keys5)

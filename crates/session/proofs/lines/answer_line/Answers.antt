@@ -74,7 +74,8 @@ returns-then-session c =
     let last = c.in-Call.last in
     let cmd = command_of name (numbers_in s) last (bytes_after s a.bytes.now) s in
     let u = meaning a.session.uart in record {
-      gives = gives_as (ap₂ (λ (ns : List ℕ) (bs : List ℕ). carried_out (command_of name ns last bs s) [] (some u)) got.numbers_after got.bytes_after
+      gives = gives_as (ap₂ (λ (ns : List ℕ) (bs : List ℕ). carried_out (command_of name ns last bs s) [] (some u)) got.numbers_after
+          got.bytes_after
           ∙ carried-any cmd [] (no_uart s) u
           ∙ ap (carried_out cmd (no_uart s)) (sym (is-ready a.session c.if-session.true))
           ∙ same)
@@ -97,7 +98,8 @@ returns-else-session c =
     let name = c.in-Call.name in
     let last = c.in-Call.last in
     let cmd = command_of name (numbers_in s) last (bytes_after s a.bytes.now) s in record {
-      gives = gives_as (ap (λ (ns : List ℕ). carried_out (command_of name ns last (bytes_after s a.bytes.now) s) (no_uart s) none) got.numbers_after
+      gives = gives_as (ap (λ (ns : List ℕ). carried_out (command_of name ns last (bytes_after s a.bytes.now) s) (no_uart s) none)
+          got.numbers_after
           ∙ ap (carried_out cmd (no_uart s)) (sym (not-ready a.session c.if-session.false))
           ∙ same)
           (c.first_call.ensures last (bytes_after s a.bytes.now));

@@ -42,7 +42,8 @@ pub returns-in-Write : goal.returns-in-Write
 returns-in-Write c =
     let far = c in
     let a = c.args in
-    gives_as (ap₂ (λ (o : ℕ) (v : ℕ). calls (Asked.call (Call.at (get_or a.numbers 0 0) (Dated.write (record { offset = o; value = v })))) []
+    gives_as (ap₂ (λ (o : ℕ) (v : ℕ). calls (Asked.call (Call.at (get_or a.numbers 0 0) (Dated.write (record { offset = o; value = v }))))
+    []
     (some (meaning a.session.uart))) c.low-in-Write.ensures
     c.low-in-Write-2.ensures
     ∙ told-as a.numbers a.last a.bytes.now a.s.now (meaning a.session.uart)

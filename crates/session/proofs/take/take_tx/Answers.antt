@@ -15,7 +15,13 @@ lend_tx-requires c =
     let far = c in
     let m = c.marks-lent.ensures.value_2 in
     let n = c.within-n.ensures.value in
-    record { good = c.requires.good; wide = c.requires.wide; lent_value = lent-marks c.args.size m n; lent_len_bound = lent-few c.args.size m n }
+    record {
+      good = c.requires.good;
+      wide = c.requires.wide;
+      lent_value = lent-marks c.args.size m n;
+      lent_len_bound = lent-few c.args.size
+          m n;
+    }
 
 pub returns : goal.returns
 returns c =

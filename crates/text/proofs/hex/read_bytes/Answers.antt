@@ -14,4 +14,8 @@ returns-then-s-to c =
 pub returns : goal.returns
 returns c =
     let e = sym c.same.ensures ∙ c.if-same.false in
-    let p = c.read_pairs.ensures in record { value = p.value ∙ simp (e, le-ltb _ _ c.if-s-to.false); to_after = p.to_after ∙ simp (e, le-ltb _ _ c.if-s-to.false) }
+    let p = c.read_pairs.ensures in record {
+      value = p.value ∙ simp (e, le-ltb _ _ c.if-s-to.false);
+      to_after = p.to_after
+          ∙ simp (e, le-ltb _ _ c.if-s-to.false);
+    }

@@ -19,7 +19,11 @@ returns-then-b-gt255 c =
     let a = c.args in
     let w = c.loop-n in
     let rest = spelled (drop (2 * w.n) a.s.now) in
-    let none : rest ≡ [] = no-pair a.s.now w.n _ (omega arith) c.pair-b.ensures c.if-b-gt255.true in record { value = count-fault a.s.now w.to a.to.now w.n rest (omega arith) w.invariant.2 none (λ e. omega arith); to_after = stored-front a.s.now w.to a.to.now w.n rest (omega arith) w.invariant.2 none w.invariant.3 }
+    let none : rest ≡ [] = no-pair a.s.now w.n _ (omega arith) c.pair-b.ensures c.if-b-gt255.true in record {
+      value = count-fault a.s.now w.to a.to.now w.n rest (omega arith) w.invariant.2 none (λ e. omega arith);
+      to_after = stored-front
+          a.s.now w.to a.to.now w.n rest (omega arith) w.invariant.2 none w.invariant.3;
+    }
 
 pub loop-n-preserved : goal.loop-n-preserved
 loop-n-preserved c =
@@ -41,7 +45,11 @@ returns-then-s-eq0 c =
     let a = c.args in
     let w = c.loop-n in
     let rest = spelled (drop (2 * w.n) a.s.now) in
-    let none : rest ≡ [] = pairs_end a.s.now w.n (omega arith) in record { value = count-all a.s.now w.to a.to.now w.n rest (omega arith) w.invariant.2 none (omega arith); to_after = stored-front a.s.now w.to a.to.now w.n rest (omega arith) w.invariant.2 none w.invariant.3 }
+    let none : rest ≡ [] = pairs_end a.s.now w.n (omega arith) in record {
+      value = count-all a.s.now w.to a.to.now w.n rest (omega arith) w.invariant.2 none (omega arith);
+      to_after = stored-front a.s.now
+          w.to a.to.now w.n rest (omega arith) w.invariant.2 none w.invariant.3;
+    }
 
 pub shape_of-to-else-s-eq0 : goal.shape_of-to-else-s-eq0
 shape_of-to-else-s-eq0 c = c.loop-n.invariant.1
@@ -51,4 +59,8 @@ returns-else-s-eq0 c =
     let a = c.args in
     let w = c.loop-n in
     let rest = spelled (drop (2 * w.n) a.s.now) in
-    let none : rest ≡ [] = pairs_end a.s.now w.n (omega arith) in record { value = count-fault a.s.now w.to a.to.now w.n rest (omega arith) w.invariant.2 none (λ e. omega arith); to_after = stored-front a.s.now w.to a.to.now w.n rest (omega arith) w.invariant.2 none w.invariant.3 }
+    let none : rest ≡ [] = pairs_end a.s.now w.n (omega arith) in record {
+      value = count-fault a.s.now w.to a.to.now w.n rest (omega arith) w.invariant.2 none (λ e. omega arith);
+      to_after = stored-front
+          a.s.now w.to a.to.now w.n rest (omega arith) w.invariant.2 none w.invariant.3;
+    }

@@ -18,4 +18,8 @@ returns c =
     let a = c.args in
     let at = c.within-at.ensures.value in
     let p = c.piece_at-piece.ensures in
-    let put = c.put.ensures in record { value = is-gathered _ a.input _ _ at p _ _ _ put.next c.too_long-long.ensures; line_after = is-line _ a.input _ _ at p _ _ put.bytes }
+    let put = c.put.ensures in record {
+      value = is-gathered _ a.input _ _ at p _ _ _ put.next c.too_long-long.ensures;
+      line_after = is-line
+          _ a.input _ _ at p _ _ put.bytes;
+    }

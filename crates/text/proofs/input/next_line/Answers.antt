@@ -2,7 +2,8 @@
 use Rattle.text.proofs.input.next_line.Goals as goal
 
 pub returns-then-input : goal.returns-then-input
-returns-then-input c = let e = c.if-input.true in record { value = rw e c.gather.ensures.value; line_after = rw e c.gather.ensures.line_after }
+returns-then-input c = let e = c.if-input.true in record
+    { value = rw e c.gather.ensures.value; line_after = rw e c.gather.ensures.line_after }
 
 pub returns : goal.returns
 returns c =

@@ -7,7 +7,8 @@ use Rattle.text.proofs.numbers.digits_from.Given as goal
 
 abbrev pub invariant-loop-i : goal.invariant-loop-i
 invariant-loop-i l =
-    (l.i ≤ length l.s) × (l.value ≤ l.limit) × (l.most ≡ l.limit / l.base) × (number_in l.base l.limit (drop l.from l.s) ≡ number_after l.base l.limit l.value (drop l.i l.s))
+    (l.i ≤ length l.s) × (l.value ≤ l.limit) × (l.most ≡ l.limit / l.base)
+    × (number_in l.base l.limit (drop l.from l.s) ≡ number_after l.base l.limit l.value (drop l.i l.s))
 
 abbrev pub decreases-loop-i : goal.decreases-loop-i
 decreases-loop-i l = length l.s - l.i

@@ -20,4 +20,10 @@ returns-in-2 c = sym (ap unmodelled (sym c.sclk_sel-sel.ensures ∙ c.in-2.is))
 pub returns-in_default : goal.returns-in_default
 unfolding unmodelled_source
 returns-in_default c =
-    sym (modelled _ (omega (arith, c.sclk_sel-sel.ensures, c.in_default.in_default-own.rest.0.0.1, c.in_default.in_default-own.rest.0.1, c.in_default.in_default-own.rest.1)))
+    sym (modelled _ (omega (
+      arith,
+      c.sclk_sel-sel.ensures,
+      c.in_default.in_default-own.rest.0.0.1,
+      c.in_default.in_default-own.rest.0.1,
+      c.in_default.in_default-own.rest.1,
+    )))

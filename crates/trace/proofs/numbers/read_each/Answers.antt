@@ -31,7 +31,11 @@ returns-in_default c =
     let one =
     ap (number_at a.s.now w.at) (sym c.kind_at.ensures) ∙ sym c.read_one-one.ensures
     ∙ c.in_default.is in
-    let left = number-wrong a.s.now a.wide a.count w.i w.at c.loop-i-test.true _ one in record { value = c.in_default.is ∙ sym (w.invariant.1 ∙ ap (λ (n : Numbers). n.step) left); to_after = sym (w.invariant.2 ∙ ap (λ (n : Numbers). stored_from w.i n.values w.to) left) }
+    let left = number-wrong a.s.now a.wide a.count w.i w.at c.loop-i-test.true _ one in record {
+      value = c.in_default.is ∙ sym (w.invariant.1 ∙ ap (λ (n : Numbers). n.step) left);
+      to_after = sym
+          (w.invariant.2 ∙ ap (λ (n : Numbers). stored_from w.i n.values w.to) left);
+    }
 
 pub loop-i-preserved : goal.loop-i-preserved
 unfolding stored_from
@@ -53,4 +57,8 @@ unfolding stored_from
 returns c =
     let a = c.args in
     let w = c.loop-i in
-    let left = numbers-end a.s.now a.wide a.count w.i w.at c.loop-i-test.false in record { value = sym (w.invariant.1 ∙ ap (λ (n : Numbers). n.step) left); to_after = sym (w.invariant.2 ∙ ap (λ (n : Numbers). stored_from w.i n.values w.to) left) }
+    let left = numbers-end a.s.now a.wide a.count w.i w.at c.loop-i-test.false in record {
+      value = sym (w.invariant.1
+          ∙ ap (λ (n : Numbers). n.step) left);
+      to_after = sym (w.invariant.2 ∙ ap (λ (n : Numbers). stored_from w.i n.values w.to) left);
+    }

@@ -9,7 +9,8 @@ abbrev pub invariant-loop-i : goal.invariant-loop-i
 invariant-loop-i l =
     (l.i ≤ l.count)
     × ((numbers_from l.s l.wide 0 l.count l.from).step ≡ (numbers_from l.s l.wide l.i (l.count - l.i) l.at).step)
-    × (stored (numbers_from l.s l.wide 0 l.count l.from).values l.initial.to ≡ stored_from l.i (numbers_from l.s l.wide l.i (l.count - l.i) l.at).values l.to)
+    × (stored (numbers_from l.s l.wide 0 l.count l.from).values l.initial.to
+    ≡ stored_from l.i (numbers_from l.s l.wide l.i (l.count - l.i) l.at).values l.to)
 
 abbrev pub decreases-loop-i : goal.decreases-loop-i
 decreases-loop-i l = l.count - l.i
