@@ -1,6 +1,6 @@
 -- `pass::take_next_on_the_line` meets its contract: its calls give the parts that `assembled` puts together. Assumes nothing.
 use native.Mathlib.Omega.{arith}
-use Rattle.device.specs.Carries.{assembled}
+use Rattle.device.proofs.Carries.{assembled}
 use Rattle.device.proofs.pass.take_next_on_the_line.Goals as goal
 
 pub back-next-requires : goal.back-next-requires
