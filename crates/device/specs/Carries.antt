@@ -1,11 +1,11 @@
 -- What the control is given of the slots. Assumes nothing.
-use Rattle.std.specs.Prelude.{◌≡◌, ℕ, ◌-◌, ◌<◌, ◌≤◌}
+use Rattle.std.specs.Prelude.{◌≡◌, ℕ, ◌<◌, ◌≤◌}
 use Rattle.std.proofs.Math.Path.{refl, ap}
 use Rattle.std.proofs.Common.{ap₂, ◌∙◌, ⊎_elim, lt-ltb, le-ltb}
 use mathlib.Core.List.{List, [], ◌∷◌}
 use native.Mathlib.Omega.{arith}
 use Rattle.std.proofs.Math.ListN.{get_or}
-use Rattle.model.specs.State.{Run, OnTheLine}
+use Rattle.model.specs.State.{Run}
 use Rattle.model.specs.Numbers.{choose}
 use Rattle.model.specs.declared.Date.{Date}
 use Rattle.queue.specs.Slots.{side}
@@ -13,18 +13,8 @@ use Rattle.queue.specs.Cursors.{Held, slot_of}
 use Rattle.queue.specs.Laws.{first-elems, elems-none}
 use Rattle.queue.specs.declared.Cursor.{Cursor}
 use Rattle.line.specs.declared.Receiving.{Receiving}
-<<<<<<< HEAD
-use Rattle.line.specs.declared.Move.{Move}
-use Rattle.line.specs.Moves.{move}
-use Rattle.line.specs.Seen.{Seen}
-use Rattle.line.specs.Applied.{waiting, mark, line_byte, subject, marked, is_stored, stored_into, drop_if, pop_run_if, applied}
-use Rattle.line.specs.Applied.{pass-applied}
-use Rattle.device.specs.Never.{never}
-use Rattle.device.specs.Holds.{run_in, host_of, runs_of, rx_of, on_the_line}
-=======
 use Rattle.line.specs.Applied.{waiting, mark}
 use Rattle.device.specs.Holds.{run_in, host_of, runs_of, on_the_line}
->>>>>>> 90d3e6f37710c76aab10da799ffde1206813b388
 use Rattle.device.specs.Waits.{waiting_at}
 
 pub mark_of : (r : Receiving) (b : ℕ) → mark (on_the_line r b) ≡ r
