@@ -23,7 +23,7 @@ use Rattle.theorems.specs.TwoRuns.Alike.{fifo_offset}
 use Rattle.theorems.specs.TwoRuns.Renamed.{itself, map_take, map_reply, map_answer}
 use Rattle.theorems.specs.TwoRuns.Numbered.{Bare, without_rest, AskedShape}
 use Rattle.theorems.proofs.TwoRuns.Shapes.{asked-shape}
-use Rattle.theorems.proofs.TwoRuns.Theorem.{agree, row-known, firsts, new-nat}
+use Rattle.theorems.proofs.TwoRuns.Theorem.{agree-by, row-known, firsts, new-nat}
 use Rattle.theorems.specs.Orders.Renamed.{Saves, placed_step, map_saves, map_answered}
 use Rattle.theorems.specs.Orders.Alike.{OrdersAlike, order_host, order_written, host_of_orders, written_of_orders, host_number}
 use Rattle.theorems.specs.Orders.Alike.{written_number}
@@ -126,7 +126,7 @@ module _ (f f' g g' : ℕ → ℕ) where
       (Answered.answers (record { reply = x.reply; report = r }))
       (Answered.answers (record { reply = y.reply; report = q })))
       (sym (ap (λ z. z.report) e)) (sym (ap (λ z. z.report) d))
-      (OrderAgree.call (agree (fifo_offset offsets) f f' g g' s k x.reply y.reply (ap (λ z. z.reply) e) (ap (λ z. z.reply) d)))
+      (OrderAgree.call (agree-by (fifo_offset offsets) f f' g g' s k x.reply y.reply (ap (λ z. z.reply) e) (ap (λ z. z.reply) d)))
   ask-agrees offsets h w (AskedShape.row {now = now} {bs = bs} {x = made} {r = r}) k x y e d =
       subst₂ (λ z t. OrderAgree f f' g g' offsets h w (Order.ask (Asked.row now bs)) (Answered.answers z) (Answered.answers t))
       (row-known x made r e) (row-known y made r d) OrderAgree.row

@@ -16,7 +16,7 @@ use Rattle.theorems.specs.TwoRuns.Alike.{Each, Alike, AskedAlike, fifo_offset, f
 use Rattle.theorems.specs.TwoRuns.Alike.{write_byte}
 use Rattle.theorems.specs.TwoRuns.Renamed.{itself, forget, map_read_of}
 use Rattle.theorems.specs.TwoRuns.Renamed.{map_take, map_reply, map_answer, with_bytes_of}
-use Rattle.theorems.specs.TwoRuns.Agree.{Agreeing}
+use Rattle.theorems.specs.TwoRuns.Agree.{Agree, Agreeing}
 use Rattle.theorems.specs.TwoRuns.AgreeBy.{AgreeBy, by-lists}
 use Rattle.theorems.specs.TwoRuns.Numbered.{Bare, bare_reply, without_rest, byte_read, bytes_read, bytes_sent, Below, EachBelow, Shape}
 use Rattle.theorems.specs.TwoRuns.Numbered.{AskedShape}
@@ -202,28 +202,34 @@ pub firsts : {A : Type 0} {x y : A} {xs ys : List A} → x ∷ xs ≡ y ∷ ys �
 firsts e = (cc, cc)
 
 module _ (fifo : ℕ) (f f' g g' : ℕ → ℕ) where
-  pub agree : {h w : ℕ} {c : Request} {a : Bare} → Shape fifo c a → Below h w a → (x y : Reply ℕ ℕ ℕ)
+  pub agree-by : {h w : ℕ} {c : Request} {a : Bare} → Shape fifo c a → Below h w a → (x y : Reply ℕ ℕ ℕ)
       → bare_reply x ≡ map_reply f g itself a.reply → bare_reply y ≡ map_reply f' g' itself a.reply
       → AgreeBy fifo f f' g g' h w a.report c x y
   unfolding map_reply map_read_of map_take bytes_read byte_read bytes_sent again bare_reply
-  agree (Shape.fifo_byte s p) b x y e k =
+  agree-by (Shape.fifo_byte s p) b x y e k =
       subst₂ (AgreeBy fifo f f' g g' _ _ _ _) (known x e (λ t l. apart (cc))) (known y k (λ t l. apart (cc)))
       (AgreeBy.fifo_byte s p (all_head b.read))
-  agree (Shape.fifo_empty s p) b x y e k =
+  agree-by (Shape.fifo_empty s p) b x y e k =
       subst₂ (AgreeBy fifo f f' g g' _ _ _ _) (known x e (λ t l. apart (cc))) (known y k (λ t l. apart (cc))) (AgreeBy.fifo_empty s p)
-  agree Shape.fifo_refused b x y e k =
+  agree-by Shape.fifo_refused b x y e k =
       subst₂ (AgreeBy fifo f f' g g' _ _ _ _) (known x e (λ t l. apart (cc))) (known y k (λ t l. apart (cc))) AgreeBy.fifo_refused
-  agree (Shape.handed_out {t = t} n) b x y e k =
+  agree-by (Shape.handed_out {t = t} n) b x y e k =
       let p = took x _ e in
       let q = took y _ k in
       subst₂ (AgreeBy fifo f f' g g' _ _ _ _) p.is q.is (AgreeBy.handed_out n b.sent (p.long ∙ sym q.long))
-  agree (Shape.no_byte {a = a} n p q) b x y e k =
+  agree-by (Shape.no_byte {a = a} n p q) b x y e k =
       let r = a.reply in
       let same = forth r q in
       subst₂ (AgreeBy fifo f f' g g' _ _ _ _) (known x (e ∙ plain _ _ r p q) q) (known y (k ∙ plain _ _ r p q) q)
       (AgreeBy.no_byte n (λ b l. p b (sym same ∙ ap bare_reply l)) (λ t l. q _ (sym same ∙ ap bare_reply l)))
 
 module _ (fifo : ℕ) (cs ds : List Ask) where
+  agree : {h w : ℕ} {c : Request} {a : Bare} → Shape fifo c a → Below h w a → (x y : Reply ℕ ℕ ℕ)
+      → bare_reply x ≡ (with_bytes_of fifo cs a).reply → bare_reply y ≡ (with_bytes_of fifo ds a).reply → Agree fifo cs ds h w a.report c x y
+  unfolding with_bytes_of map_answer
+  agree s b x y e f =
+      by-lists fifo cs ds (agree-by fifo (host_byte cs) (host_byte ds) (write_byte fifo cs) (write_byte fifo ds) s b x y e f)
+
   agreeing : {h w : ℕ} {rest : List Ask} {t : List Bare} → Each (AskedShape fifo) rest t → EachBelow fifo h w rest t
       → (xs ys : List (Answer ℕ ℕ ℕ)) → map without_rest xs ≡ map (with_bytes_of fifo cs) t → map without_rest ys
       ≡ map (with_bytes_of fifo ds) t
@@ -240,8 +246,7 @@ module _ (fifo : ℕ) (cs ds : List Ask) where
       subst₂ (λ r q. Agreeing fifo cs ds h w (Asked.call c ∷ rest) (record { reply = x.reply; report = r } ∷ xs)
       (record { reply = y.reply; report = q } ∷ ys))
       (sym (ap (λ k. k.report) e₀)) (sym (ap (λ k. k.report) f₀))
-      (Agreeing.call (by-lists fifo cs ds (agree fifo (host_byte cs) (host_byte ds) (write_byte fifo cs) (write_byte fifo ds) s b
-      x.reply y.reply (ap (λ k. k.reply) e₀) (ap (λ k. k.reply) f₀)))
+      (Agreeing.call (agree s b x.reply y.reply (ap (λ k. k.reply) e₀) (ap (λ k. k.reply) f₀))
       (agreeing {h = h + length (host_of c)} {w = w + length (fifo_bytes_of fifo c)} ss bs xs ys e₁ f₁))
   agreeing {h} {w} (Each.cons {l = rest} (AskedShape.row {now = now} {bs = row-bytes} {x = made} {r = r}) ss) (EachBelow.cons b bs)
       (x ∷ xs) (y ∷ ys) e f =
