@@ -338,7 +338,7 @@ class Machine:
 
     def shape(self, kind):
         if kind[0] != 'ty_named' or kind[1] not in self.defs:
-            raise NotImplementedError(kind)
+            raise Generic(kind)
         return self.defs[kind[1]]
 
     def size(self, kind):
@@ -466,7 +466,8 @@ class Machine:
             if type(body[1]) is not str:
                 raise Generic(body[1])
             if body[1] not in self.functions:
-                raise NotImplementedError(body[1])
+                known = any(name.split('::')[0] == body[1].split('::')[0] for name in self.functions)
+                raise (NotImplementedError if known else Generic)(body[1])
             value = self.run(self.functions[body[1]], [self.operand(frame, arg) for arg in body[2]])
             at, index = self.address(frame, body[3])
             at[index] = value
