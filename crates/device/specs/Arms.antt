@@ -98,17 +98,17 @@ module _ (dates bytes : List ℕ) (c : Cursor) where
 
 pub armed-by : (c : Core) (a : Arrays) (gone_at : List ℕ) (run_date : ℕ) → a.gone_at ≡ gone_at → get_or a.run_at c.runs.start 0 ≡ run_date
     → Held 1024 c.host → Held 64 c.runs
-    → {s : Settings} {last waits landing comes timeout below first_gone first w : Date} {which : Below}
+    → {s : Settings} {last waits landing comes timeout below leaves first w : Date} {which : Below}
     → s ≡ Timing.settings c.control.words c.control.period → last ≡ last_gone (flight_of gone_at a.flight c.flight)
     → waits ≡ waiting_at c.host.count c.runs.count run_date
     → landing ≡ next_landing s.byte_time c.receiving waits c.control.line
     → comes ≡ timeout_at s c.control.line → timeout ≡ only_if s.rx_tout_en comes
     → which ≡ below_threshold (empty_threshold c.control.words.conf1) c.flight.count
     → below ≡ gone_below which (flight_of gone_at a.flight c.flight)
-    → first_gone ≡ nth_gone 0 (flight_of gone_at a.flight c.flight) → first ≡ only_if c.control.watched first_gone
+    → leaves ≡ nth_gone 0 (flight_of gone_at a.flight c.flight) → first ≡ only_if c.control.watched leaves
     → w ≡ arm_all (last ∷ landing ∷ timeout ∷ below ∷ first ∷ []) c.control.wake → w ≡ arm_all (instants (abs c a)) c.control.wake
 unfolding settings_of
-armed-by c a gone_at run_date ea er hh rh {s} {last} {waits} {landing} {comes} {timeout} {below} {first_gone} {first} {w} {which} es el ew eg ec
+armed-by c a gone_at run_date ea er hh rh {s} {last} {waits} {landing} {comes} {timeout} {below} {leaves} {first} {w} {which} es el ew eg ec
     et
     ek eb en ef e =
     let u : State.Uart ℕ ℕ = abs c a in

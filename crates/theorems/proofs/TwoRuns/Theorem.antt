@@ -225,7 +225,8 @@ module _ (fifo : ℕ) (f f' g g' : ℕ → ℕ) where
 
 module _ (fifo : ℕ) (cs ds : List Ask) where
   agree : {h w : ℕ} {c : Request} {a : Bare} → Shape fifo c a → Below h w a → (x y : Reply ℕ ℕ ℕ)
-      → bare_reply x ≡ (with_bytes_of fifo cs a).reply → bare_reply y ≡ (with_bytes_of fifo ds a).reply → Agree fifo cs ds h w a.report c x y
+      → bare_reply x ≡ (with_bytes_of fifo cs a).reply → bare_reply y ≡ (with_bytes_of fifo ds a).reply
+      → Agree fifo cs ds h w a.report c x y
   unfolding with_bytes_of map_answer
   agree s b x y e f =
       by-lists fifo cs ds (agree-by fifo (host_byte cs) (host_byte ds) (write_byte fifo cs) (write_byte fifo ds) s b x y e f)
