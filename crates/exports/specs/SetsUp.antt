@@ -7,7 +7,8 @@ use Rattle.device.specs.Holds.{Arrays, abs, Ok}
 use Rattle.device.specs.declared.Core.{Core}
 use Rattle.calls.specs.NewCore.{new_core}
 use Rattle.uart.specs.Whole.{Slots, new-means, new-good}
-use Rattle.ffi.specs.Plain.{core_of, plain_core, core-back}
+use Rattle.ffi.specs.Plain.{core_of, plain_core}
+use Rattle.ffi.proofs.WayBack.{core-back}
 use Rattle.ffi.specs.declared.PlainCore.{PlainCore}
 use Rattle.ffi.specs.Replies.{plain_set_up}
 use Rattle.ffi.specs.declared.results.PlainReply.{PlainReply}
