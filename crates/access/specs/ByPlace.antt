@@ -21,7 +21,7 @@ use Rattle.model.specs.declared.Write.{Write}
 use Rattle.replies.specs.declared.notices.Notices.{Notices}
 use Rattle.replies.specs.Calls.{write-tests}
 use Rattle.replies.specs.Refusals.{sending, dates_only}
-use Rattle.device.specs.Holds.{Arrays, abs, Ok}
+use Rattle.device.specs.Holds.{Arrays, abs, Valid}
 use Rattle.device.specs.declared.Core.{Core}
 use Rattle.calls.specs.Answers.{dated_call, Accesses, Works, Answers, carried, turned-away, in-time}
 use Rattle.access.specs.Sends.{send-checks, send-period}
@@ -74,7 +74,7 @@ unfolding tests_at sending dates_only
 tests-in-time true cycle last left flying e = (in-time cycle last _ e).0
 tests-in-time false cycle last left flying e = (in-time cycle last none e).0
 
-module _ (cycle offset v : ℕ) {c : Core} {a : Arrays} (ok : Ok c a) {p : Register} {f : Bool} {b : ℕ}
+module _ (cycle offset v : ℕ) {c : Core} {a : Arrays} (ok : Valid c a) {p : Register} {f : Bool} {b : ℕ}
     (at : p ≡ register_of c.map.offsets offset) (sends : f ≡ is_fifo p)
     (low : b ≡ v % 256) where
   checks : (x : Bool)

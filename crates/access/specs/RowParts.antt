@@ -18,7 +18,7 @@ use Rattle.model.specs.declared.Row.{Row}
 use Rattle.model.specs.declared.Source.{Source}
 use Rattle.queue.specs.Cursors.{slot_of}
 use Rattle.queue.specs.Laws.{elems-length}
-use Rattle.device.specs.Holds.{Arrays, flight_of, abs, Shape, Ok}
+use Rattle.device.specs.Holds.{Arrays, flight_of, abs, Shape, Valid}
 use Rattle.device.specs.declared.Core.{Core}
 use Rattle.calls.specs.Answers.{report_of}
 use Rattle.calls.specs.Queues.{flying_in}
@@ -68,7 +68,7 @@ full_of c = transmit_full c.tx.count c.flight.count
 
 -- what the first write asks: the tests have passed, and the row is cut
 pub record Begins (cycle : ℕ) (c : Core) (a : Arrays) (bytes : List ℕ) (n : ℕ) : Type 0 where
-  pub ok : Ok c a
+  pub ok : Valid c a
   pub early : cycle < date_end
   pub in_order : c.control.last ≤ cycle
   pub given : n ≤ length bytes
@@ -77,7 +77,7 @@ pub record Begins (cycle : ℕ) (c : Core) (a : Arrays) (bytes : List ℕ) (n : 
 
 -- the writes so far, and what holds of the next one: it settles, or the state is still
 pub record SoFar (cycle : ℕ) (bytes : List ℕ) (n : ℕ) (u₀ : State.Uart ℕ ℕ) (r : RowSoFar) (a : Arrays) : Type 0 where
-  pub ok : Ok r.core a
+  pub ok : Valid r.core a
   pub wrote : Wrote cycle (take n bytes) u₀ (abs r.core a) r.made r.passes r.overflows r.dropped
   pub in_order : r.core.control.last ≤ cycle
   pub fits : r.made ≤ n
@@ -176,7 +176,7 @@ pub record Totals (r : RowSoFar) (sent over : ℕ) : Type 0 where
 
 -- what carrying it out asks: the tests have passed
 pub record Passed (cycle : ℕ) (c : Core) (a : Arrays) (bytes : List ℕ) : Type 0 where
-  pub ok : Ok c a
+  pub ok : Valid c a
   pub early : cycle < date_end
   pub in_order : c.control.last ≤ cycle
   pub room : 1 ≤ length bytes → full_of c ≡ false

@@ -21,7 +21,7 @@ use Rattle.model.specs.declared.Row.{Row}
 use Rattle.replies.specs.Refusals.{dates, sending, dates_only}
 use Rattle.queue.specs.Cursors.{slot_of}
 use Rattle.queue.specs.Laws.{elems-length}
-use Rattle.device.specs.Holds.{Arrays, sent_at, abs, Ok}
+use Rattle.device.specs.Holds.{Arrays, sent_at, abs, Valid}
 use Rattle.device.specs.declared.Core.{Core}
 use Rattle.calls.specs.Answers.{Works, Answers, carried, turned-away}
 use Rattle.access.specs.ByPlace.{tests_at}
@@ -36,7 +36,7 @@ dates-passed cycle last rest e =
     let back = not-refused (went_back last cycle) _ _ past.1 in
     (leb-false _ _ past.0, ltb-false _ _ back.0, back.1)
 
-module _ (cycle : ℕ) (bytes : List ℕ) {c : Core} {a : Arrays} (ok : Ok c a) where
+module _ (cycle : ℕ) (bytes : List ℕ) {c : Core} {a : Arrays} (ok : Valid c a) where
   abbrev tests : Option Refusal
   tests = tests_at (ltb 0 (length bytes)) cycle c.control.last c.tx.count c.flight.count
 

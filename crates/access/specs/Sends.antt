@@ -32,7 +32,7 @@ use Rattle.replies.specs.Calls.{send-tests}
 use Rattle.replies.specs.Refusals.{sending}
 use Rattle.replies.specs.Notices.{noted}
 use Rattle.replies.specs.declared.notices.Notices.{Notices}
-use Rattle.device.specs.Holds.{Arrays, sent_at, flight_of, abs, Shape, Ok}
+use Rattle.device.specs.Holds.{Arrays, sent_at, flight_of, abs, Shape, Valid}
 use Rattle.device.specs.declared.Core.{Core}
 use Rattle.calls.specs.Answers.{dated_call, Accesses}
 use Rattle.calls.specs.Queues.{with_queues_of, flying_in, queues-shape}
@@ -130,7 +130,7 @@ module _ (cycle b : ℕ) (c : Core) (dates bytes : List ℕ) {full : Bool} (test
 
 -- ---- the tests of a FIFO write, from the numbers of the queues
 
-pub send-checks : (cycle b : ℕ) {c : Core} {a : Arrays} → Ok c a
+pub send-checks : (cycle b : ℕ) {c : Core} {a : Arrays} → Valid c a
     → dated_call cycle (Calls.send cycle b) (abs c a)
     ≡ unless (sending cycle c.control.last c.tx.count c.flight.count) Write.Refused
     (carried (Option.some cycle) (Calls.send cycle b (abs c a))) (abs c a)

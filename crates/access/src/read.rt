@@ -5,7 +5,7 @@ ghost use Rattle.model.specs.Tests.{date_end};
 ghost use Rattle.model.specs.Replies.{as_read, read_number};
 ghost use Rattle.model.specs.Calls.{read_placed, read as Calls·read};
 ghost use Rattle.registers.specs.Places.{register_at};
-ghost use Rattle.device.specs.Holds.{abs, Ok};
+ghost use Rattle.device.specs.Holds.{abs, Valid};
 ghost use Rattle.device.specs.Wholes.{arrays};
 ghost use Rattle.calls.specs.Answers.{dated_call, dated_work, Works, Answers};
 ghost use Rattle.access.specs.Structs.{read_core, refused_read};
@@ -63,7 +63,7 @@ fn carry_out<'a>(
     cycle: u64,
     place: Place,
 ) -> ReadCore
-    requires { Ok core (arrays gone_at.now flight.now tx.old host.now run_at.now run_len.old rx.old) × (cycle < date_end) }
+    requires { Valid core (arrays gone_at.now flight.now tx.old host.now run_at.now run_len.old rx.old) × (cycle < date_end) }
     ensures { Works as_read
         (dated_work cycle (read_placed cycle (register_at place))
         (abs core (arrays gone_at.now flight.now tx.old host.now run_at.now run_len.old rx.old)))
@@ -92,7 +92,7 @@ pub fn read<'a>(
     cycle: u64,
     offset: u32,
 ) -> ReadCore
-    requires { Ok core (arrays gone_at.now flight.now tx.old host.now run_at.now run_len.old rx.old) }
+    requires { Valid core (arrays gone_at.now flight.now tx.old host.now run_at.now run_len.old rx.old) }
     ensures { Answers as_read read_number (dated_call cycle (Calls·read cycle offset) (abs core
         (arrays gone_at.now flight.now tx.old host.now run_at.now run_len.old rx.old))) core
         (arrays gone_at.now flight.now tx.old host.now run_at.now run_len.old rx.old) result.core

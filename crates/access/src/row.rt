@@ -7,7 +7,7 @@ ghost use Rattle.model.specs.Row.{times_of, row_number, row as Row·row};
 ghost use Rattle.model.specs.declared.Source.{Source};
 ghost use Rattle.queue.specs.Cursors.{Held};
 ghost use Rattle.access.specs.Row.{counts_of, row_notices};
-ghost use Rattle.device.specs.Holds.{abs, Ok};
+ghost use Rattle.device.specs.Holds.{abs, Valid};
 ghost use Rattle.calls.specs.Answers.{Works, Answers};
 ghost use Rattle.device.specs.Wholes.{arrays};
 ghost use Rattle.access.specs.RowParts.{due_of, goes_on, one_more, none_yet, SumsLow, Begins, AllSettled, Room, FillsAny};
@@ -343,7 +343,7 @@ pub fn write_row<'a, 'b>(
     cycle: u64,
     bytes: &'b [u8],
 ) -> RowCore
-    requires { Ok core (arrays gone_at.old flight.old tx.old host.now run_at.now run_len.old rx.old) }
+    requires { Valid core (arrays gone_at.old flight.old tx.old host.now run_at.now run_len.old rx.old) }
     ensures { Answers (λ x. x) row_number (Row·row cycle bytes.now (abs core
         (arrays gone_at.old flight.old tx.old host.now run_at.now run_len.old rx.old))) core
         (arrays gone_at.old flight.old tx.old host.now run_at.now run_len.old rx.old) result.core

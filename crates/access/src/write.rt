@@ -6,7 +6,7 @@ ghost use Rattle.model.specs.Replies.{write_number};
 ghost use Rattle.model.specs.Calls.{write as Calls·write};
 ghost use Rattle.registers.specs.Places.{register_at};
 ghost use Rattle.queue.specs.Cursors.{Held};
-ghost use Rattle.device.specs.Holds.{abs, Ok};
+ghost use Rattle.device.specs.Holds.{abs, Valid};
 ghost use Rattle.device.specs.Arms.{Ready};
 ghost use Rattle.device.specs.Wholes.{arrays};
 ghost use Rattle.calls.specs.Answers.{dated_call, Works, Answers};
@@ -95,7 +95,7 @@ fn carry_out<'a>(
     place: Place,
     value: u32,
 ) -> WriteCore
-    requires { Ok core (arrays gone_at.old flight.old tx.old host.now run_at.now run_len.old rx.old) × (cycle < date_end) }
+    requires { Valid core (arrays gone_at.old flight.old tx.old host.now run_at.now run_len.old rx.old) × (cycle < date_end) }
     ensures { Works (λ x. x)
         (work_at fifo cycle byte (register_at place) value
         (abs core (arrays gone_at.old flight.old tx.old host.now run_at.now run_len.old rx.old)))
@@ -126,7 +126,7 @@ pub fn write<'a>(
     offset: u32,
     value: u32,
 ) -> WriteCore
-    requires { Ok core (arrays gone_at.old flight.old tx.old host.now run_at.now run_len.old rx.old) }
+    requires { Valid core (arrays gone_at.old flight.old tx.old host.now run_at.now run_len.old rx.old) }
     ensures { Answers (λ x. x) write_number (dated_call cycle (Calls·write cycle offset value) (abs core
         (arrays gone_at.old flight.old tx.old host.now run_at.now run_len.old rx.old))) core
         (arrays gone_at.old flight.old tx.old host.now run_at.now run_len.old rx.old) result.core

@@ -7,7 +7,7 @@ mod notes;
 mod steps;
 
 ghost use Rattle.std.specs.Prelude.{◌<◌};
-ghost use Rattle.device.specs.Holds.{Ok};
+ghost use Rattle.device.specs.Holds.{Valid};
 ghost use Rattle.device.specs.Wholes.{arrays};
 ghost use Rattle.uart.specs.Whole.{Good};
 
@@ -51,8 +51,8 @@ fn carry_out<'a>(
     rx: &'a mut [u8; 128],
     n: u64,
 ) -> Tally
-    requires { Ok from.core (arrays gone_at.old flight.old tx.old host.old run_at.old run_len.old rx.old) × (n < 13402) }
-    ensures { Ok result.core (arrays gone_at.new flight.new tx.new host.new run_at.new run_len.new rx.new) }
+    requires { Valid from.core (arrays gone_at.old flight.old tx.old host.old run_at.old run_len.old rx.old) × (n < 13402) }
+    ensures { Valid result.core (arrays gone_at.new flight.new tx.new host.new run_at.new run_len.new rx.new) }
 {
     let core = from.core;
     let notes = from.notes;

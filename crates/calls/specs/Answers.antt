@@ -26,7 +26,7 @@ use Rattle.replies.specs.declared.refusals.Verdict.{Verdict}
 use Rattle.replies.specs.Notices.{noted}
 use Rattle.replies.specs.Reports.{reported, report-of}
 use Rattle.replies.specs.declared.notices.Notices.{Notices}
-use Rattle.device.specs.Holds.{Arrays, abs, Shape, Ok}
+use Rattle.device.specs.Holds.{Arrays, abs, Shape, Valid}
 use Rattle.device.specs.Settles.{Settles}
 use Rattle.device.specs.Arms.{Arms}
 use Rattle.device.specs.declared.Core.{Core}
@@ -35,7 +35,7 @@ use Rattle.calls.specs.declared.answers.DoneCore.{DoneCore}
 -- `view` gives the reply of the function from the definition's, and `number` document 01's number of it
 module _ {X R : Type 0} (view : X → R) (number : X → ℕ) (o : Outcome X ℕ ℕ) (c : Core) (a : Arrays) (c' : Core) (a' : Arrays) where
   pub record Answers (reply : R) (report : Report) : Type 0 where
-    pub ok : Ok c' a'
+    pub ok : Valid c' a'
     pub replies : reply ≡ view o.reply
     pub reports : report ≡ o.report
     pub state : abs c' a' ≡ o.state
@@ -127,7 +127,7 @@ module _ {X R : Type 0} (view : X → R) (number : X → ℕ) {o : Outcome X ℕ
       }
 
   -- a test refuses
-  pub turned-away : {q : Refusal} → tests ≡ some q → Ok c a → Answers view number o c a c a (view (refuse q)) no_report
+  pub turned-away : {q : Refusal} → tests ≡ some q → Valid c a → Answers view number o c a c a (view (refuse q)) no_report
   unfolding unless refusing
   turned-away {q} t ok =
       let done : o ≡ refusing (refuse q) (abs c a) = e ∙ ap (λ (x : Option Refusal). unless x refuse work (abs c a)) t in

@@ -18,7 +18,7 @@ use Rattle.model.specs.declared.Control.{Control}
 use Rattle.queue.specs.Cursors.{Held, slot_of, empty}
 use Rattle.queue.specs.Laws.{elems-length, elems-none, empty-held}
 use Rattle.line.specs.Levels
-use Rattle.device.specs.Holds.{Arrays, sent_at, abs, Shape, Ok}
+use Rattle.device.specs.Holds.{Arrays, sent_at, abs, Shape, Valid}
 use Rattle.device.specs.Settles.{control-after}
 use Rattle.device.specs.Arms.{Ready}
 use Rattle.device.specs.declared.Core.{Core}
@@ -73,8 +73,8 @@ cleared_core c = record {
 abbrev pub called_core : ℕ → Core → Core
 called_core cycle c = with_control_of (with_wake (Arm.called cycle c.control.wake) c.control) c
 
-module _ (cycle : ℕ) (c : Core) (a : Arrays) (ok : Ok c a) where
-  pub dated-ok : cycle < date_end → Ok (dated_core cycle c) a
+module _ (cycle : ℕ) (c : Core) (a : Arrays) (ok : Valid c a) where
+  pub dated-ok : cycle < date_end → Valid (dated_core cycle c) a
   unfolding dated
   dated-ok h = record {
     shape = shape_of c a _ ok.shape;
@@ -82,20 +82,20 @@ module _ (cycle : ℕ) (c : Core) (a : Arrays) (ok : Ok c a) where
   }
 
   -- a power-down anywhere is within the limits
-  pub put-down-ok : (d : Date) → Ok (with_control_of (with_powered_down_at d c.control) c) a
+  pub put-down-ok : (d : Date) → Valid (with_control_of (with_powered_down_at d c.control) c) a
   put-down-ok d = record {
     shape = shape_of c a _ ok.shape;
     within = through (abs c a) (abs (with_control_of (with_powered_down_at d c.control) c) a) (λ p. p) ok.within;
   }
 
-  pub clocked-ok : (period : ℕ) → period ≤ period_limit → Ok (clocked_core period c) a
+  pub clocked-ok : (period : ℕ) → period ≤ period_limit → Valid (clocked_core period c) a
   unfolding clocked
   clocked-ok period h = record {
     shape = shape_of c a _ ok.shape;
     within = through (abs c a) (abs (clocked_core period c) a) (clocked-parts period (abs c a) h) ok.within;
   }
 
-  pub called-ok : Ok (called_core cycle c) a
+  pub called-ok : Valid (called_core cycle c) a
   called-ok = record {
     shape = shape_of c a _ ok.shape;
     within =

@@ -16,7 +16,7 @@ use Rattle.model.specs.declared.Refusal.{Refusal}
 use Rattle.model.specs.declared.Report.{Report}
 use Rattle.model.specs.declared.Done.{Done}
 use Rattle.replies.specs.Notices.{noted}
-use Rattle.device.specs.Holds.{Arrays, abs, Shape, Ok}
+use Rattle.device.specs.Holds.{Arrays, abs, Shape, Valid}
 use Rattle.device.specs.Settles.{Settles}
 use Rattle.device.specs.Arms.{ArmsAny}
 use Rattle.device.specs.declared.Core.{Core}
@@ -24,7 +24,7 @@ use Rattle.calls.specs.Answers.{dated_call, dated_work, DoneWith, Works, report_
 use Rattle.calls.specs.Answers.{done_core, refused_core}
 use Rattle.calls.specs.declared.answers.DoneCore.{DoneCore}
 
-module _ (cycle : ℕ) (plan : State.Uart ℕ ℕ → Plan Done ℕ ℕ) {tests : Option Refusal} {c : Core} {a : Arrays} (ok : Ok c a)
+module _ (cycle : ℕ) (plan : State.Uart ℕ ℕ → Plan Done ℕ ℕ) {tests : Option Refusal} {c : Core} {a : Arrays} (ok : Valid c a)
     (e : dated_call cycle plan (abs c a) ≡ unless tests Done.Refused (Calls.carried (some cycle) (plan (abs c a))) (abs c a)) where
   pub done-carried : {c' : Core} {a' : Arrays} {reply : Done} {report : Report} → tests ≡ none
       → Within (dated_call cycle plan (abs c a)).state → done_number (dated_work cycle plan (abs c a)).reply ≡ 0

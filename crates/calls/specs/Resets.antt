@@ -10,7 +10,7 @@ use Rattle.model.specs.Plans.{settle_at}
 use Rattle.model.specs.Call.{Machine}
 use Rattle.model.specs.declared.Date.{Date}
 use Rattle.queue.specs.Cursors.{Held}
-use Rattle.device.specs.Holds.{Arrays, abs, Ok}
+use Rattle.device.specs.Holds.{Arrays, abs, Valid}
 use Rattle.device.specs.Settles.{Settles}
 use Rattle.device.specs.Arms.{Ready}
 use Rattle.device.specs.declared.Core.{Core}
@@ -20,16 +20,16 @@ use Rattle.calls.specs.declared.answers.DoneCore.{DoneCore}
 use Rattle.calls.specs.Concludes.{ConcludesAny}
 
 -- what arming asks, of the cleared core
-pub cleared-ready : {c : Core} {a : Arrays} {c' : Core} → Ok c a → c' ≡ cleared_core c
+pub cleared-ready : {c : Core} {a : Arrays} {c' : Core} → Valid c a → c' ≡ cleared_core c
     → Ready c' a.gone_at × Held 64 c'.runs × (length a.run_at ≡ 64)
 cleared-ready {c} {a} ok e =
     subst (λ (x : Core). Ready x a.gone_at × Held 64 x.runs × (length a.run_at ≡ 64)) (sym e)
     (ready (cleared_core c) a (cleared-shape c a ok.shape) ok.within.period_high)
 
-module _ (cycle : ℕ) {c : Core} {a : Arrays} (ok : Ok c a) {from : Core}
+module _ (cycle : ℕ) {c : Core} {a : Arrays} (ok : Valid c a) {from : Core}
     (up : from ≡ with_control_of (with_powered_down_at Date.None c.control) c) where
-  pub from-ok : Ok from a
-  from-ok = subst (λ (x : Core). Ok x a) (sym up) (put-down-ok cycle c a ok Date.None)
+  pub from-ok : Valid from a
+  from-ok = subst (λ (x : Core). Valid x a) (sym up) (put-down-ok cycle c a ok Date.None)
 
   pub restarted : {c₁ : Core} {a₁ : Arrays} {n o : ℕ} {c₂ c₃ : Core} {r : DoneCore} → Settles (settle_at cycle (abs from a)) c₁ a₁ n o
       → c₂ ≡ cleared_core c₁

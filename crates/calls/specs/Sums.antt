@@ -21,7 +21,7 @@ use Rattle.model.proofs.Laws.Events.{passes_append, overflows-append, overflows-
 use Rattle.model.proofs.Ends.NothingDue.{settle-passes}
 use Rattle.device.specs.Settles.{Settles}
 use Rattle.device.specs.Arms.{ArmsAny}
-use Rattle.device.specs.Holds.{Arrays, abs, Ok}
+use Rattle.device.specs.Holds.{Arrays, abs, Valid}
 use Rattle.device.specs.declared.Core.{Core}
 
 one_on : {H : Type 0} (o : Option (OnTheLine H)) → on_the_line o ≤ 1
@@ -77,24 +77,24 @@ twice now u {c₁ = c₁} {a₁ = a₁} {n₁ = n₁} {o₁ = o₁} {n₂ = n₂
 
 -- ---- over parts, from the core with the period set
 
-module _ (now period : ℕ) (low : period ≤ period_limit) {c₁ : Core} {a₁ : Arrays} (ok : Ok c₁ a₁) {from : Core}
+module _ (now period : ℕ) (low : period ≤ period_limit) {c₁ : Core} {a₁ : Arrays} (ok : Valid c₁ a₁) {from : Core}
     (set : from ≡ clocked_core period c₁) where
-  pub from-ok : Ok from a₁
-  from-ok = subst (λ (x : Core). Ok x a₁) (sym set) (clocked-ok now c₁ a₁ ok period low)
+  pub from-ok : Valid from a₁
+  from-ok = subst (λ (x : Core). Valid x a₁) (sym set) (clocked-ok now c₁ a₁ ok period low)
 
   second-of : {c₂ : Core} {a₂ : Arrays} {n₂ o₂ : ℕ} → Settles (settle now (abs from a₁)) c₂ a₂ n₂ o₂
       → Settles (settle now (abs (clocked_core period c₁) a₁)) c₂ a₂ n₂ o₂
   second-of {c₂} {a₂} {n₂} {o₂} s = subst (λ (x : Core). Settles (settle now (abs x a₁)) c₂ a₂ n₂ o₂) set s
 
   -- the sums fit
-  pub sums-fit : {c : Core} {a : Arrays} {n₁ o₁ : ℕ} {c₂ : Core} {a₂ : Arrays} {n₂ o₂ : ℕ} → Ok c a → now < date_end
+  pub sums-fit : {c : Core} {a : Arrays} {n₁ o₁ : ℕ} {c₂ : Core} {a₂ : Arrays} {n₂ o₂ : ℕ} → Valid c a → now < date_end
       → Settles (settle_at now (abs c a)) c₁ a₁ n₁ o₁ → Settles (settle now (abs from a₁)) c₂ a₂ n₂ o₂ → (n₁ + n₂ ≤ 4104) × (o₁ + o₂ ≤ 4104)
   sums-fit {c} {a} begun h first second =
       let one = few-at now (abs c a) begun.within h first in
       let two = few now (abs from a₁) from-ok.within second in
       (omega (arith, one.0, two.0), omega (arith, one.1, two.1))
 
-  pub reclocks : {c : Core} {a : Arrays} {n₁ o₁ : ℕ} {c₂ : Core} {a₂ : Arrays} {n₂ o₂ : ℕ} {c₃ : Core} {r : DoneCore} → Ok c a
+  pub reclocks : {c : Core} {a : Arrays} {n₁ o₁ : ℕ} {c₂ : Core} {a₂ : Arrays} {n₂ o₂ : ℕ} {c₃ : Core} {r : DoneCore} → Valid c a
       → Settles (settle_at now (abs c a)) c₁ a₁ n₁ o₁ → Settles (settle now (abs from a₁)) c₂ a₂ n₂ o₂
       → ArmsAny c₂ a₂.gone_at a₂.run_at c₃
       → r ≡ done_core c₃ (n₁ + n₂) (o₁ + o₂)

@@ -4,7 +4,7 @@ use Rattle.std.proofs.Common.{sym, subst}
 use Rattle.model.specs.Calls.{dated, carried, machine}
 use Rattle.model.specs.Plans.{settle_at}
 use Rattle.model.specs.Call.{Machine}
-use Rattle.device.specs.Holds.{Arrays, abs, Ok}
+use Rattle.device.specs.Holds.{Arrays, abs, Valid}
 use Rattle.device.specs.Settles.{Settles}
 use Rattle.device.specs.Arms.{ArmsAny}
 use Rattle.device.specs.declared.Core.{Core}
@@ -13,9 +13,9 @@ use Rattle.calls.specs.Changes.{called_core, called-ok}
 use Rattle.calls.specs.Done.{armed-done}
 use Rattle.calls.specs.declared.answers.DoneCore.{DoneCore}
 
-module _ (cycle : ℕ) {c : Core} {a : Arrays} (ok : Ok c a) {from : Core} (called : from ≡ called_core cycle c) where
-  pub from-ok : Ok from a
-  from-ok = subst (λ (x : Core). Ok x a) (sym called) (called-ok cycle c a ok)
+module _ (cycle : ℕ) {c : Core} {a : Arrays} (ok : Valid c a) {from : Core} (called : from ≡ called_core cycle c) where
+  pub from-ok : Valid from a
+  from-ok = subst (λ (x : Core). Valid x a) (sym called) (called-ok cycle c a ok)
 
   pub woken : {c₁ : Core} {a₁ : Arrays} {n o : ℕ} {c₂ : Core} {r : DoneCore} → Settles (settle_at cycle (abs from a)) c₁ a₁ n o
       → ArmsAny c₁ a₁.gone_at a₁.run_at c₂ → r ≡ done_core c₂ n o

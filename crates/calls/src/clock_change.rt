@@ -3,7 +3,7 @@ ghost use Rattle.std.specs.Prelude.{◌≡◌, ◌<◌, ◌≤◌};
 ghost use Rattle.model.specs.Tests.{date_end, period_limit};
 ghost use Rattle.model.specs.Calls.{machine};
 ghost use Rattle.model.specs.Call.{Machine};
-ghost use Rattle.device.specs.Holds.{abs, Ok};
+ghost use Rattle.device.specs.Holds.{abs, Valid};
 ghost use Rattle.device.specs.Wholes.{arrays};
 ghost use Rattle.calls.specs.Changes.{clocked_core};
 ghost use Rattle.calls.specs.Answers.{dated_call, dated_work, Works, DoneWith};
@@ -38,7 +38,7 @@ fn carry_out<'a>(
     cycle: u64,
     period: u64,
 ) -> DoneCore
-    requires { Ok core (arrays gone_at.now flight.now tx.old host.now run_at.now run_len.old rx.old) × (cycle < date_end)
+    requires { Valid core (arrays gone_at.now flight.now tx.old host.now run_at.now run_len.old rx.old) × (cycle < date_end)
         × (period ≤ period_limit) }
     ensures { Works (λ x. x)
         (dated_work cycle (machine cycle (Machine.clock_change period))
@@ -71,7 +71,7 @@ pub fn clock_change<'a>(
     cycle: u64,
     period: u64,
 ) -> DoneCore
-    requires { Ok core (arrays gone_at.now flight.now tx.old host.now run_at.now run_len.old rx.old) }
+    requires { Valid core (arrays gone_at.now flight.now tx.old host.now run_at.now run_len.old rx.old) }
     ensures { DoneWith (dated_call cycle (machine cycle (Machine.clock_change period))) core
         (arrays gone_at.now flight.now tx.old host.now run_at.now run_len.old rx.old) result.core
         (arrays gone_at.now flight.now tx.new host.now run_at.now run_len.new rx.new)

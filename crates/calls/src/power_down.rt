@@ -3,7 +3,7 @@ ghost use Rattle.std.specs.Prelude.{◌≡◌};
 ghost use Rattle.model.specs.Setters.{with_powered_down_at};
 ghost use Rattle.model.specs.Calls.{machine};
 ghost use Rattle.model.specs.Call.{Machine};
-ghost use Rattle.device.specs.Holds.{Ok};
+ghost use Rattle.device.specs.Holds.{Valid};
 ghost use Rattle.device.specs.Wholes.{arrays};
 ghost use Rattle.calls.specs.Changes.{with_control_of};
 ghost use Rattle.calls.specs.Answers.{dated_call, DoneWith};
@@ -52,7 +52,7 @@ pub fn power_down<'a>(
     rx: &'a [u8; 128],
     cycle: u64,
 ) -> DoneCore
-    requires { Ok core (arrays gone_at.now flight.now tx.now host.now run_at.now run_len.now rx.now) }
+    requires { Valid core (arrays gone_at.now flight.now tx.now host.now run_at.now run_len.now rx.now) }
     ensures { DoneWith (dated_call cycle (machine cycle Machine.power_down)) core
         (arrays gone_at.now flight.now tx.now host.now run_at.now run_len.now rx.now) result.core
         (arrays gone_at.now flight.now tx.now host.now run_at.now run_len.now rx.now)

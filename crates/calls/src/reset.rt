@@ -3,7 +3,7 @@ ghost use Rattle.std.specs.Prelude.{◌≡◌, ◌<◌};
 ghost use Rattle.model.specs.Tests.{date_end};
 ghost use Rattle.model.specs.Calls.{cleared_line, machine};
 ghost use Rattle.model.specs.Call.{Machine};
-ghost use Rattle.device.specs.Holds.{abs, Ok};
+ghost use Rattle.device.specs.Holds.{abs, Valid};
 ghost use Rattle.device.specs.Wholes.{arrays};
 ghost use Rattle.calls.specs.Changes.{cleared_core};
 ghost use Rattle.calls.specs.Answers.{dated_call, dated_work, Works, DoneWith};
@@ -54,7 +54,7 @@ fn carry_out<'a>(
     rx: &'a mut [u8; 128],
     cycle: u64,
 ) -> DoneCore
-    requires { Ok core (arrays gone_at.now flight.now tx.old host.now run_at.now run_len.old rx.old) × (cycle < date_end) }
+    requires { Valid core (arrays gone_at.now flight.now tx.old host.now run_at.now run_len.old rx.old) × (cycle < date_end) }
     ensures { Works (λ x. x)
         (dated_work cycle (machine cycle Machine.reset)
         (abs core (arrays gone_at.now flight.now tx.old host.now run_at.now run_len.old rx.old)))
@@ -80,7 +80,7 @@ pub fn reset<'a>(
     rx: &'a mut [u8; 128],
     cycle: u64,
 ) -> DoneCore
-    requires { Ok core (arrays gone_at.now flight.now tx.old host.now run_at.now run_len.old rx.old) }
+    requires { Valid core (arrays gone_at.now flight.now tx.old host.now run_at.now run_len.old rx.old) }
     ensures { DoneWith (dated_call cycle (machine cycle Machine.reset)) core
         (arrays gone_at.now flight.now tx.old host.now run_at.now run_len.old rx.old) result.core
         (arrays gone_at.now flight.now tx.new host.now run_at.now run_len.new rx.new)

@@ -2,7 +2,7 @@
 ghost use Rattle.std.specs.Prelude.{◌≡◌, ◌<◌};
 ghost use Rattle.model.specs.Tests.{date_end};
 ghost use Rattle.model.specs.Plans.{settle_at};
-ghost use Rattle.device.specs.Holds.{abs, Ok};
+ghost use Rattle.device.specs.Holds.{abs, Valid};
 ghost use Rattle.device.specs.Wholes.{arrays};
 ghost use Rattle.device.specs.Settles.{Settles};
 ghost use Rattle.calls.specs.Changes.{dated_core};
@@ -30,7 +30,7 @@ pub fn settle_at<'a>(
     rx: &'a mut [u8; 128],
     cycle: u64,
 ) -> SettleCore
-    requires { Ok core (arrays gone_at.now flight.now tx.old host.now run_at.now run_len.old rx.old) × (cycle < date_end) }
+    requires { Valid core (arrays gone_at.now flight.now tx.old host.now run_at.now run_len.old rx.old) × (cycle < date_end) }
     ensures { Settles
         (settle_at cycle (abs core (arrays gone_at.now flight.now tx.old host.now run_at.now run_len.old rx.old)))
         result.core

@@ -2,7 +2,7 @@
 ghost use Rattle.std.specs.Prelude.{◌≡◌};
 ghost use Rattle.model.specs.Calls.{machine};
 ghost use Rattle.model.specs.Call.{Machine};
-ghost use Rattle.device.specs.Holds.{Ok};
+ghost use Rattle.device.specs.Holds.{Valid};
 ghost use Rattle.device.specs.Wholes.{arrays};
 ghost use Rattle.calls.specs.Changes.{watched_core};
 ghost use Rattle.calls.specs.Answers.{dated_call, DoneWith};
@@ -34,7 +34,7 @@ pub fn watch<'a>(
     cycle: u64,
     on: bool,
 ) -> DoneCore
-    requires { Ok core (arrays gone_at.now flight.now tx.now host.now run_at.now run_len.now rx.now) }
+    requires { Valid core (arrays gone_at.now flight.now tx.now host.now run_at.now run_len.now rx.now) }
     ensures { DoneWith (dated_call cycle (machine cycle (Machine.watch on))) core
         (arrays gone_at.now flight.now tx.now host.now run_at.now run_len.now rx.now) result.core
         (arrays gone_at.now flight.now tx.now host.now run_at.now run_len.now rx.now)

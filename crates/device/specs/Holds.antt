@@ -78,6 +78,6 @@ pub record Shape (c : Core) (a : Arrays) : Type 0 where
   pub rx_slots : length a.rx ≡ 128
 
 -- the condition on a state: its queues stand in their slots, and it is within document 01's limits
-pub record Ok (c : Core) (a : Arrays) : Type 0 where
+pub record Valid (c : Core) (a : Arrays) : Type 0 where
   pub shape : Shape c a
   pub within : Within (abs c a)

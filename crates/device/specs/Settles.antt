@@ -26,7 +26,7 @@ use Rattle.queue.specs.Laws.{elems-length}
 use Rattle.queue.specs.declared.Cursor.{Cursor}
 use Rattle.line.specs.Levels
 use Rattle.line.specs.Levels.{levels-line, drive-line}
-use Rattle.device.specs.Holds.{Arrays, sent_at, flight_of, tx_of, abs, Ok}
+use Rattle.device.specs.Holds.{Arrays, sent_at, flight_of, tx_of, abs, Valid}
 use Rattle.device.specs.Leaves.{Leaves}
 use Rattle.device.specs.Receives.{Fit, with}
 use Rattle.device.specs.Ends.{Gives, Ends}
@@ -35,7 +35,7 @@ use Rattle.device.specs.declared.pass.Reception.{Reception}
 
 -- a core and its slots are within the limits, and state, passes and overflows are those of a settling of the definition
 pub record Settles (t : Settle.Settled ℕ ℕ) (c' : Core) (a' : Arrays) (n o : ℕ) : Type 0 where
-  pub ok : Ok c' a'
+  pub ok : Valid c' a'
   pub gives : Gives t (abs c' a') n o
 
 -- ---- the core taken apart and put together
@@ -64,7 +64,7 @@ written a tx counts rx =
 -- ---- before the passes
 
 -- there is room for those that leave
-pub room : (c : Core) (a : Arrays) (n : ℕ) → Ok c a → n ≤ c.flight.count → c.tx.count + n ≤ 1152
+pub room : (c : Core) (a : Arrays) (n : ℕ) → Valid c a → n ≤ c.flight.count → c.tx.count + n ≤ 1152
 room c a n ok few =
     omega (
       arith,
@@ -73,7 +73,7 @@ room c a n ok few =
       elems-length (sent_at a.gone_at a.flight) 129 c.flight,
     )
 
-pub fit : (c : Core) (a : Arrays) (l : Line) → Ok c a → Fit (reception_of c l) a.host a.run_at a.run_len a.rx
+pub fit : (c : Core) (a : Arrays) (l : Line) → Valid c a → Fit (reception_of c l) a.host a.run_at a.run_len a.rx
 fit c a l ok = search
 
 -- ---- two states that differ in a part
@@ -94,7 +94,7 @@ control-after c {held} {held'} {flying} {flying'} {l} a b el ed =
 
 -- ---- the whole
 
-module _ (cycle : ℕ) (c : Core) (a : Arrays) (ok : Ok c a) {date n passes overflows : ℕ} {s : Settings} {flight' tx' : Cursor}
+module _ (cycle : ℕ) (c : Core) (a : Arrays) (ok : Valid c a) {date n passes overflows : ℕ} {s : Settings} {flight' tx' : Cursor}
     {left' counts' rx' : List ℕ}
     {l l' : Line} {at' : Reception} {level : Bool}
     (dated : date ≡ instant_of (earliest (At (subcycles cycle)) c.control.powered_down_at))

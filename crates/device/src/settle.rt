@@ -1,7 +1,7 @@
 // Settling: departures, then the line pass by pass, then levels and the interrupt.
 ghost use Rattle.std.specs.Prelude.{◌≡◌};
 ghost use Rattle.model.specs.Settle.{settle};
-ghost use Rattle.device.specs.Holds.{abs, Ok};
+ghost use Rattle.device.specs.Holds.{abs, Valid};
 ghost use Rattle.device.specs.Wholes.{arrays};
 ghost use Rattle.device.specs.Settles.{Settles, reception_of, together as Settles·together};
 
@@ -74,7 +74,7 @@ pub fn settle<'a>(
     rx: &'a mut [u8; 128],
     cycle: u64,
 ) -> SettleCore
-    requires { Ok core (arrays gone_at.now flight.now tx.old host.now run_at.now run_len.old rx.old) }
+    requires { Valid core (arrays gone_at.now flight.now tx.old host.now run_at.now run_len.old rx.old) }
     ensures { Settles
         (settle cycle (abs core (arrays gone_at.now flight.now tx.old host.now run_at.now run_len.old rx.old)))
         result.core

@@ -3,7 +3,7 @@ use Rattle.std.specs.Prelude.{◌≡◌, refl, List, ℕ, length}
 use Rattle.std.proofs.Common.{sym, subst, ◌∙◌, ap}
 use Rattle.model.specs.SetUp.{new, set_up_reply}
 use Rattle.model.specs.declared.SetUp.{SetUp}
-use Rattle.device.specs.Holds.{Arrays, abs, Ok}
+use Rattle.device.specs.Holds.{Arrays, abs, Valid}
 use Rattle.device.specs.declared.Core.{Core}
 use Rattle.calls.specs.NewCore.{new_core}
 use Rattle.uart.specs.Whole.{Slots, new-means, new-good}
@@ -21,7 +21,7 @@ pub record SetsUpPlainly (offsets resets : List ℕ) (core : PlainCore) (reply :
   pub state : (a : Arrays) → abs (core_of core) a ≡ new offsets resets
   -- no other number stands behind a mark that is not set: a refused first call gives these numbers back one by one
   pub plain : core ≡ plain_core (core_of core)
-  pub good : set_up_reply offsets ≡ SetUp.Ready → (a : Arrays) → Slots offsets resets a → Ok (core_of core) a
+  pub good : set_up_reply offsets ≡ SetUp.Ready → (a : Arrays) → Slots offsets resets a → Valid (core_of core) a
 
 pub sets-up : (offsets resets : List ℕ) {core : PlainCore} {reply : PlainReply} → length offsets ≡ 16
     → core ≡ plain_core (new_core offsets resets)
@@ -33,5 +33,5 @@ sets-up offsets resets {core} {reply} sixteen e r =
       numbers = e;
       state = λ a. ap (λ (c : Core). abs c a) meant ∙ new-means offsets resets a;
       plain = e ∙ sym (ap plain_core meant);
-      good = λ ready a slots. subst (λ (c : Core). Ok c a) (sym meant) (new-good offsets resets a sixteen slots refl ready);
+      good = λ ready a slots. subst (λ (c : Core). Valid c a) (sym meant) (new-good offsets resets a sixteen slots refl ready);
     }

@@ -2,7 +2,7 @@
 ghost use Rattle.std.specs.Prelude.{◌≡◌};
 ghost use Rattle.model.specs.Calls.{machine};
 ghost use Rattle.model.specs.Call.{Machine};
-ghost use Rattle.device.specs.Holds.{Ok};
+ghost use Rattle.device.specs.Holds.{Valid};
 ghost use Rattle.device.specs.Wholes.{arrays};
 ghost use Rattle.calls.specs.Answers.{dated_call, DoneWith};
 ghost use Rattle.ffi.specs.Plain.{core_of};
@@ -24,7 +24,7 @@ pub extern "C" fn wondraxu_power_down<'a>(
     rx: &'a [u8; 128],
     cycle: u64,
 ) -> PlainAnswer
-    requires { Ok (core_of core) (arrays gone_at.now flight.now tx.now host.now run_at.now run_len.now rx.now) }
+    requires { Valid (core_of core) (arrays gone_at.now flight.now tx.now host.now run_at.now run_len.now rx.now) }
     ensures { Plainly plain_done
         (λ c c'. DoneWith (dated_call cycle (machine cycle Machine.power_down)) c
         (arrays gone_at.now flight.now tx.now host.now run_at.now run_len.now rx.now)

@@ -2,7 +2,7 @@
 ghost use Rattle.std.specs.Prelude.{◌≡◌};
 ghost use Rattle.model.specs.Replies.{as_read, read_number};
 ghost use Rattle.model.specs.Calls.{read};
-ghost use Rattle.device.specs.Holds.{abs, Ok};
+ghost use Rattle.device.specs.Holds.{abs, Valid};
 ghost use Rattle.device.specs.Wholes.{arrays};
 ghost use Rattle.calls.specs.Answers.{dated_call, Answers};
 ghost use Rattle.ffi.specs.Plain.{core_of};
@@ -25,7 +25,7 @@ pub extern "C" fn wondraxu_read<'a>(
     cycle: u64,
     offset: u32,
 ) -> PlainAnswer
-    requires { Ok (core_of core) (arrays gone_at.now flight.now tx.old host.now run_at.now run_len.old rx.old) }
+    requires { Valid (core_of core) (arrays gone_at.now flight.now tx.old host.now run_at.now run_len.old rx.old) }
     ensures { Plainly plain_read
         (λ c c'. Answers as_read read_number
         (dated_call cycle (read cycle offset) (abs c (arrays gone_at.now flight.now tx.old host.now run_at.now run_len.old rx.old))) c

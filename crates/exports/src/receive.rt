@@ -1,7 +1,7 @@
 // receive, for Rust and C: the core in plain numbers by value, the slots of the queues by pointer.
 ghost use Rattle.std.specs.Prelude.{◌≡◌};
 ghost use Rattle.model.specs.Calls.{receive};
-ghost use Rattle.device.specs.Holds.{Ok};
+ghost use Rattle.device.specs.Holds.{Valid};
 ghost use Rattle.device.specs.Wholes.{arrays};
 ghost use Rattle.calls.specs.Answers.{dated_call, DoneWith};
 ghost use Rattle.ffi.specs.Plain.{core_of};
@@ -25,7 +25,7 @@ pub extern "C" fn wondraxu_receive<'a, 'b>(
     at: u64,
     bytes: &'b [u8],
 ) -> PlainAnswer
-    requires { Ok (core_of core) (arrays gone_at.now flight.now tx.old host.old run_at.old run_len.old rx.old) }
+    requires { Valid (core_of core) (arrays gone_at.now flight.now tx.old host.old run_at.old run_len.old rx.old) }
     ensures { Plainly plain_done
         (λ c c'. DoneWith (dated_call cycle (receive cycle at bytes.now)) c
         (arrays gone_at.now flight.now tx.old host.old run_at.old run_len.old rx.old)

@@ -1,7 +1,7 @@
 // take_tx, for Rust and C: the core in plain numbers by value, the slots of the queues by pointer.
 ghost use Rattle.std.specs.Prelude.{◌≡◌};
 ghost use Rattle.model.specs.Calls.{take_tx};
-ghost use Rattle.device.specs.Holds.{Ok};
+ghost use Rattle.device.specs.Holds.{Valid};
 ghost use Rattle.device.specs.Wholes.{arrays};
 ghost use Rattle.calls.specs.Answers.{dated_call};
 ghost use Rattle.host.specs.Takes.{TakesWith};
@@ -25,7 +25,7 @@ pub extern "C" fn wondraxu_take_tx<'a, 'b>(
     cycle: u64,
     out: &'b mut [u8],
 ) -> PlainAnswer
-    requires { Ok (core_of core) (arrays gone_at.now flight.now tx.old host.now run_at.now run_len.old rx.old) }
+    requires { Valid (core_of core) (arrays gone_at.now flight.now tx.old host.now run_at.now run_len.old rx.old) }
     ensures { Plainly plain_taken
         (λ c c' reply report. TakesWith (dated_call cycle (take_tx cycle out.old)) c
         (arrays gone_at.now flight.now tx.old host.now run_at.now run_len.old rx.old)

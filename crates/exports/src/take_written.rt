@@ -1,7 +1,7 @@
 // take_written, for Rust and C: the core in plain numbers by value, the slots of the queues and the buffer by pointer.
 ghost use Rattle.std.specs.Prelude.{◌≡◌};
 ghost use Rattle.model.specs.Calls.{take_written};
-ghost use Rattle.device.specs.Holds.{Ok};
+ghost use Rattle.device.specs.Holds.{Valid};
 ghost use Rattle.device.specs.Wholes.{arrays};
 ghost use Rattle.calls.specs.Answers.{undated_call};
 ghost use Rattle.host.specs.Takes.{TakesWith};
@@ -24,7 +24,7 @@ pub extern "C" fn wondraxu_take_written<'a>(
     rx: &'a [u8; 128],
     out: &'a mut [u8],
 ) -> PlainAnswer
-    requires { Ok (core_of core) (arrays gone_at.now flight.now tx.now host.now run_at.now run_len.now rx.now) }
+    requires { Valid (core_of core) (arrays gone_at.now flight.now tx.now host.now run_at.now run_len.now rx.now) }
     ensures { Plainly plain_taken
         (λ c c' reply report. TakesWith (undated_call (take_written out.old)) c
         (arrays gone_at.now flight.now tx.now host.now run_at.now run_len.now rx.now)

@@ -2,7 +2,7 @@
 ghost use Rattle.std.specs.Prelude.{◌≡◌};
 ghost use Rattle.model.specs.Replies.{write_number};
 ghost use Rattle.model.specs.Calls.{write};
-ghost use Rattle.device.specs.Holds.{abs, Ok};
+ghost use Rattle.device.specs.Holds.{abs, Valid};
 ghost use Rattle.device.specs.Wholes.{arrays};
 ghost use Rattle.calls.specs.Answers.{dated_call, Answers};
 ghost use Rattle.ffi.specs.Plain.{core_of};
@@ -26,7 +26,7 @@ pub extern "C" fn wondraxu_write<'a>(
     offset: u32,
     value: u32,
 ) -> PlainAnswer
-    requires { Ok (core_of core) (arrays gone_at.old flight.old tx.old host.now run_at.now run_len.old rx.old) }
+    requires { Valid (core_of core) (arrays gone_at.old flight.old tx.old host.now run_at.now run_len.old rx.old) }
     ensures { Plainly plain_write
         (λ c c'. Answers (λ x. x) write_number
         (dated_call cycle (write cycle offset value) (abs c (arrays gone_at.old flight.old tx.old host.now run_at.now run_len.old rx.old)))

@@ -1,7 +1,7 @@
 // write_row, for Rust and C: the core in plain numbers by value, the slots of the queues and the bytes by pointer.
 ghost use Rattle.std.specs.Prelude.{◌≡◌};
 ghost use Rattle.model.specs.Row.{row_number, row};
-ghost use Rattle.device.specs.Holds.{abs, Ok};
+ghost use Rattle.device.specs.Holds.{abs, Valid};
 ghost use Rattle.device.specs.Wholes.{arrays};
 ghost use Rattle.calls.specs.Answers.{Answers};
 ghost use Rattle.ffi.specs.Plain.{core_of};
@@ -23,7 +23,7 @@ pub extern "C" fn wondraxu_write_row<'a, 'b>(
     cycle: u64,
     bytes: &'b [u8],
 ) -> PlainRowAnswer
-    requires { Ok (core_of core) (arrays gone_at.old flight.old tx.old host.now run_at.now run_len.old rx.old) }
+    requires { Valid (core_of core) (arrays gone_at.old flight.old tx.old host.now run_at.now run_len.old rx.old) }
     ensures { PlainlyRow
         (λ c c'. Answers (λ x. x) row_number
         (row cycle bytes.now (abs c (arrays gone_at.old flight.old tx.old host.now run_at.now run_len.old rx.old))) c

@@ -5,7 +5,7 @@ use Rattle.std.specs.Prelude.{◌≡◌, refl}
 use Rattle.std.proofs.Common.{sym, subst}
 use Rattle.model.specs.declared.Report.{Report}
 use Rattle.device.specs.declared.Core.{Core}
-use Rattle.device.specs.Holds.{Arrays, Ok}
+use Rattle.device.specs.Holds.{Arrays, Valid}
 use Rattle.ffi.specs.Plain.{core_of, plain_core}
 use Rattle.ffi.specs.declared.PlainCore.{PlainCore}
 use Rattle.ffi.specs.Replies.{plain_report}
@@ -29,8 +29,8 @@ pub record Plainly {R : Type 0} (plain : R → PlainReply) (Meets : Core → Cor
   pub same : r ≡ plain_answer core (plain reply) report
 
 -- the condition on a state, of the core that a function made of the numbers
-pub ok_of : (p : PlainCore) {c : Core} {a : Arrays} → c ≡ core_of p → Ok (core_of p) a → Ok c a
-ok_of p {c} {a} e ok = subst (λ (x : Core). Ok x a) (sym e) ok
+pub ok_of : (p : PlainCore) {c : Core} {a : Arrays} → c ≡ core_of p → Valid (core_of p) a → Valid c a
+ok_of p {c} {a} e ok = subst (λ (x : Core). Valid x a) (sym e) ok
 
 pub plainly : {R : Type 0} {plain : R → PlainReply} (Meets : Core → Core → R → Report → Type 0) {p : PlainCore} {c c' : Core} {reply : R}
     {report : Report}

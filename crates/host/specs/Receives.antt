@@ -25,7 +25,7 @@ use Rattle.replies.specs.Calls.{receive-tests}
 use Rattle.queue.specs.Slots.{side}
 use Rattle.queue.specs.Cursors.{slot_of, last_of}
 use Rattle.queue.specs.Laws.{elems-length, elems-last}
-use Rattle.device.specs.Holds.{Arrays, run_in, runs_of, abs, Ok}
+use Rattle.device.specs.Holds.{Arrays, run_in, runs_of, abs, Valid}
 use Rattle.device.specs.Settles.{Settles}
 use Rattle.device.specs.declared.Core.{Core}
 use Rattle.calls.specs.Answers.{dated_call, dated_work, Works, after, in-time, done_core}
@@ -46,7 +46,7 @@ last-count [] r = omega arith
 last-count (s ∷ front) r = omega (arith, last-count front r)
 
 -- no run counts more bytes than wait
-count_low : (c : Core) (a : Arrays) → Ok c a → 0 < c.runs.count → get_or a.run_len (last_of 64 c.runs) 0 ≤ 1024
+count_low : (c : Core) (a : Arrays) → Valid c a → 0 < c.runs.count → get_or a.run_len (last_of 64 c.runs) 0 ≤ 1024
 count_low c a ok pos =
     let rs : List Run = runs_of a.run_at a.run_len c.runs in
     let last : Run = run_in a.run_at a.run_len (last_of 64 c.runs) in
@@ -113,7 +113,7 @@ takes cycle date bs {c} {a} room {c₁} {a₁} s e =
     })
 
 -- settled, and handed over
-pub received : (cycle at : ℕ) (bs : List ℕ) {c : Core} {a : Arrays} → Ok c a
+pub received : (cycle at : ℕ) (bs : List ℕ) {c : Core} {a : Arrays} → Valid c a
     → {c₁ : Core} {a₁ : Arrays} {n o d : ℕ} {c₂ : Core} {hosts' dates' counts' : List ℕ} {r : DoneCore}
     → Settles (settle_at cycle (abs c a)) c₁ a₁ n o → d ≡ host_date cycle at
     → HandsAny d bs c₁ a₁.gone_at a₁.host a₁.run_at a₁.run_len c₂ hosts' dates' counts' → r ≡ done_core c₂ n o
@@ -138,7 +138,7 @@ tested : (cycle at : ℕ) (bs : List ℕ) (c : Core) (a : Arrays) {last date : �
 tested cycle at bs c a el ed =
     rw (el, ed, elems-length (slot_of a.host 0) 1024 c.host, elems-length (run_in a.run_at a.run_len) 64 c.runs)
 
-module _ (cycle at : ℕ) (bs : List ℕ) {c : Core} {a : Arrays} (ok : Ok c a) {last date : ℕ} (el : last ≡ last_date (abs c a).host_runs)
+module _ (cycle at : ℕ) (bs : List ℕ) {c : Core} {a : Arrays} (ok : Valid c a) {last date : ℕ} (el : last ≡ last_date (abs c a).host_runs)
     (ed : date ≡ host_date cycle at) where
   abbrev pub checked : Option Refusal
   checked =
@@ -151,7 +151,7 @@ module _ (cycle at : ℕ) (bs : List ℕ) {c : Core} {a : Arrays} (ok : Ok c a) 
       ∙ ap (λ (t : Option Refusal). unless t Done.Refused (carried (some cycle) (Calls.receive cycle at bs (abs c a))) (abs c a))
       (sym (tested cycle at bs c a el ed))
 
-  pub left-room : checked ≡ none → Ok c a × (cycle < date_end) × Room c a (host_date cycle at) (length bs)
+  pub left-room : checked ≡ none → Valid c a × (cycle < date_end) × Room c a (host_date cycle at) (length bs)
   unfolding receiving
   left-room e =
       let tests = in-time cycle c.control.last _ (sym (tested cycle at bs c a el ed) ∙ e) in

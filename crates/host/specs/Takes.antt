@@ -15,7 +15,7 @@ use Rattle.replies.specs.Notices.{noted}
 use Rattle.queue.specs.Cursors.{Held, empty}
 use Rattle.queue.specs.Laws.{empty-held}
 use Rattle.queue.specs.declared.Cursor.{Cursor}
-use Rattle.device.specs.Holds.{Arrays, abs, Shape, Ok}
+use Rattle.device.specs.Holds.{Arrays, abs, Shape, Valid}
 use Rattle.device.specs.declared.Core.{Core}
 use Rattle.calls.specs.Answers.{Answers, Works, report_of, carried, turned-away}
 use Rattle.host.specs.declared.answers.TakeCore.{TakeCore}
@@ -78,7 +78,7 @@ module _ {call : Outcome (Take ℕ ℕ) ℕ ℕ} {tests : Option Refusal} (lent 
       )
 
   -- a test refuses, and the buffer keeps every byte
-  pub take-refused : {q : Refusal} {r : TakeCore} → tests ≡ some q → Ok c a → r ≡ refused_take c q
+  pub take-refused : {q : Refusal} {r : TakeCore} → tests ≡ some q → Valid c a → r ≡ refused_take c q
       → Answers (λ t. t.taken) take_number call c a r.core a r.reply r.report × (lent ≡ contents call.reply)
   unfolding unless refusing not_taken contents
   take-refused {q} t ok same =

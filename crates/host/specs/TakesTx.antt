@@ -12,7 +12,7 @@ use Rattle.replies.specs.Notices.{noted}
 use Rattle.queue.specs.Cursors.{slot_of, empty}
 use Rattle.queue.specs.Laws.{elems-length, empty-elems}
 use Rattle.queue.specs.declared.Cursor.{Cursor}
-use Rattle.device.specs.Holds.{Arrays, tx_of, abs, Ok}
+use Rattle.device.specs.Holds.{Arrays, tx_of, abs, Valid}
 use Rattle.device.specs.Settles.{Settles}
 use Rattle.device.specs.declared.Core.{Core}
 use Rattle.calls.specs.Answers.{dated_work, Works, report_of, after}
@@ -60,7 +60,7 @@ took-tx lent {t} {c} {a} {n} {o} {k} {out} s e whole =
     (works, whole ∙ ap (λ (j : ℕ). tx_of a.tx c.tx ++ drop j lent) (sym left) ∙ same)
 
 -- the same of what the function gives back
-pub tx-taken : (cycle : ℕ) (lent : List ℕ) {c₀ : Core} {a₀ : Arrays} → Ok c₀ a₀
+pub tx-taken : (cycle : ℕ) (lent : List ℕ) {c₀ : Core} {a₀ : Arrays} → Valid c₀ a₀
     → {c : Core} {a : Arrays} {n o k : ℕ} {out : List ℕ} {none : Cursor} {r : TakeCore}
     → Settles (settle_at cycle (abs c₀ a₀)) c a n o → k ≡ c.tx.count → out ≡ tx_of a.tx c.tx ++ drop c.tx.count lent
     → none ≡ empty → r ≡ taken_core (with_tx_of none c) k n o

@@ -9,7 +9,7 @@ use Rattle.model.specs.Calls.{carried, quiet, filled, written, take_written}
 use Rattle.model.specs.declared.Taken.{Taken}
 use Rattle.queue.specs.Cursors.{slot_of, elems, empty}
 use Rattle.queue.specs.Laws.{elems-length, map-elems, empty-held, empty-elems}
-use Rattle.device.specs.Holds.{Arrays, sent_at, tx_of, abs, Shape, Ok}
+use Rattle.device.specs.Holds.{Arrays, sent_at, tx_of, abs, Shape, Valid}
 use Rattle.device.specs.declared.Core.{Core}
 use Rattle.host.specs.Takes.{TakeWorks, emptied-shape}
 
@@ -20,7 +20,7 @@ Filled c flight tx lent n out =
     ++ drop (c.tx.count + c.flight.count) lent)
 
 -- they fit a buffer that is not too short
-pub sent-few : (c : Core) (a : Arrays) → Ok c a → c.tx.count + c.flight.count ≤ sent_limit
+pub sent-few : (c : Core) (a : Arrays) → Valid c a → c.tx.count + c.flight.count ≤ sent_limit
 sent-few c a ok =
     omega (
       arith,

@@ -2,7 +2,7 @@
 ghost use Rattle.std.specs.Prelude.{◌≡◌, ◌<◌, length};
 ghost use Rattle.model.specs.Tests.{date_end};
 ghost use Rattle.model.specs.Calls.{receive as Calls·receive, host_date};
-ghost use Rattle.device.specs.Holds.{abs, Ok};
+ghost use Rattle.device.specs.Holds.{abs, Valid};
 ghost use Rattle.device.specs.Wholes.{arrays};
 ghost use Rattle.calls.specs.Answers.{dated_call, dated_work, Works, DoneWith};
 ghost use Rattle.host.specs.Hands.{Takes, HandsAny};
@@ -60,7 +60,7 @@ fn carry_out<'a, 'b>(
     at: u64,
     bytes: &'b [u8],
 ) -> DoneCore
-    requires { Ok core (arrays gone_at.now flight.now tx.old host.old run_at.old run_len.old rx.old)
+    requires { Valid core (arrays gone_at.now flight.now tx.old host.old run_at.old run_len.old rx.old)
         × (cycle < date_end) × Room core (arrays gone_at.now flight.now tx.old host.old run_at.old run_len.old rx.old) (host_date cycle at)
         (length bytes.now) }
     ensures { Works (λ x. x)
@@ -96,7 +96,7 @@ pub fn receive<'a, 'b>(
     at: u64,
     bytes: &'b [u8],
 ) -> DoneCore
-    requires { Ok core (arrays gone_at.now flight.now tx.old host.old run_at.old run_len.old rx.old) }
+    requires { Valid core (arrays gone_at.now flight.now tx.old host.old run_at.old run_len.old rx.old) }
     ensures { DoneWith (dated_call cycle (Calls·receive cycle at bytes.now)) core
         (arrays gone_at.now flight.now tx.old host.old run_at.old run_len.old rx.old) result.core
         (arrays gone_at.now flight.now tx.new host.new run_at.new run_len.new rx.new)

@@ -2,7 +2,7 @@
 ghost use Rattle.std.specs.Prelude.{◌≡◌, ◌<◌, ◌≤◌, length};
 ghost use Rattle.model.specs.Tests.{date_end, sent_limit};
 ghost use Rattle.model.specs.Calls.{take_tx};
-ghost use Rattle.device.specs.Holds.{abs, Ok};
+ghost use Rattle.device.specs.Holds.{abs, Valid};
 ghost use Rattle.device.specs.Wholes.{arrays};
 ghost use Rattle.calls.specs.Answers.{dated_call, dated_work};
 ghost use Rattle.host.specs.Takes.{TakeWorks, TakesWith};
@@ -26,7 +26,7 @@ fn carry_out<'a, 'b>(
     cycle: u64,
     out: &'b mut [u8],
 ) -> TakeCore
-    requires { Ok core (arrays gone_at.now flight.now tx.old host.now run_at.now run_len.old rx.old)
+    requires { Valid core (arrays gone_at.now flight.now tx.old host.now run_at.now run_len.old rx.old)
         × (cycle < date_end) × (sent_limit ≤ length out.old) }
     ensures { TakeWorks
         (dated_work cycle (take_tx cycle out.old) (abs core (arrays gone_at.now flight.now tx.old host.now run_at.now run_len.old rx.old)))
@@ -53,7 +53,7 @@ pub fn take_tx<'a, 'b>(
     cycle: u64,
     out: &'b mut [u8],
 ) -> TakeCore
-    requires { Ok core (arrays gone_at.now flight.now tx.old host.now run_at.now run_len.old rx.old) }
+    requires { Valid core (arrays gone_at.now flight.now tx.old host.now run_at.now run_len.old rx.old) }
     ensures { TakesWith (dated_call cycle (take_tx cycle out.old)) core
         (arrays gone_at.now flight.now tx.old host.now run_at.now run_len.old rx.old) result.core
         (arrays gone_at.now flight.now tx.new host.now run_at.now run_len.new rx.new)

@@ -3,7 +3,7 @@ ghost use Rattle.std.specs.Prelude.{◌≡◌, ◌+◌, ◌≤◌, length};
 ghost use Rattle.model.specs.Tests.{sent_limit};
 ghost use Rattle.model.specs.Calls.{take_written};
 ghost use Rattle.queue.specs.Cursors.{Held};
-ghost use Rattle.device.specs.Holds.{Ok};
+ghost use Rattle.device.specs.Holds.{Valid};
 ghost use Rattle.device.specs.Wholes.{arrays};
 ghost use Rattle.calls.specs.Answers.{undated_call};
 ghost use Rattle.host.specs.Takes.{TakesWith};
@@ -37,7 +37,7 @@ pub fn take_written<'a>(
     rx: &'a [u8; 128],
     out: &'a mut [u8],
 ) -> TakeCore
-    requires { Ok core (arrays gone_at.now flight.now tx.now host.now run_at.now run_len.now rx.now) }
+    requires { Valid core (arrays gone_at.now flight.now tx.now host.now run_at.now run_len.now rx.now) }
     ensures { TakesWith (undated_call (take_written out.old)) core
         (arrays gone_at.now flight.now tx.now host.now run_at.now run_len.now rx.now) result.core
         (arrays gone_at.now flight.now tx.now host.now run_at.now run_len.now rx.now)

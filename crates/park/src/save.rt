@@ -1,6 +1,6 @@
 // save: the form of a state, put at the front of a lent buffer. The state stays as it is.
 ghost use Rattle.std.specs.Prelude.{◌≡◌, ◌+◌, ◌*◌, ◌≤◌, length};
-ghost use Rattle.device.specs.Holds.{abs, Ok};
+ghost use Rattle.device.specs.Holds.{abs, Valid};
 ghost use Rattle.device.specs.Wholes.{lent};
 ghost use Rattle.form.specs.Form.{shortest_form};
 ghost use Rattle.form.specs.Load.{saved};
@@ -74,7 +74,7 @@ pub fn save<'a>(
     rx: &'a [u8; 128],
     out: &'a mut [u8],
 ) -> Taken
-    requires { Ok core (lent gone_at flight tx host run_at run_len rx) }
+    requires { Valid core (lent gone_at flight tx host run_at run_len rx) }
     ensures { Saves (saved out.old (abs core (lent gone_at.entry flight.entry tx.entry host.entry
         run_at.entry run_len.entry rx.entry))).reply result out.new }
 {

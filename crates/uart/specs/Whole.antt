@@ -17,7 +17,7 @@ use Rattle.model.specs.declared.SetUp.{SetUp}
 use Rattle.model.specs.declared.Taken.{Taken}
 use Rattle.queue.specs.Cursors.{slot_of}
 use Rattle.queue.specs.Laws.{empty-held, empty-elems}
-use Rattle.device.specs.Holds.{Arrays, sent_at, run_in, on_the_line, abs, Shape, Ok}
+use Rattle.device.specs.Holds.{Arrays, sent_at, run_in, on_the_line, abs, Shape, Valid}
 use Rattle.device.specs.Wholes.{arrays}
 use Rattle.device.specs.declared.Core.{Core}
 use Rattle.calls.specs.NewCore.{new_core}
@@ -38,7 +38,7 @@ meaning u = abs u.core (arrays_of u)
 
 -- its queues stand in their slots, and it is within document 01's limits
 abbrev pub Good : Uart → Type 0
-Good u = Ok u.core (arrays_of u)
+Good u = Valid u.core (arrays_of u)
 
 -- a call answers as the definition's
 abbrev pub Answered : {X R : Type 0} → (X → R) → (X → ℕ) → (State.Uart ℕ ℕ → Outcome X ℕ ℕ) → Uart → Uart → R → Report → Type 0
@@ -111,7 +111,7 @@ module _ (offsets resets : List ℕ) (a : Arrays) where
       choose-ind (λ (r : SetUp). r ≡ SetUp.Ready → repeated offsets ≡ false) (repeated offsets) (λ _ bad. cc) (λ t _. t) (sym e ∙ ready)
 
   pub new-good : {reply : SetUp} → length offsets ≡ 16 → Slots → reply ≡ set_up_reply offsets → reply ≡ SetUp.Ready
-      → Ok (new_core offsets resets) a
+      → Valid (new_core offsets resets) a
   new-good sixteen l e ready = record {
     shape = new-shape l;
     within = subst Within (sym new-means) (new-within offsets resets sixteen (all-differ e ready));

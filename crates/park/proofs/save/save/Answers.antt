@@ -2,14 +2,14 @@
 use mathlib.Core.Path.{sym}
 use native.Mathlib.Omega.{arith}
 use Rattle.device.specs.Wholes.{arrays}
-use Rattle.device.specs.Holds.{Arrays, abs, Ok}
+use Rattle.device.specs.Holds.{Arrays, abs, Valid}
 use Rattle.device.specs.declared.Core.{Core}
 use Rattle.park.specs.Puts.{puts-both}
 use Rattle.park.specs.Head.{Cursors}
 use Rattle.park.specs.Saves.{form-bytes, form-length, saves-short, saves-form}
 use Rattle.park.proofs.save.save.Goals as goal
 
-held : {c : Core} {a : Arrays} → Ok c a → Cursors c
+held : {c : Core} {a : Arrays} → Valid c a → Cursors c
 held ok =
     let s = ok.shape in
     record { flight = s.flight; tx = s.tx; host = s.host; runs = s.runs; rx = s.rx }
