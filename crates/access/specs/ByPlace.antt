@@ -1,5 +1,5 @@
 -- A write by its register: FIFO sends a byte, and any other takes the word; the tests and the work of both. Assumes nothing.
-use Rattle.std.specs.Prelude.{◌≡◌, Bool, ℕ, ◌%◌, ◌<◌}
+use Rattle.std.specs.Prelude.{◌≡◌, Bool, ℕ, ◌%◌, ◌<◌, Err}
 use Rattle.std.proofs.Common.{sym, ◌∙◌}
 use Rattle.std.proofs.Math.Path.{ap, ap₂, subst}
 use Rattle.std.proofs.Math.Bool.{true, false}
@@ -17,7 +17,7 @@ use Rattle.model.proofs.Keeps.EachCall.{write-within}
 use Rattle.model.proofs.Refuses.Carried.{send-proper, write-proper}
 use Rattle.model.specs.declared.Refusal.{Refusal}
 use Rattle.model.specs.declared.Report.{Report}
-use Rattle.model.specs.declared.Write.{Write}
+use Rattle.model.specs.Names.{Write}
 use Rattle.replies.specs.declared.notices.Notices.{Notices}
 use Rattle.replies.specs.Calls.{write-tests}
 use Rattle.replies.specs.Refusals.{sending, dates_only}
@@ -79,14 +79,14 @@ module _ (cycle offset v : ℕ) {c : Core} {a : Arrays} (ok : Valid c a) {p : Re
     (low : b ≡ v % 256) where
   checks : (x : Bool)
       → dated_call cycle (λ u. choose x (send cycle b u) (write_placed cycle p v u)) (abs c a)
-      ≡ unless (tests_at x cycle c.control.last c.tx.count c.flight.count) Write.Refused (work_at x cycle b p v)
+      ≡ unless (tests_at x cycle c.control.last c.tx.count c.flight.count) Err (work_at x cycle b p v)
       (abs c a)
   unfolding choose tests_at access_at Calls.carried send write_placed
   checks true = send-checks cycle b ok
   checks false = write-tests cycle (abs c a) p v
 
   write-checks : dated_call cycle (Calls.write cycle offset v) (abs c a)
-      ≡ unless (tests_at f cycle c.control.last c.tx.count c.flight.count) Write.Refused (work_at f cycle b p v)
+      ≡ unless (tests_at f cycle c.control.last c.tx.count c.flight.count) Err (work_at f cycle b p v)
       (abs c a)
   unfolding Calls.write write_at
   write-checks =
@@ -101,7 +101,7 @@ module _ (cycle offset v : ℕ) {c : Core} {a : Arrays} (ok : Valid c a) {p : Re
       → Answers (λ x. x) write_number (dated_call cycle (Calls.write cycle offset v) (abs c a)) c a c' a' reply report
   unfolding after_settling concluded
   write-carried t k =
-      carried (λ x. x) write_number Write.Refused (work_at f cycle b p v) c a write-checks t
+      carried (λ x. x) write_number Err (work_at f cycle b p v) c a write-checks t
       (write-within cycle offset v (abs c a) ok.within) (access-zero cycle b p v f _) k
 
   pub write-refused : {q : Refusal} {r : WriteCore} → tests_at f cycle c.control.last c.tx.count c.flight.count ≡ some q
@@ -110,4 +110,4 @@ module _ (cycle offset v : ℕ) {c : Core} {a : Arrays} (ok : Valid c a) {p : Re
   write-refused t same =
       subst (λ (x : WriteCore). Answers (λ w. w) write_number (dated_call cycle (Calls.write cycle offset v) (abs c a)) c a x.core a
       x.reply x.report) (sym same)
-      (turned-away (λ x. x) write_number Write.Refused (work_at f cycle b p v) c a write-checks t ok)
+      (turned-away (λ x. x) write_number Err (work_at f cycle b p v) c a write-checks t ok)

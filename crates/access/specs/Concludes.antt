@@ -11,7 +11,7 @@ use Rattle.model.specs.Tests.{period_limit}
 use Rattle.model.specs.Registers.{Access, concluded}
 use Rattle.model.specs.Calls.{after_settling}
 use Rattle.model.specs.declared.Report.{Report}
-use Rattle.model.specs.declared.Write.{Write}
+use Rattle.model.specs.Names.{Write}
 use Rattle.queue.specs.Cursors.{Held}
 use Rattle.device.specs.Holds.{Arrays, abs, Shape}
 use Rattle.device.specs.Settles.{Settles}

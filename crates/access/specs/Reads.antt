@@ -1,5 +1,5 @@
 -- What a read gives once the UART is settled, from the core's numbers and the slots of the receive FIFO. Assumes nothing.
-use Rattle.std.specs.Prelude.{◌≡◌, Bool, true, false, ℕ, ◌<◌, ◌≤◌, ltb, length, get_or}
+use Rattle.std.specs.Prelude.{◌≡◌, Bool, true, false, ℕ, ◌<◌, ◌≤◌, ltb, length, get_or, Some, None, Ok}
 use Rattle.std.proofs.Math.Path.{refl, ap, ap₂, subst}
 use Rattle.std.proofs.Common.{sym, ◌∙◌, arith, ltb-true, ltb-false, lt-ltb, le-ltb}
 use Rattle.std.proofs.Math.Bool.{decide}
@@ -13,8 +13,7 @@ use Rattle.model.specs.Registers.{Access, source_notes, status_word, fsm_status,
 use Rattle.model.specs.Registers.{read_at}
 use Rattle.model.proofs.Ends.Passes.{apart}
 use Rattle.model.proofs.Laws.Choose.{choose-true, choose-false, choose-ind}
-use Rattle.model.specs.declared.Read.{Read}
-use Rattle.model.specs.declared.Source.{Source}
+use Rattle.model.specs.Names.{Read, Source}
 use Rattle.model.specs.declared.Unsupported.{Unsupported}
 use Rattle.model.specs.declared.Unsupported.TheVariants.{UartEmptyRead, UartReceiveClock}
 use Rattle.queue.specs.Cursors
@@ -83,11 +82,11 @@ word-accesses r same ns c a k {reply} e =
 -- ---- a mistimed reception is told of once
 
 abbrev pub forgotten_core : Core → Core
-forgotten_core c = with_control_of (with_line (with_mistimed Source.None c.control.line) c.control) c
+forgotten_core c = with_control_of (with_line (with_mistimed None c.control.line) c.control) c
 
 -- what the firmware is told of, and the core once it has been
 abbrev pub told_of : Bool → Core → Source
-told_of looks c = choose looks c.control.line.rx_mistimed Source.None
+told_of looks c = choose looks c.control.line.rx_mistimed None
 
 abbrev pub seen_of : Bool → Core → Core
 seen_of looks c = choose looks (forgotten_core c) c
@@ -106,11 +105,11 @@ seen-shape looks c a k = choose-ind (λ (x : Core). Shape x a) looks (λ _. shap
 -- the oldest byte and the core without it
 abbrev pub taken : Core → List ℕ → Notices → PlaceRead
 taken c rx m =
-    record { core = with_queues_of c.flight (Cursors.popped 128 c.rx) c; reply = Read.Value (get_or rx c.rx.start 0); notices = m }
+    record { core = with_queues_of c.flight (Cursors.popped 128 c.rx) c; reply = Ok (Some (get_or rx c.rx.start 0)); notices = m }
 
 -- from an empty FIFO 0, with a notice behind the others
 abbrev pub nothing : Core → Notices → PlaceRead
-nothing c m = record { core = c; reply = Read.Value 0; notices = added UartEmptyRead m }
+nothing c m = record { core = c; reply = Ok (Some 0); notices = added UartEmptyRead m }
 
 unfoldable pub popped : Core → List ℕ → Notices → PlaceRead
 popped c rx m = choose (ltb 0 c.rx.count) (taken c rx m) (nothing c m)
@@ -118,12 +117,12 @@ popped c rx m = choose (ltb 0 c.rx.count) (taken c rx m) (nothing c m)
 -- what the code puts together is one of the two
 module _ (c : Core) (rx : List ℕ) (m : Notices) where
   pub pop-takes : 0 < c.rx.count → {rest : Cursor} → rest ≡ Cursors.popped 128 c.rx → {b : ℕ} → b ≡ get_or rx c.rx.start 0
-      → ◌≡◌ {A = PlaceRead} (record { core = with_queues_of c.flight rest c; reply = Read.Value b; notices = m }) (popped c rx m)
+      → ◌≡◌ {A = PlaceRead} (record { core = with_queues_of c.flight rest c; reply = Ok (Some b); notices = m }) (popped c rx m)
   unfolding popped
   pop-takes pos er eb = rw (er, eb) (sym (choose-true _ _ (lt-ltb 0 _ pos)))
 
   pub pop-misses : c.rx.count ≤ 0 → {n : Notices} → n ≡ added UartEmptyRead m
-      → ◌≡◌ {A = PlaceRead} (record { core = c; reply = Read.Value 0; notices = n }) (popped c rx m)
+      → ◌≡◌ {A = PlaceRead} (record { core = c; reply = Ok (Some 0); notices = n }) (popped c rx m)
   unfolding popped
   pop-misses none en = rw en (sym (choose-false _ _ (le-ltb 0 _ none)))
 

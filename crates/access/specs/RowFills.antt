@@ -19,8 +19,7 @@ use Rattle.model.proofs.Laws.Choose.{choose-false}
 use Rattle.theorems.specs.Rows.Still.{Still}
 use Rattle.theorems.specs.Rows.Next
 use Rattle.theorems.specs.Rows.Next.{joined}
-use Rattle.model.specs.declared.Date.{Date}
-use Rattle.model.specs.declared.Write.{Write}
+use Rattle.model.specs.Names.{Date, Write}
 use Rattle.queue.specs.Cursors.{Held, back_of, pushed}
 use Rattle.queue.specs.Laws.{push-held}
 use Rattle.queue.specs.declared.Cursor.{Cursor}

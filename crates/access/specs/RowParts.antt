@@ -1,5 +1,6 @@
 -- A row over a core and its arrays: what the parts of `write_row` give. Assumes nothing.
 use Rattle.std.specs.Prelude.{◌≡◌, Bool, true, false, ◌&&◌, not, List, ◌∷◌, ℕ, suc, ◌+◌, ◌-◌, ◌*◌, ◌<◌, ◌≤◌, min, ltb, length, drop, take}
+use Rattle.std.specs.Prelude.{Ok, Err}
 use Rattle.std.specs.Prelude.{get_or, replicate}
 use Rattle.model.specs.Numbers.{choose, due_by}
 use Rattle.model.specs.State
@@ -14,8 +15,7 @@ use Rattle.model.specs.Calls.{Outcome}
 use Rattle.theorems.specs.Rows.Still.{Still}
 use Rattle.model.specs.declared.Refusal.{Refusal}
 use Rattle.model.specs.Replies.{no_report}
-use Rattle.model.specs.declared.Row.{Row}
-use Rattle.model.specs.declared.Source.{Source}
+use Rattle.model.specs.Names.{Row, Source}
 use Rattle.queue.specs.Cursors.{slot_of}
 use Rattle.queue.specs.Laws.{elems-length}
 use Rattle.device.specs.Holds.{Arrays, flight_of, abs, Shape, Valid}
@@ -153,7 +153,7 @@ row_core c r sent over =
     let dropped : ℕ = r.dropped + over in
     record {
       core = c;
-      reply = Row.Made (record {
+      reply = Ok (record {
         count = made;
         first = times_of 0 (counts_of (row_source c) (made - dropped) dropped);
         second = times_of 1 (counts_of (row_source c) (made - dropped) dropped);
@@ -162,7 +162,7 @@ row_core c r sent over =
     }
 
 abbrev pub refused_row : Core → Refusal → RowCore
-refused_row c q = record { core = c; reply = Row.Refused q; report = no_report }
+refused_row c q = record { core = c; reply = Err q; report = no_report }
 
 -- what is done where no test refuses the row
 abbrev pub row_work : ℕ → List ℕ → State.Uart ℕ ℕ → Outcome Row ℕ ℕ

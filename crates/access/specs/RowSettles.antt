@@ -1,5 +1,5 @@
 -- The writes of a row that settle, one by one. Assumes nothing.
-use Rattle.std.specs.Prelude.{◌≡◌, Bool, ltb, drop, take, get_or}
+use Rattle.std.specs.Prelude.{◌≡◌, Bool, ltb, drop, take, get_or, Some}
 use Rattle.std.proofs.Math.Path.{refl, sym, ap, subst}
 use Rattle.std.proofs.Common.{ap₂, ◌∙◌, true≢false, arith}
 use Rattle.std.proofs.Math.Bool.{true, false}
@@ -25,9 +25,7 @@ use Rattle.model.proofs.Keeps.Kept.{settle-keeps}
 use Rattle.theorems.specs.Rows.Still.{Still}
 use Rattle.theorems.specs.Rows.First.{LastAfter, send-still}
 use Rattle.model.specs.declared.Control.{Control}
-use Rattle.model.specs.declared.Date.{Date}
-use Rattle.model.specs.declared.Date.TheVariants.{At}
-use Rattle.model.specs.declared.Write.{Write}
+use Rattle.model.specs.Names.{Date, Write}
 use Rattle.replies.specs.declared.notices.Notices.{Notices}
 use Rattle.device.specs.Holds.{Arrays, abs}
 use Rattle.device.specs.Settles.{Settles}
@@ -185,7 +183,7 @@ module _ (cycle : ℕ) (bytes : List ℕ) (n : ℕ) {u₀ : State.Uart ℕ ℕ} 
         (λ t. subst (λ (l : List (Sent ℕ)). LastAfter (settling_date cycle settled.control) l)
         (ap (λ (u : State.Uart ℕ ℕ). u.in_flight) same ∙ sent-in_flight)
         (not-due _ (abs c₃ a₂).in_flight
-        (ap (λ (d : Date). due_by (instant_of (earliest (At (subcycles cycle)) d)) (last_gone (abs c₃ a₂).in_flight))
+        (ap (λ (d : Date). due_by (instant_of (earliest (Some (subcycles cycle)) d)) (last_gone (abs c₃ a₂).in_flight))
         (sym (ap (λ (u : State.Uart ℕ ℕ). u.control.powered_down_at) same ∙ control-after.1))
         ∙ sym (ed a₂.flight) ∙ h (full-settled ∙ t)))))
 

@@ -29,7 +29,7 @@ use Rattle.theorems.specs.Rows.Next.{written-carried, written-dropped, written_n
 use Rattle.model.specs.declared.Unsupported.{Unsupported}
 use Rattle.model.specs.declared.Unsupported.TheVariants.{UartOverflow, UartClock}
 use Rattle.model.specs.declared.Words.{Words}
-use Rattle.model.specs.declared.Write.{Write}
+use Rattle.model.specs.Names.{Write}
 use Rattle.access.specs.Row.{source_of, Wrote, wrote_at, wrote-sent, wrote-dropped}
 
 -- ---- the next byte of a list

@@ -1,5 +1,5 @@
 -- The tests of a row: 2 and 3, and 4 where it has a byte. Assumes nothing.
-use Rattle.std.specs.Prelude.{◌≡◌, Bool, ℕ, suc, ◌<◌, ◌≤◌, length}
+use Rattle.std.specs.Prelude.{◌≡◌, Bool, ℕ, suc, ◌<◌, ◌≤◌, length, Err}
 use Rattle.std.proofs.Math.Path.{refl, ap, ap₂}
 use Rattle.std.proofs.Common.{sym, ◌∙◌, arith}
 use Rattle.std.proofs.Math.Bool.{true, false}
@@ -17,7 +17,7 @@ use Rattle.model.proofs.Rows.Within.{row_within}
 use Rattle.model.specs.declared.Refusal.{Refusal}
 use Rattle.model.specs.declared.Refusal.TheVariants.{TransmitFull}
 use Rattle.model.specs.declared.Report.{Report}
-use Rattle.model.specs.declared.Row.{Row}
+use Rattle.model.specs.Names.{Row}
 use Rattle.replies.specs.Refusals.{dates, sending, dates_only}
 use Rattle.queue.specs.Cursors.{slot_of}
 use Rattle.queue.specs.Laws.{elems-length}
@@ -53,9 +53,9 @@ module _ (cycle : ℕ) (bytes : List ℕ) {c : Core} {a : Arrays} (ok : Valid c 
           ∙ ap (λ (t : Bool). tests_at t cycle c.control.last c.tx.count c.flight.count)
           (sym (lt-ltb 0 (suc (length bs)) (omega arith)))
 
-  row-checks : row cycle bytes (abs c a) ≡ unless tests Row.Refused (row_work cycle bytes) (abs c a)
+  row-checks : row cycle bytes (abs c a) ≡ unless tests Err (row_work cycle bytes) (abs c a)
   unfolding row
-  row-checks = ap (λ (t : Option Refusal). unless t Row.Refused (row_work cycle bytes) (abs c a)) tests-are
+  row-checks = ap (λ (t : Option Refusal). unless t Err (row_work cycle bytes) (abs c a)) tests-are
 
   pub row_carried : {c' : Core} {a' : Arrays} {reply : Row} {report : Report}
       → tests_at (ltb 0 (length bytes)) cycle c.control.last c.tx.count c.flight.count ≡ none
@@ -63,12 +63,12 @@ module _ (cycle : ℕ) (bytes : List ℕ) {c : Core} {a : Arrays} (ok : Valid c 
       → Answers (λ x. x) row_number (row cycle bytes (abs c a)) c a c' a' reply report
   unfolding summed row_number
   row_carried t k =
-      carried (λ x. x) row_number Row.Refused (row_work cycle bytes) c a row-checks t (row_within cycle bytes (abs c a) ok.within) refl k
+      carried (λ x. x) row_number Err (row_work cycle bytes) c a row-checks t (row_within cycle bytes (abs c a) ok.within) refl k
 
   pub row-refused : {q : Refusal} {r : RowCore}
       → tests_at (ltb 0 (length bytes)) cycle c.control.last c.tx.count c.flight.count ≡ some q → r ≡ refused_row c q
       → Answers (λ x. x) row_number (row cycle bytes (abs c a)) c a r.core a r.reply r.report
-  row-refused t e = rw e (turned-away (λ x. x) row_number Row.Refused (row_work cycle bytes) c a row-checks t ok)
+  row-refused t e = rw e (turned-away (λ x. x) row_number Err (row_work cycle bytes) c a row-checks t ok)
 
   pub row-passed : tests_at (ltb 0 (length bytes)) cycle c.control.last c.tx.count c.flight.count ≡ none → Passed cycle c a bytes
   unfolding tests_at sending dates_only

@@ -1,5 +1,5 @@
 -- A whole row: the writes that settle, those that do not and those that are dropped are the definition's. Assumes nothing.
-use Rattle.std.specs.Prelude.{◌≡◌, Bool, ℕ, zero, suc, ◌+◌, ◌-◌, ◌<◌, ◌≤◌, min, length, drop, take}
+use Rattle.std.specs.Prelude.{◌≡◌, Bool, ℕ, zero, suc, ◌+◌, ◌-◌, ◌<◌, ◌≤◌, min, length, drop, take, Ok}
 use Rattle.std.proofs.Math.Path.{refl, sym, ap, ap₂}
 use Rattle.std.proofs.Common.{◌∙◌}
 use Rattle.std.proofs.Math.Bool.{true, false}
@@ -16,7 +16,6 @@ use Rattle.model.specs.Tests.{date_end, transmit_full}
 use Rattle.model.specs.Row.{Count, counted_all, times_of, writes, summed, row_limit}
 use Rattle.model.proofs.Laws.Choose.{choose-true, choose-false}
 use Rattle.model.proofs.Rows.Within.{full-writes}
-use Rattle.model.specs.declared.Row.{Row}
 use Rattle.replies.specs.Reports.{report-of}
 use Rattle.device.specs.Holds.{Arrays, abs, Shape}
 use Rattle.device.specs.declared.Core.{Core}
@@ -239,7 +238,7 @@ module _ {cycle : ℕ} {bytes : List ℕ} {n : ℕ} {u₀ : State.Uart ℕ ℕ} 
   row-works e =
       rw (e, all-writes) (record {
         shape = f.shape;
-        replies = ap₂ (λ (m : ℕ) (cs : List Count). Row.Made (record { count = m; first = times_of 0 cs; second = times_of 1 cs }))
+        replies = ap₂ (λ (m : ℕ) (cs : List Count). Ok (record { count = m; first = times_of 0 cs; second = times_of 1 cs }))
             (sym whole.long) (sym counted-so);
         reports =
             report-of (r.passes + (sent + lost)) r.overflows

@@ -1,6 +1,6 @@
 -- A byte written to FIFO joins those in flight, from the core and the slots of the bytes in flight and of their dates.
 -- Assumes nothing.
-use Rattle.std.specs.Prelude.{◌≡◌, Bool, true, length, set}
+use Rattle.std.specs.Prelude.{◌≡◌, Bool, true, length, set, Ok, Err}
 use Rattle.std.proofs.Math.Path.{refl, sym, ap, subst}
 use Rattle.std.proofs.Common.{ap₂, ◌∙◌, arith}
 use Rattle.std.proofs.Math.Bool.{false}
@@ -22,7 +22,7 @@ use Rattle.model.specs.Calls
 use Rattle.model.specs.Calls.{unless, carried}
 use Rattle.model.proofs.Laws.Choose.{choose-true, choose-false, choose-ind}
 use Rattle.model.specs.declared.Control.{Control}
-use Rattle.model.specs.declared.Write.{Write}
+use Rattle.model.specs.Names.{Write}
 use Rattle.model.specs.declared.Unsupported.TheVariants.{UartOverflow, UartClock}
 use Rattle.queue.specs.Cursors.{slot_of, back_of, pushed}
 use Rattle.queue.specs.Laws.{elems-length, push-held, back_low}
@@ -61,10 +61,10 @@ module _ (cycle b : ℕ) (c : Core) (a : Arrays) (k : Shape c a) where
 
   -- over 128 bytes in flight: dropped
   dropped-accesses : ltb fifo_bytes c.flight.count ≡ true → {m : Notices} → m ≡ noted (UartOverflow ∷ [])
-      → Accesses (λ x. x) (send_byte cycle b (abs c a)) c a Write.Accepted m
+      → Accesses (λ x. x) (send_byte cycle b (abs c a)) c a (Ok true) m
   unfolding send_byte dropped
   dropped-accesses full {m} e =
-      subst (λ (x : Access Write ℕ ℕ). Accesses (λ w. w) x c a Write.Accepted m)
+      subst (λ (x : Access Write ℕ ℕ). Accesses (λ w. w) x c a (Ok true) m)
       (sym (choose-true (dropped (abs c a)) (sent cycle b (abs c a)) (ap (ltb fifo_bytes) flying ∙ full)))
       (record { shape = k; replies = refl; notes = e; state = refl })
 
@@ -94,11 +94,11 @@ module _ (cycle b : ℕ) (c : Core) (a : Arrays) (k : Shape c a) where
 
     sent-accesses : ltb fifo_bytes c.flight.count ≡ false → {m : Notices}
         → m ≡ noted (source_notes UartClock (unmodelled_source c.control.words.clk_conf))
-        → Accesses (λ x. x) (send_byte cycle b (abs c a)) (with_flight_of (pushed c.flight) c) (flying_in dates bytes a) Write.Accepted m
+        → Accesses (λ x. x) (send_byte cycle b (abs c a)) (with_flight_of (pushed c.flight) c) (flying_in dates bytes a) (Ok true) m
     unfolding send_byte sent
     sent-accesses some {m} e =
         subst (λ (x : Access Write ℕ ℕ). Accesses (λ w. w) x (with_flight_of (pushed c.flight) c) (flying_in dates bytes a)
-        Write.Accepted m)
+        (Ok true) m)
         (sym (choose-false (dropped (abs c a)) (sent cycle b (abs c a)) (ap (ltb fifo_bytes) flying ∙ some)))
         (record {
           shape =
@@ -113,14 +113,14 @@ module _ (cycle b : ℕ) (c : Core) (a : Arrays) (k : Shape c a) where
 
 module _ (cycle b : ℕ) (c : Core) (dates bytes : List ℕ) {full : Bool} (tested : full ≡ ltb fifo_bytes c.flight.count)
     {m : Notices} where
-  pub drops-any : full ≡ true → m ≡ noted (UartOverflow ∷ []) → SendsAny cycle b c dates bytes c dates bytes Write.Accepted m
+  pub drops-any : full ≡ true → m ≡ noted (UartOverflow ∷ []) → SendsAny cycle b c dates bytes c dates bytes (Ok true) m
   drops-any over e = λ a ed eb k. rw (← ed, ← eb) (dropped-accesses cycle b c a k (sym tested ∙ over) e)
 
   pub sends-any : full ≡ false → {date slot : ℕ} → ((w : List ℕ) → date ≡ gone_at_of cycle c.control (flight_of dates w c.flight))
       → slot ≡ back_of 129 c.flight
       → m ≡ noted (source_notes UartClock (unmodelled_source c.control.words.clk_conf)) → {flight : Cursor}
       → flight ≡ pushed c.flight
-      → SendsAny cycle b c dates bytes (with_flight_of flight c) (set dates slot date) (set bytes slot b) Write.Accepted m
+      → SendsAny cycle b c dates bytes (with_flight_of flight c) (set dates slot date) (set bytes slot b) (Ok true) m
   unfolding gone_at
   sends-any some {date} {slot} dated back e {flight} next = λ a ed eb k.
       let free : ltb fifo_bytes c.flight.count ≡ false = sym tested ∙ some in
@@ -132,11 +132,11 @@ module _ (cycle b : ℕ) (c : Core) (dates bytes : List ℕ) {full : Bool} (test
 
 pub send-checks : (cycle b : ℕ) {c : Core} {a : Arrays} → Valid c a
     → dated_call cycle (Calls.send cycle b) (abs c a)
-    ≡ unless (sending cycle c.control.last c.tx.count c.flight.count) Write.Refused
+    ≡ unless (sending cycle c.control.last c.tx.count c.flight.count) Err
     (carried (Option.some cycle) (Calls.send cycle b (abs c a))) (abs c a)
 send-checks cycle b {c} {a} ok =
     send-tests cycle (abs c a) b
-    ∙ ap₂ (λ (n k : ℕ). unless (sending cycle c.control.last n k) Write.Refused
+    ∙ ap₂ (λ (n k : ℕ). unless (sending cycle c.control.last n k) Err
     (carried (Option.some cycle) (Calls.send cycle b (abs c a))) (abs c a))
     (elems-length (slot_of a.tx 0) 1152 c.tx) (elems-length (sent_at a.gone_at a.flight) 129 c.flight)
 

@@ -1,9 +1,9 @@
 -- What `write` gives back, as a struct: level and wake of a report are the core's, and a refusal has the fixed report.
 -- Assumes nothing.
-use Rattle.std.specs.Prelude.{ℕ}
+use Rattle.std.specs.Prelude.{ℕ, Err}
 use Rattle.model.specs.Replies.{no_report}
 use Rattle.model.specs.declared.Refusal.{Refusal}
-use Rattle.model.specs.declared.Write.{Write}
+use Rattle.model.specs.Names.{Write}
 use Rattle.replies.specs.declared.notices.Notices.{Notices}
 use Rattle.device.specs.declared.Core.{Core}
 use Rattle.calls.specs.Answers.{report_of}
@@ -13,4 +13,4 @@ abbrev pub write_core : Core → Write → ℕ → ℕ → Notices → WriteCore
 write_core c reply passes overflows m = record { core = c; reply = reply; report = report_of c passes overflows m }
 
 abbrev pub refused_write : Core → Refusal → WriteCore
-refused_write c q = record { core = c; reply = Write.Refused q; report = no_report }
+refused_write c q = record { core = c; reply = Err q; report = no_report }

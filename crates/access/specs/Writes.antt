@@ -1,5 +1,5 @@
 -- What a write at a register other than FIFO leaves once the UART is settled, from the core alone. Assumes nothing.
-use Rattle.std.specs.Prelude.{◌≡◌, Bool, true, false, ℕ, take}
+use Rattle.std.specs.Prelude.{◌≡◌, Bool, true, false, ℕ, take, Ok}
 use Rattle.std.proofs.Math.Path.{refl, sym, ap₂, subst}
 use Rattle.std.proofs.Common.{ap, ◌∙◌, arith}
 use Rattle.std.proofs.Math.Bool.{decide}
@@ -14,7 +14,7 @@ use Rattle.model.specs.Registers.{Access, gives, reset_fifos, storing, clearing,
 use Rattle.model.proofs.Ends.Passes.{apart}
 use Rattle.model.proofs.Laws.Choose.{choose-false, choose-ind, choose-nat}
 use Rattle.model.proofs.Laws.AccessCases.{write_register-ind}
-use Rattle.model.specs.declared.Write.{Write}
+use Rattle.model.specs.Names.{Write}
 use Rattle.queue.specs.Cursors.{Held, slot_of, empty, cut_to_one}
 use Rattle.queue.specs.Laws.{empty-held, cut-held, empty-elems, cut-elems}
 use Rattle.queue.specs.declared.Cursor.{Cursor}
@@ -33,20 +33,20 @@ use Rattle.access.specs.declared.store.PlaceWrite.{PlaceWrite}
 abbrev pub stored_in : Option Word → ℕ → Core → PlaceWrite
 stored_in h v c = record {
   core = with_control_of (with_words (written h v c.control.words) c.control) c;
-  reply = choose (holds h) Write.Accepted Write.NotAccepted;
+  reply = choose (holds h) (Ok true) (Ok false);
   notices = noted (notes_at h v);
 }
 
 abbrev pub cleared_in : ℕ → Core → PlaceWrite
 cleared_in v c = record {
   core = with_control_of (with_line (with_int_raw (without v c.control.line.int_raw) c.control.line) c.control) c;
-  reply = Write.Accepted;
+  reply = Ok true;
   notices = noted [];
 }
 
 -- a word where one is stored; elsewhere the write is not accepted
 unfoldable pub putting : Option Word → ℕ → State.Uart ℕ ℕ → Access Write ℕ ℕ
-putting none v u = gives [] u Write.NotAccepted
+putting none v u = gives [] u (Ok false)
 putting (some x) v u = storing x v u
 
 -- what a write gives is what an access of the definition gives

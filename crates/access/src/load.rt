@@ -1,10 +1,10 @@
 // What a read gives once the UART is settled.
-ghost use Rattle.std.specs.Prelude.{◌≡◌, ◌≤◌, length};
+ghost use Rattle.std.specs.Prelude.{◌≡◌, ◌≤◌, length, None};
 ghost use Rattle.model.specs.Setters.{with_mistimed};
 ghost use Rattle.model.specs.Numbers.{choose};
 ghost use Rattle.model.specs.Replies.{as_read};
 ghost use Rattle.model.specs.Registers.{read_at};
-ghost use Rattle.model.specs.declared.Source.{Source};
+ghost use Rattle.model.specs.Names.{Source};
 ghost use Rattle.registers.specs.Places.{register_at};
 ghost use Rattle.queue.specs.Cursors.{Held};
 ghost use Rattle.device.specs.Holds.{Arrays, abs, Shape};
@@ -44,7 +44,7 @@ fn forget_mistimed(mut core: Core, looks: bool) -> Core
 {
     if looks {
         let mut control = core.control;
-        let line = with_mistimed(control.line, Source::None);
+        let line = with_mistimed(control.line, None);
         control.line = line;
         core.control = control;
         core
@@ -55,9 +55,9 @@ fn forget_mistimed(mut core: Core, looks: bool) -> Core
 
 // What the firmware is told of: a mistimed reception where it looks at the receiver.
 fn mistimed_at(source: Source, looks: bool) -> Source
-    ensures { result ≡ choose looks source Source.None }
+    ensures { result ≡ choose looks source None }
 {
-    if looks { source } else { Source::None }
+    if looks { source } else { None }
 }
 
 // The word at a place other than FIFO.
@@ -70,15 +70,15 @@ fn word_at(core: Core, place: Place) -> Read
     let line = control.line;
     let map = core.map;
     match place {
-        Place::IntRaw => Read::Value(line.int_raw),
-        Place::IntSt => Read::Value(levels::int_status(line, words.int_ena)),
-        Place::Status => Read::Value(words::status_word(
+        Place::IntRaw => Ok(Some(line.int_raw)),
+        Place::IntSt => Ok(Some(levels::int_status(line, words.int_ena))),
+        Place::Status => Ok(Some(words::status_word(
             map.idle_status,
             core.flight.count,
             core.rx.count,
-        )),
-        Place::FsmStatus => Read::Value(words::fsm_status(core.flight.count)),
-        Place::MemRxStatus => Read::Value(map.mem_rx_status),
+        ))),
+        Place::FsmStatus => Ok(Some(words::fsm_status(core.flight.count))),
+        Place::MemRxStatus => Ok(Some(map.mem_rx_status)),
         _ => registers::storage::read(words, place),
     }
 }
@@ -103,14 +103,14 @@ fn pop(mut core: Core, rx: &[u8; 128], notices: Notices) -> PlaceRead
         core.rx = rest;
         PlaceRead {
             core,
-            reply: Read::Value(byte),
+            reply: Ok(Some(byte)),
             notices,
         }
     } else {
         let noted = notices.note_empty_read();
         PlaceRead {
             core,
-            reply: Read::Value(0),
+            reply: Ok(Some(0)),
             notices: noted,
         }
     }

@@ -46,7 +46,7 @@ fn refuse(core: Core, refusal: Refusal) -> ReadCore
     let report = report::no_report();
     ReadCore {
         core,
-        reply: Read::Refused(refusal),
+        reply: Err(refusal),
         report,
     }
 }
@@ -105,8 +105,8 @@ pub fn read<'a>(
     let control = core.control;
     let tests = replies::refusals::date_refusal(cycle, control.last);
     match tests {
-        Verdict::Refused(refusal) => refuse(core, refusal),
-        Verdict::Passed => carry_out(
+        Err(refusal) => refuse(core, refusal),
+        Ok(()) => carry_out(
             core, gone_at, flight, tx, host, run_at, run_len, rx, cycle, place,
         ),
     }

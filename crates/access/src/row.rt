@@ -1,10 +1,10 @@
 // write_row: bytes written to FIFO at one cycle. The first write settles. Those after it find nothing due, unless the byte before leaves
 // at once (a divider of 0): then each of them settles too.
-ghost use Rattle.std.specs.Prelude.{◌≡◌, List, ℕ, ◌+◌, ◌≤◌, ltb, length};
+ghost use Rattle.std.specs.Prelude.{◌≡◌, List, ℕ, ◌+◌, ◌≤◌, ltb, length, None};
 ghost use Rattle.model.specs.Numbers.{choose};
 ghost use Rattle.model.specs.Tests.{transmit_full};
 ghost use Rattle.model.specs.Row.{times_of, row_number, row as Row·row};
-ghost use Rattle.model.specs.declared.Source.{Source};
+ghost use Rattle.model.specs.Names.{Source};
 ghost use Rattle.queue.specs.Cursors.{Held};
 ghost use Rattle.access.specs.Row.{counts_of, row_notices};
 ghost use Rattle.device.specs.Holds.{abs, Valid};
@@ -50,9 +50,9 @@ struct RowSoFar {
 
 // The clock's source is told of where a byte was sent.
 fn told(source: Source, sent: usize) -> Source
-    ensures { result ≡ choose (ltb 0 sent) source Source.None }
+    ensures { result ≡ choose (ltb 0 sent) source None }
 {
-    if 0 < sent { source } else { Source::None }
+    if 0 < sent { source } else { None }
 }
 
 // The notices of a row: a clock's where a byte was sent, and UartOverflow where one was dropped.
@@ -69,9 +69,9 @@ fn first_times(source: Source, sent: usize, dropped: usize) -> u64
 {
     let told = told(source, sent);
     match told {
-        Source::None => dropped as u64,
-        Source::Sel0 => sent as u64,
-        Source::Sel2 => sent as u64,
+        None => dropped as u64,
+        Some(Unmodelled::Sel0) => sent as u64,
+        Some(Unmodelled::Sel2) => sent as u64,
     }
 }
 
@@ -81,9 +81,9 @@ fn second_times(source: Source, sent: usize, dropped: usize) -> u64
 {
     let told = told(source, sent);
     match told {
-        Source::None => 0,
-        Source::Sel0 => dropped as u64,
-        Source::Sel2 => dropped as u64,
+        None => 0,
+        Some(Unmodelled::Sel0) => dropped as u64,
+        Some(Unmodelled::Sel2) => dropped as u64,
     }
 }
 
@@ -105,8 +105,8 @@ fn due(core: Core, gone_at: &[u64; 129], cycle: u64) -> bool
     let date = line::levels::settling_date(cycle, powered_down_at);
     let last = device::arm::last_gone(gone_at, core.flight);
     match last {
-        Date::None => false,
-        Date::At(gone) => gone <= date,
+        None => false,
+        Some(gone) => gone <= date,
     }
 }
 
@@ -280,7 +280,7 @@ fn answer(core: Core, at: RowSoFar, sent: usize, over: usize) -> RowCore
     let report = report::report(control.level, wake, at.overflows, passes, notices);
     RowCore {
         core,
-        reply: Row::Made(Made {
+        reply: Ok(Made {
             count: made,
             first,
             second,
@@ -295,7 +295,7 @@ fn refuse(core: Core, refusal: Refusal) -> RowCore
     let report = report::no_report();
     RowCore {
         core,
-        reply: Row::Refused(refusal),
+        reply: Err(refusal),
         report,
     }
 }
@@ -354,8 +354,8 @@ pub fn write_row<'a, 'b>(
     let some = 0 < bytes.len();
     let tests = crate::send::tests_at(some, cycle, control.last, core.tx.count, core.flight.count);
     match tests {
-        Verdict::Refused(refusal) => refuse(core, refusal),
-        Verdict::Passed => carry_out(
+        Err(refusal) => refuse(core, refusal),
+        Ok(()) => carry_out(
             core, gone_at, flight, tx, host, run_at, run_len, rx, cycle, bytes,
         ),
     }

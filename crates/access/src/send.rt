@@ -20,8 +20,8 @@ fn starts_at(date: u64, last: Date) -> u64
     ensures { result ≡ starts_at date last }
 {
     match last {
-        Date::None => date,
-        Date::At(gone) => dates::later(gone, date),
+        None => date,
+        Some(gone) => dates::later(gone, date),
     }
 }
 
@@ -64,7 +64,7 @@ pub fn send<'a>(
         let notices = replies::notices::overflow_notices();
         PlaceWrite {
             core,
-            reply: Write::Accepted,
+            reply: Ok(true),
             notices,
         }
     } else {
@@ -80,7 +80,7 @@ pub fn send<'a>(
         ));
         PlaceWrite {
             core,
-            reply: Write::Accepted,
+            reply: Ok(true),
             notices,
         }
     }

@@ -1,8 +1,8 @@
 // What a write at a place other than FIFO does once the UART is settled.
-ghost use Rattle.std.specs.Prelude.{◌≡◌};
+ghost use Rattle.std.specs.Prelude.{◌≡◌, Ok};
 ghost use Rattle.model.specs.Numbers.{choose};
 ghost use Rattle.model.specs.Registers.{write_register};
-ghost use Rattle.model.specs.declared.Write.{Write};
+ghost use Rattle.model.specs.Names.{Write};
 ghost use Rattle.registers.specs.Places.{register_at};
 ghost use Rattle.registers.specs.Storage.{held_at};
 ghost use Rattle.queue.specs.Cursors.{empty, cut_to_one};
@@ -27,12 +27,12 @@ pub struct PlaceWrite {
 
 // A place that Storage does not hold is read-only or unknown.
 fn accepted(held: bool) -> Write
-    ensures { result ≡ choose held Write.Accepted Write.NotAccepted }
+    ensures { result ≡ choose held (Ok true) (Ok false) }
 {
     if held {
-        Write::Accepted
+        Ok(true)
     } else {
-        Write::NotAccepted
+        Ok(false)
     }
 }
 
@@ -65,7 +65,7 @@ fn clear_interrupts(mut core: Core, value: u32) -> PlaceWrite
     let notices = replies::notices::none();
     PlaceWrite {
         core,
-        reply: Write::Accepted,
+        reply: Ok(true),
         notices,
     }
 }

@@ -51,7 +51,7 @@ fn refuse(core: Core, refusal: Refusal) -> WriteCore
     let report = report::no_report();
     WriteCore {
         core,
-        reply: Write::Refused(refusal),
+        reply: Err(refusal),
         report,
     }
 }
@@ -140,8 +140,8 @@ pub fn write<'a>(
     let control = core.control;
     let tests = crate::send::tests_at(fifo, cycle, control.last, core.tx.count, core.flight.count);
     match tests {
-        Verdict::Refused(refusal) => refuse(core, refusal),
-        Verdict::Passed => carry_out(
+        Err(refusal) => refuse(core, refusal),
+        Ok(()) => carry_out(
             core,
             gone_at,
             flight,

@@ -1,5 +1,6 @@
 -- How long the texts are at most, whatever they tell. Assumes nothing.
 use Rattle.std.specs.Prelude.{Bool, true, false, List, [], ◌∷◌, ◌++◌, map, ℕ, zero, suc, ◌+◌, ◌-◌, ◌*◌, ◌/◌, ◌%◌, ◌≤◌, min, ltb, length}
+use Rattle.std.specs.Prelude.{Some, None, Ok, Err}
 use Rattle.std.specs.Prelude.{take, drop}
 use Rattle.std.proofs.Common.{arith, length-append, length-take}
 use Rattle.std.proofs.lemmas.List.{length-map}
@@ -9,7 +10,7 @@ use Rattle.text.specs.Digits.{letter}
 use Rattle.text.specs.Decimal.{decimal, decimal_up_to}
 use Rattle.text.specs.HexText.{hex_text, pairs-length}
 use Rattle.model.specs.Replies.{number, notice_places}
-use Rattle.model.specs.declared.Date.{Date}
+use Rattle.model.specs.Names.{Date, SetUp, Read, Write, Done, Row}
 use Rattle.model.specs.declared.Feature.{Feature}
 use Rattle.model.specs.declared.Feature.TheVariants.{Loopback, InvertedRx, Autobaud, NoStopBit, FifoSize, Rs485, TxFlowControl}
 use Rattle.model.specs.declared.Feature.TheVariants.{RxFlowControl, InvertedTx, Irda, TxBreak}
@@ -18,12 +19,7 @@ use Rattle.model.specs.declared.Unsupported.TheVariants.{UartOverflow, UartEmpty
 use Rattle.model.specs.declared.Notice.{Notice}
 use Rattle.model.specs.declared.Refusal.{Refusal}
 use Rattle.model.specs.declared.Report.{Report}
-use Rattle.model.specs.declared.SetUp.{SetUp}
-use Rattle.model.specs.declared.Read.{Read}
-use Rattle.model.specs.declared.Write.{Write}
-use Rattle.model.specs.declared.Done.{Done}
 use Rattle.model.specs.declared.Made.{Made}
-use Rattle.model.specs.declared.Row.{Row}
 use Rattle.trace.specs.declared.faults.Reason.{Reason}
 use Rattle.trace.specs.declared.faults.Reason.TheVariants.{UnknownName, MissingWord, ExtraWord, NoNumber, NoNumber32, NoBit, NoLength}
 use Rattle.trace.specs.declared.faults.Reason.TheVariants.{NoBytes, NoUart}
@@ -102,8 +98,8 @@ level-short true = omega arith
 level-short false = omega arith
 
 wake-short : (wake : Date) → length (wake_text wake) ≤ 26
-wake-short Date.None = omega arith
-wake-short (Date.At cycle) = simp length-append (omega (arith, decimal-short cycle))
+wake-short None = omega arith
+wake-short (Some cycle) = simp length-append (omega (arith, decimal-short cycle))
 
 rest-short : (kept : Bool) → length (rest_text kept) ≤ 13
 rest-short true = omega arith
@@ -170,27 +166,27 @@ pub refusal-short : (q : Refusal) → length (refusal_text q) ≤ 1024
 refusal-short q = simp length-append (omega (arith, decimal-short (number q)))
 
 pub set-up-short : (s : SetUp) → length (set_up_text s) ≤ 1024
-set-up-short SetUp.Ready = omega arith
-set-up-short (SetUp.Refused q) = refusal-short q
+set-up-short (Ok _) = omega arith
+set-up-short (Err q) = refusal-short q
 
 module _ (r : Report) where
   pub read_short : (reply : Read) → length (read_text r reply) ≤ 1024
-  read_short (Read.Value word) = simp length-append (omega (arith, report-short r))
-  read_short Read.NoValue = simp length-append (omega (arith, report-short r))
-  read_short (Read.Refused q) = refusal-short q
+  read_short (Ok (Some word)) = simp length-append (omega (arith, report-short r))
+  read_short (Ok None) = simp length-append (omega (arith, report-short r))
+  read_short (Err q) = refusal-short q
 
   pub write-short : (reply : Write) → length (write_text r reply) ≤ 1024
-  write-short Write.Accepted = simp length-append (omega (arith, report-short r))
-  write-short Write.NotAccepted = simp length-append (omega (arith, report-short r))
-  write-short (Write.Refused q) = refusal-short q
+  write-short (Ok true) = simp length-append (omega (arith, report-short r))
+  write-short (Ok false) = simp length-append (omega (arith, report-short r))
+  write-short (Err q) = refusal-short q
 
   pub done-short : (reply : Done) → length (done_text r reply) ≤ 1024
-  done-short Done.Done = simp length-append (omega (arith, report-short r))
-  done-short (Done.Refused q) = refusal-short q
+  done-short (Ok _) = simp length-append (omega (arith, report-short r))
+  done-short (Err q) = refusal-short q
 
   pub row-short : (reply : Row) → length (row_text r reply) ≤ 1024
-  row-short (Row.Made made) = simp length-append (omega (arith, decimal-short made.count, row-report-short made r))
-  row-short (Row.Refused q) = refusal-short q
+  row-short (Ok made) = simp length-append (omega (arith, decimal-short made.count, row-report-short made r))
+  row-short (Err q) = refusal-short q
 
 hand-out-short : (bytes : List ℕ) (kept : Bool) → length (hand_out_text bytes kept) ≤ 22 + 2 * length bytes
 hand-out-short bytes kept = simp length-append (omega (arith, hex-short bytes, rest-short kept))

@@ -1,16 +1,12 @@
 -- The answer line of each call. Assumes nothing.
-use Rattle.std.specs.Prelude.{Bool, true, false, List, ◌++◌, ℕ}
+use Rattle.std.specs.Prelude.{Bool, true, false, List, ◌++◌, ℕ, Some, None, Ok, Err}
 use Rattle.text.specs.Ascii.{ascii}
 use Rattle.text.specs.Decimal.{decimal}
 use Rattle.text.specs.HexText.{hex_text, hex_word}
 use Rattle.model.specs.Replies.{number}
 use Rattle.model.specs.declared.Refusal.{Refusal}
 use Rattle.model.specs.declared.Report.{Report}
-use Rattle.model.specs.declared.SetUp.{SetUp}
-use Rattle.model.specs.declared.Read.{Read}
-use Rattle.model.specs.declared.Write.{Write}
-use Rattle.model.specs.declared.Done.{Done}
-use Rattle.model.specs.declared.Row.{Row}
+use Rattle.model.specs.Names.{SetUp, Read, Write, Done, Row}
 use Rattle.answers.specs.Reports.{report_text, row_report_text}
 
 -- a refusal is its number alone
@@ -18,27 +14,27 @@ abbrev pub refusal_text : Refusal → List ℕ
 refusal_text r = decimal (number r) ++ ascii "\n"
 
 abbrev pub set_up_text : SetUp → List ℕ
-set_up_text SetUp.Ready = ascii "0\n"
-set_up_text (SetUp.Refused r) = refusal_text r
+set_up_text (Ok _) = ascii "0\n"
+set_up_text (Err r) = refusal_text r
 
 abbrev pub read_text : Report → Read → List ℕ
-read_text report (Read.Value word) = ascii "0 value=" ++ hex_word word ++ report_text report
-read_text report Read.NoValue = ascii "0 value=none" ++ report_text report
-read_text report (Read.Refused r) = refusal_text r
+read_text report (Ok (Some word)) = ascii "0 value=" ++ hex_word word ++ report_text report
+read_text report (Ok None) = ascii "0 value=none" ++ report_text report
+read_text report (Err r) = refusal_text r
 
 abbrev pub write_text : Report → Write → List ℕ
-write_text report Write.Accepted = ascii "0 accepted=1" ++ report_text report
-write_text report Write.NotAccepted = ascii "0 accepted=0" ++ report_text report
-write_text report (Write.Refused r) = refusal_text r
+write_text report (Ok true) = ascii "0 accepted=1" ++ report_text report
+write_text report (Ok false) = ascii "0 accepted=0" ++ report_text report
+write_text report (Err r) = refusal_text r
 
 abbrev pub done_text : Report → Done → List ℕ
-done_text report Done.Done = ascii "0 done" ++ report_text report
-done_text report (Done.Refused r) = refusal_text r
+done_text report (Ok _) = ascii "0 done" ++ report_text report
+done_text report (Err r) = refusal_text r
 
 -- how many bytes of a row were written
 abbrev pub row_text : Report → Row → List ℕ
-row_text report (Row.Made made) = ascii "0 made=" ++ decimal made.count ++ row_report_text made report
-row_text report (Row.Refused r) = refusal_text r
+row_text report (Ok made) = ascii "0 made=" ++ decimal made.count ++ row_report_text made report
+row_text report (Err r) = refusal_text r
 
 -- whether what was lent after the bytes is as it was
 abbrev pub rest_text : Bool → List ℕ

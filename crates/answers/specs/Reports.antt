@@ -1,9 +1,9 @@
 -- The text of a dated call's report, which ends its line. Assumes nothing.
-use Rattle.std.specs.Prelude.{Bool, true, false, List, ◌++◌, ℕ, min, take}
+use Rattle.std.specs.Prelude.{Bool, true, false, List, ◌++◌, ℕ, min, take, Some, None}
 use Rattle.text.specs.Ascii.{ascii}
 use Rattle.text.specs.Decimal.{decimal}
 use Rattle.model.specs.Replies.{notice_places}
-use Rattle.model.specs.declared.Date.{Date}
+use Rattle.model.specs.Names.{Date}
 use Rattle.model.specs.declared.Made.{Made}
 use Rattle.model.specs.declared.Report.{Report}
 use Rattle.answers.specs.Notices.{notices_text, counts_text}
@@ -14,8 +14,8 @@ level_text false = ascii " level=0"
 
 -- the cycle, or `-`
 abbrev pub wake_text : Date → List ℕ
-wake_text Date.None = ascii " wake=-"
-wake_text (Date.At cycle) = ascii " wake=" ++ decimal cycle
+wake_text None = ascii " wake=-"
+wake_text (Some cycle) = ascii " wake=" ++ decimal cycle
 
 -- what stands before its notices, and after them
 abbrev pub front_text : Report → List ℕ

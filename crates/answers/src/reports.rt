@@ -22,8 +22,8 @@ fn put_wake(out: &mut [u8], at: usize, wake: Date) -> usize
     ensures { Puts (wake_text wake) out.old at out.new result }
 {
     match wake {
-        Date::None => put(out, at, b" wake=-"),
-        Date::At(cycle) => put_field(out, at, b" wake=", cycle),
+        None => put(out, at, b" wake=-"),
+        Some(cycle) => put_field(out, at, b" wake=", cycle),
     }
 }
 

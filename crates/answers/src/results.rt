@@ -15,8 +15,8 @@ pub fn put_set_up(out: &mut [u8], at: usize, reply: SetUp) -> usize
     ensures { Put (set_up_text reply) out.old at out.new result }
 {
     match reply {
-        SetUp::Ready => put(out, at, b"0\n"),
-        SetUp::Refused(refusal) => put_refusal(out, at, refusal),
+        Ok(()) => put(out, at, b"0\n"),
+        Err(refusal) => put_refusal(out, at, refusal),
     }
 }
 
@@ -25,13 +25,13 @@ pub fn put_read(out: &mut [u8], at: usize, reply: Read, report: Report) -> usize
     ensures { Put (read_text report reply) out.old at out.new result }
 {
     match reply {
-        Read::Refused(refusal) => put_refusal(out, at, refusal),
-        Read::Value(value) => {
+        Err(refusal) => put_refusal(out, at, refusal),
+        Ok(Some(value)) => {
             let named = put(out, at, b"0 value=");
             let result = put_word(out, named, value);
             put_report(out, result, report)
         }
-        Read::NoValue => {
+        Ok(None) => {
             let result = put(out, at, b"0 value=none");
             put_report(out, result, report)
         }
@@ -43,12 +43,12 @@ pub fn put_write(out: &mut [u8], at: usize, reply: Write, report: Report) -> usi
     ensures { Put (write_text report reply) out.old at out.new result }
 {
     match reply {
-        Write::Refused(refusal) => put_refusal(out, at, refusal),
-        Write::Accepted => {
+        Err(refusal) => put_refusal(out, at, refusal),
+        Ok(true) => {
             let result = put(out, at, b"0 accepted=1");
             put_report(out, result, report)
         }
-        Write::NotAccepted => {
+        Ok(false) => {
             let result = put(out, at, b"0 accepted=0");
             put_report(out, result, report)
         }
@@ -60,8 +60,8 @@ pub fn put_done(out: &mut [u8], at: usize, reply: Done, report: Report) -> usize
     ensures { Put (done_text report reply) out.old at out.new result }
 {
     match reply {
-        Done::Refused(refusal) => put_refusal(out, at, refusal),
-        Done::Done => {
+        Err(refusal) => put_refusal(out, at, refusal),
+        Ok(()) => {
             let result = put(out, at, b"0 done");
             put_report(out, result, report)
         }
@@ -73,8 +73,8 @@ pub fn put_row(out: &mut [u8], at: usize, reply: Row, report: Report) -> usize
     ensures { Put (row_text report reply) out.old at out.new result }
 {
     match reply {
-        Row::Refused(refusal) => put_refusal(out, at, refusal),
-        Row::Made(made) => {
+        Err(refusal) => put_refusal(out, at, refusal),
+        Ok(made) => {
             let named = put(out, at, b"0 made=");
             let result = put_decimal(out, named, made.count as u64);
             put_row_report(out, result, made, report)

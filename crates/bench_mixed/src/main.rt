@@ -26,16 +26,16 @@ struct Tally {
 
 fn value_of(reply: Read) -> u32 {
     match reply {
-        Read::Value(value) => value,
-        Read::NoValue => 0,
-        Read::Refused(_) => 0,
+        Ok(Some(value)) => value,
+        Ok(None) => 0,
+        Err(_) => 0,
     }
 }
 
 fn count_of(reply: Taken) -> u64 {
     match reply {
-        Taken::Bytes(count) => count as u64,
-        Taken::Refused(_) => 0,
+        Ok(count) => count as u64,
+        Err(_) => 0,
     }
 }
 
@@ -174,7 +174,7 @@ fn main(rt: HostRuntime) -> io::Result<()> {
     let made = Uart::new(bench_settings::OFFSETS, bench_settings::RESETS);
     let reply = made.reply;
     match reply {
-        SetUp::Refused(_) => show(&rt, 0),
-        SetUp::Ready => run(&rt, made.uart),
+        Err(_) => show(&rt, 0),
+        Ok(()) => run(&rt, made.uart),
     }
 }

@@ -57,7 +57,7 @@ fn main(rt: HostRuntime) -> io::Result<()> {
     let made = Uart::new(bench_settings::OFFSETS, bench_settings::RESETS);
     let reply = made.reply;
     match reply {
-        SetUp::Refused(_) => crate::show::number(&rt, b"set-up refused ", 1),
-        SetUp::Ready => land(&rt, made.uart),
+        Err(_) => crate::show::number(&rt, b"set-up refused ", 1),
+        Ok(()) => land(&rt, made.uart),
     }
 }

@@ -15,7 +15,7 @@ use Rattle.trace.specs.declared.names.Name.{Name}
 use Rattle.trace.specs.declared.names.Name.TheVariants.{Setup, Read, Write, WriteRow, Receive, Wake, Watch, Reset, PowerDown, Clock}
 use Rattle.trace.specs.declared.names.Name.TheVariants.{TakeTx, TakeWritten, HasLeft, HostPending, Figures}
 use Rattle.model.specs.SetUp.{set_up_reply}
-use Rattle.model.specs.declared.SetUp.{SetUp}
+use Rattle.model.specs.Names.{SetUp}
 use Rattle.blanking.specs.Entries.{entry_of, blanked_entry, entry_text}
 use Rattle.blanking.specs.EntryLaws.{number-few, text-few}
 use Rattle.blanking.specs.Puts.{put-nothing}

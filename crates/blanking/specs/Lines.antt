@@ -1,5 +1,5 @@
 -- What is put out for a line of a trace, and what is carried to the next line. Assumes nothing.
-use Rattle.std.specs.Prelude.{ℕ, ◌+◌, Bool, true, false, List, [], ◌∷◌, ◌++◌, ltb, replicate}
+use Rattle.std.specs.Prelude.{ℕ, ◌+◌, Bool, true, false, List, [], ◌∷◌, ◌++◌, ltb, replicate, Ok, Err}
 use Rattle.text.specs.Pick.{pick}
 use Rattle.text.specs.Decimal.{decimal}
 use Rattle.trace.specs.Asks.{asks_of}
@@ -9,7 +9,7 @@ use Rattle.trace.specs.Lines.{line_of, numbers_of, bytes_after}
 use Rattle.trace.specs.declared.line.Line.{Line}
 use Rattle.trace.specs.declared.names.Name.{Name}
 use Rattle.model.specs.SetUp.{set_up_reply}
-use Rattle.model.specs.declared.SetUp.{SetUp}
+use Rattle.model.specs.Names.{SetUp}
 use Rattle.blanking.specs.Entries.{Entry, entry_of, blanked_entry, entry_text}
 use Rattle.blanking.specs.declared.line.Trace.{Trace}
 
@@ -71,8 +71,8 @@ one_left_out t = record { offsets = t.offsets; ready = t.ready; number = t.numbe
 
 -- a set-up that is refused leaves the map before it
 abbrev pub after_set_up : SetUp → List ℕ → Trace → Trace
-after_set_up SetUp.Ready offsets t = record { offsets = offsets; ready = true; number = t.number; left_out = t.left_out }
-after_set_up (SetUp.Refused r) offsets t = t
+after_set_up (Ok _) offsets t = record { offsets = offsets; ready = true; number = t.number; left_out = t.left_out }
+after_set_up (Err r) offsets t = t
 
 unfoldable pub after_entry : Entry → Trace → Trace
 after_entry (Entry.set_up os ws) t = after_set_up (set_up_reply os) os t

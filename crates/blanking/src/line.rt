@@ -77,12 +77,12 @@ fn set_map(mut trace: Trace, offsets: [u32; 16]) -> Trace
 {
     let reply = set_up_reply(offsets);
     match reply {
-        SetUp::Ready => {
+        Ok(()) => {
             trace.offsets = offsets;
             trace.ready = true;
             trace
         }
-        SetUp::Refused(_) => trace,
+        Err(_) => trace,
     }
 }
 

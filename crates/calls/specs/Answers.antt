@@ -1,6 +1,6 @@
 -- The contract of a call over parts: complete reply, report and next state are the definition's, within the limits again; and on
 -- a refusal the core and its slots are those that came in. Assumes nothing.
-use Rattle.std.specs.Prelude.{◌≡◌, refl}
+use Rattle.std.specs.Prelude.{◌≡◌, refl, Ok, Err}
 use Rattle.std.proofs.Math.Path.{sym, ap, ap₂, subst}
 use Rattle.std.proofs.Common.{◌∙◌, arith, leb-false}
 use Rattle.std.proofs.Math.Option.{Option, none, some}
@@ -20,9 +20,9 @@ use Rattle.model.specs.Calls
 use Rattle.model.specs.Calls.{Outcome, Plan, refusing, unless, after_settling, outcome, quiet}
 use Rattle.model.specs.declared.Refusal.{Refusal}
 use Rattle.model.specs.declared.Report.{Report}
-use Rattle.model.specs.declared.Done.{Done}
+use Rattle.model.specs.Names.{Done}
 use Rattle.replies.specs.Refusals.{verdict, dates}
-use Rattle.replies.specs.declared.refusals.Verdict.{Verdict}
+use Rattle.replies.specs.Names.{Verdict}
 use Rattle.replies.specs.Notices.{noted}
 use Rattle.replies.specs.Reports.{reported, report-of}
 use Rattle.replies.specs.declared.notices.Notices.{Notices}
@@ -141,18 +141,18 @@ module _ {X R : Type 0} (view : X → R) (number : X → ℕ) {o : Outcome X ℕ
 
 -- settled and armed
 pub done-armed : {t : Settle.Settled ℕ ℕ} {c₁ : Core} {a₁ : Arrays} {n o : ℕ} {c₂ : Core} → Settles t c₁ a₁ n o → Arms c₁ a₁ c₂
-    → Works (λ x. x) (after_settling t (λ s. quiet Done.Done (arm s))) c₂ a₁ Done.Done (report_of c₂ n o (noted []))
+    → Works {X = Done} {R = Done} (λ x. x) (after_settling t (λ s. quiet (Ok tt) (arm s))) c₂ a₁ (Ok tt) (report_of c₂ n o (noted []))
 unfolding quiet
 done-armed s k = after (λ x. x) s _ (record { shape = k.shape; replies = refl; notes = refl; state = k.same })
 
 -- ---- what the tests say
 
 -- the verdict of a function of `refusals`, in each of its cases
-pub passes : {v : Verdict} {o : Option Refusal} → verdict v ≡ o → v ≡ Verdict.Passed → o ≡ none
+pub passes : {v : Verdict} {o : Option Refusal} → verdict v ≡ o → v ≡ (Ok tt) → o ≡ none
 unfolding verdict
 passes e p = sym e ∙ ap verdict p
 
-pub refuses : {v : Verdict} {o : Option Refusal} {q : Refusal} → verdict v ≡ o → v ≡ Verdict.Refused q → o ≡ some q
+pub refuses : {v : Verdict} {o : Option Refusal} {q : Refusal} → verdict v ≡ o → v ≡ Err q → o ≡ some q
 unfolding verdict
 refuses e p = sym e ∙ ap verdict p
 
@@ -166,7 +166,7 @@ in-time cycle last rest e =
 -- ---- the structs
 
 abbrev pub done_core : Core → ℕ → ℕ → DoneCore
-done_core c passes overflows = record { core = c; reply = Done.Done; report = report_of c passes overflows (noted []) }
+done_core c passes overflows = record { core = c; reply = Ok tt; report = report_of c passes overflows (noted []) }
 
 abbrev pub refused_core : Core → Refusal → DoneCore
-refused_core c q = record { core = c; reply = Done.Refused q; report = no_report }
+refused_core c q = record { core = c; reply = Err q; report = no_report }

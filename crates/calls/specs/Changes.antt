@@ -12,7 +12,7 @@ use Rattle.model.proofs.Keeps.Parts.{put_clock, through}
 use Rattle.model.proofs.Keeps.Dated.{moved-parts}
 use Rattle.model.proofs.Keeps.EachCall.{clocked-parts}
 use Rattle.model.proofs.Keeps.Wake.{called-within}
-use Rattle.model.specs.declared.Date.{Date}
+use Rattle.model.specs.Names.{Date}
 use Rattle.model.specs.declared.Line.{Line}
 use Rattle.model.specs.declared.Control.{Control}
 use Rattle.queue.specs.Cursors.{Held, slot_of, empty}

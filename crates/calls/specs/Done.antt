@@ -1,5 +1,5 @@
 -- A dated call that answers no more than a number: refused by its tests, or carried out, with settling or without. Assumes nothing.
-use Rattle.std.specs.Prelude.{◌≡◌, List, []}
+use Rattle.std.specs.Prelude.{◌≡◌, List, [], Ok, Err}
 use Rattle.std.proofs.Math.Path.{refl, ap, subst}
 use Rattle.std.proofs.Common.{sym}
 use Rattle.std.proofs.Math.Option.{Option, none, some}
@@ -14,7 +14,7 @@ use Rattle.model.specs.Calls.{Plan, unless, after_settling, dated, quiet, doing,
 use Rattle.model.specs.Call.{Machine}
 use Rattle.model.specs.declared.Refusal.{Refusal}
 use Rattle.model.specs.declared.Report.{Report}
-use Rattle.model.specs.declared.Done.{Done}
+use Rattle.model.specs.Names.{Done}
 use Rattle.replies.specs.Notices.{noted}
 use Rattle.device.specs.Holds.{Arrays, abs, Shape, Valid}
 use Rattle.device.specs.Settles.{Settles}
@@ -25,17 +25,17 @@ use Rattle.calls.specs.Answers.{done_core, refused_core}
 use Rattle.calls.specs.declared.answers.DoneCore.{DoneCore}
 
 module _ (cycle : ℕ) (plan : State.Uart ℕ ℕ → Plan Done ℕ ℕ) {tests : Option Refusal} {c : Core} {a : Arrays} (ok : Valid c a)
-    (e : dated_call cycle plan (abs c a) ≡ unless tests Done.Refused (Calls.carried (some cycle) (plan (abs c a))) (abs c a)) where
+    (e : dated_call cycle plan (abs c a) ≡ unless tests Err (Calls.carried (some cycle) (plan (abs c a))) (abs c a)) where
   pub done-carried : {c' : Core} {a' : Arrays} {reply : Done} {report : Report} → tests ≡ none
       → Within (dated_call cycle plan (abs c a)).state → done_number (dated_work cycle plan (abs c a)).reply ≡ 0
       → Works (λ x. x) (dated_work cycle plan (abs c a)) c' a' reply report → DoneWith (dated_call cycle plan) c a c' a' reply report
-  done-carried t w z k = carried (λ x. x) done_number Done.Refused _ c a e t w z k
+  done-carried t w z k = carried (λ x. x) done_number Err _ c a e t w z k
 
   pub done_refused : {q : Refusal} {r : DoneCore} → tests ≡ some q → r ≡ refused_core c q
       → DoneWith (dated_call cycle plan) c a r.core a r.reply r.report
   done_refused t same =
       subst (λ (x : DoneCore). DoneWith (dated_call cycle plan) c a x.core a x.reply x.report) (sym same)
-      (turned-away (λ x. x) done_number Done.Refused _ c a e t ok)
+      (turned-away (λ x. x) done_number Err _ c a e t ok)
 
   -- without settling
   pub done-unsettled : (change : State.Uart ℕ ℕ → State.Uart ℕ ℕ) {c' : Core} {r : DoneCore} → plan (abs c a) ≡ doing none [] change
@@ -45,8 +45,8 @@ module _ (cycle : ℕ) (plan : State.Uart ℕ ℕ → Plan Done ℕ ℕ) {tests 
   done-unsettled change {c'} p t w k same answer =
       let zero : done_number (dated_work cycle plan (abs c a)).reply ≡ 0 =
       ap (λ (x : Plan Done ℕ ℕ). done_number (Calls.carried (some cycle) x (abs c a)).reply) p in
-      let works : Works (λ x. x) (dated_work cycle plan (abs c a)) c' a Done.Done (report_of c' 0 0 (noted [])) =
-      subst (λ (x : Plan Done ℕ ℕ). Works (λ w. w) (Calls.carried (some cycle) x (abs c a)) c' a Done.Done (report_of c' 0 0 (noted [])))
+      let works : Works (λ x. x) (dated_work cycle plan (abs c a)) c' a (Ok tt) (report_of c' 0 0 (noted [])) =
+      subst (λ (x : Plan Done ℕ ℕ). Works (λ w. w) (Calls.carried (some cycle) x (abs c a)) c' a (Ok tt) (report_of c' 0 0 (noted [])))
       (sym p) (unsettled-works (λ x. x) change k same) in
       subst (λ (x : DoneCore). DoneWith (dated_call cycle plan) c a x.core a x.reply x.report) (sym answer)
       (done-carried t w zero works)
@@ -54,9 +54,9 @@ module _ (cycle : ℕ) (plan : State.Uart ℕ ℕ → Plan Done ℕ ℕ) {tests 
 -- settled and armed
 pub armed-done : {t : Settle.Settled ℕ ℕ} {c₁ : Core} {a₁ : Arrays} {n o : ℕ} {c₂ : Core} {r : DoneCore} → Settles t c₁ a₁ n o
     → ArmsAny c₁ a₁.gone_at a₁.run_at c₂
-    → r ≡ done_core c₂ n o → Works (λ x. x) (after_settling t (λ s. quiet Done.Done (arm s))) r.core a₁ r.reply r.report
+    → r ≡ done_core c₂ n o → Works (λ x. x) (after_settling t (λ s. quiet (Ok tt) (arm s))) r.core a₁ r.reply r.report
 armed-done {t} {a₁ = a₁} s arms same =
-    subst (λ (x : DoneCore). Works (λ w. w) (after_settling t (λ s. quiet Done.Done (arm s))) x.core a₁ x.reply x.report) (sym same)
+    subst (λ (x : DoneCore). Works (λ w. w) (after_settling t (λ s. quiet (Ok tt) (arm s))) x.core a₁ x.reply x.report) (sym same)
     (done-armed s (arms a₁ refl refl s.ok.shape))
 
 -- ---- the number of a call that is carried out is 0

@@ -1,8 +1,7 @@
 -- What set-up makes: a core, and its answer. Assumes nothing.
-use Rattle.std.specs.Prelude.{ℕ, List}
+use Rattle.std.specs.Prelude.{ℕ, List, None}
 use Rattle.model.specs.SetUp.{map_of, new_control, set_up_reply}
 use Rattle.queue.specs.Cursors.{empty}
-use Rattle.line.specs.declared.Receiving.{Receiving}
 use Rattle.device.specs.declared.Core.{Core}
 use Rattle.calls.specs.declared.set_up.NewParts.{NewParts}
 
@@ -11,7 +10,7 @@ abbrev pub new_core : List ℕ → List ℕ → Core
 new_core offsets resets = record {
   map = map_of offsets resets;
   control = new_control (map_of offsets resets).reset;
-  receiving = Receiving.None;
+  receiving = None;
   byte = 0;
   flight = empty;
   tx = empty;

@@ -1,5 +1,5 @@
 -- A reset's work: settled from the end of a power-down, cleared, leveled and armed. Assumes nothing.
-use Rattle.std.specs.Prelude.{◌≡◌, ℕ, length}
+use Rattle.std.specs.Prelude.{◌≡◌, ℕ, length, None}
 use Rattle.std.proofs.Math.Path.{refl, ap, subst}
 use Rattle.std.proofs.Common.{sym, ◌∙◌}
 use Rattle.model.specs.Setters.{with_powered_down_at}
@@ -8,7 +8,6 @@ use Rattle.model.specs.Arm.{arm}
 use Rattle.model.specs.Calls.{dated, carried, quiet, cleared, machine}
 use Rattle.model.specs.Plans.{settle_at}
 use Rattle.model.specs.Call.{Machine}
-use Rattle.model.specs.declared.Date.{Date}
 use Rattle.queue.specs.Cursors.{Held}
 use Rattle.device.specs.Holds.{Arrays, abs, Valid}
 use Rattle.device.specs.Settles.{Settles}
@@ -27,9 +26,9 @@ cleared-ready {c} {a} ok e =
     (ready (cleared_core c) a (cleared-shape c a ok.shape) ok.within.period_high)
 
 module _ (cycle : ℕ) {c : Core} {a : Arrays} (ok : Valid c a) {from : Core}
-    (up : from ≡ with_control_of (with_powered_down_at Date.None c.control) c) where
+    (up : from ≡ with_control_of (with_powered_down_at None c.control) c) where
   pub from-ok : Valid from a
-  from-ok = subst (λ (x : Core). Valid x a) (sym up) (put-down-ok cycle c a ok Date.None)
+  from-ok = subst (λ (x : Core). Valid x a) (sym up) (put-down-ok cycle c a ok None)
 
   pub restarted : {c₁ : Core} {a₁ : Arrays} {n o : ℕ} {c₂ c₃ : Core} {r : DoneCore} → Settles (settle_at cycle (abs from a)) c₁ a₁ n o
       → c₂ ≡ cleared_core c₁

@@ -1,5 +1,5 @@
 -- What has_left and host_pending answer, and what they read of a core. Assumes nothing.
-use Rattle.std.specs.Prelude.{◌≡◌, Bool, ℕ, ◌+◌, ltb}
+use Rattle.std.specs.Prelude.{◌≡◌, Bool, ℕ, ◌+◌, ltb, Some, None}
 use Rattle.std.proofs.Common.{ap, sym, arith}
 use Rattle.model.specs.Settle.{pending, on_the_line}
 use Rattle.model.specs.Call.{left, pends}
@@ -8,7 +8,7 @@ use Rattle.model.specs.Calls.{unless, carried, outcome, quiet, has_left, host_pe
 use Rattle.model.specs.declared.Frame.{Frame}
 use Rattle.queue.specs.Cursors.{slot_of}
 use Rattle.queue.specs.Laws.{elems-length}
-use Rattle.line.specs.declared.Receiving.{Receiving}
+use Rattle.line.specs.Names.{Receiving}
 use Rattle.device.specs.Holds
 use Rattle.device.specs.Holds.{Arrays, abs}
 use Rattle.device.specs.declared.Core.{Core}
@@ -33,14 +33,14 @@ pending-of : (c : Core) (a : Arrays) (n : ℕ) → on_the_line (Holds.on_the_lin
 unfolding outcome unless carried host_pending quiet pending
 pending-of c a n e = omega (arith, elems-length (slot_of a.host 0) 1024 c.host, e)
 
-pub pending-free : (c : Core) (a : Arrays) → c.receiving ≡ Receiving.None → c.host.count ≡ (undated_call host_pending (abs c a)).reply
+pub pending-free : (c : Core) (a : Arrays) → c.receiving ≡ None → c.host.count ≡ (undated_call host_pending (abs c a)).reply
 unfolding on_the_line Holds.on_the_line
 pending-free c a e =
     let more : c.host.count + 0 ≡ (undated_call host_pending (abs c a)).reply =
     pending-of c a 0 (ap (λ (r : Receiving). on_the_line (Holds.on_the_line r c.byte)) e) in
     omega (arith, more)
 
-pub pending-on : (c : Core) (a : Arrays) (f : Frame) → c.receiving ≡ Receiving.OnTheLine f
+pub pending-on : (c : Core) (a : Arrays) (f : Frame) → c.receiving ≡ Some f
     → c.host.count + 1 ≡ (undated_call host_pending (abs c a)).reply
 unfolding on_the_line Holds.on_the_line
 pending-on c a f e = pending-of c a 1 (ap (λ (r : Receiving). on_the_line (Holds.on_the_line r c.byte)) e)

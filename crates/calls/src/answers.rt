@@ -24,7 +24,7 @@ pub fn done(core: Core, passes: u64, overflows: u64) -> DoneCore
     let report = report::report(control.level, wake, overflows, passes, none);
     DoneCore {
         core,
-        reply: Done::Done,
+        reply: Ok(()),
         report,
     }
 }
@@ -35,7 +35,7 @@ pub fn refuse(core: Core, refusal: Refusal) -> DoneCore
     let report = report::no_report();
     DoneCore {
         core,
-        reply: Done::Refused(refusal),
+        reply: Err(refusal),
         report,
     }
 }

@@ -80,8 +80,8 @@ pub fn clock_change<'a>(
     let control = core.control;
     let tests = replies::refusals::clock_refusal(cycle, control.last, period);
     match tests {
-        Verdict::Refused(refusal) => answers::refuse(core, refusal),
-        Verdict::Passed => carry_out(
+        Err(refusal) => answers::refuse(core, refusal),
+        Ok(()) => carry_out(
             core, gone_at, flight, tx, host, run_at, run_len, rx, cycle, period,
         ),
     }

@@ -61,10 +61,10 @@ pub fn power_down<'a>(
     let control = core.control;
     let tests = replies::refusals::date_refusal(cycle, control.last);
     match tests {
-        Verdict::Refused(refusal) => answers::refuse(core, refusal),
-        Verdict::Passed => {
+        Err(refusal) => answers::refuse(core, refusal),
+        Ok(()) => {
             let moved = settle_at::with_last(core, cycle);
-            let down = with_powered_down_at(moved, Date::At(dates::subcycles(cycle)));
+            let down = with_powered_down_at(moved, Some(dates::subcycles(cycle)));
             answers::done(down, 0, 0)
         }
     }

@@ -40,8 +40,8 @@ fn pending(core: Core) -> usize
 {
     let receiving = core.receiving;
     match receiving {
-        Receiving::None => core.host.count,
-        Receiving::OnTheLine(_) => core.host.count + 1,
+        None => core.host.count,
+        Some(_) => core.host.count + 1,
     }
 }
 

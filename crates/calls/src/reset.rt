@@ -21,8 +21,8 @@ fn clear_line(line: Line) -> Line
 {
     Line {
         int_raw: 0,
-        rx_mistimed: Source::None,
-        idle_since: Date::None,
+        rx_mistimed: None,
+        idle_since: None,
         line_free_at: line.line_free_at,
     }
 }
@@ -62,7 +62,7 @@ fn carry_out<'a>(
         (arrays gone_at.now flight.now tx.new host.now run_at.now run_len.new rx.new)
         result.reply result.report }
 {
-    let from = power_down::with_powered_down_at(core, Date::None);
+    let from = power_down::with_powered_down_at(core, None);
     let t = settle_at::settle_at(from, gone_at, flight, tx, host, run_at, run_len, rx, cycle);
     let cleared = clear(t.core);
     let restarted = crate::conclude::conclude(cleared, gone_at, run_at);
@@ -89,7 +89,7 @@ pub fn reset<'a>(
     let control = core.control;
     let tests = replies::refusals::date_refusal(cycle, control.last);
     match tests {
-        Verdict::Refused(refusal) => answers::refuse(core, refusal),
-        Verdict::Passed => carry_out(core, gone_at, flight, tx, host, run_at, run_len, rx, cycle),
+        Err(refusal) => answers::refuse(core, refusal),
+        Ok(()) => carry_out(core, gone_at, flight, tx, host, run_at, run_len, rx, cycle),
     }
 }

@@ -59,15 +59,15 @@ pub fn new_control(words: Words) -> Control
         words: words,
         line: Line {
             int_raw: marks::TXFIFO_EMPTY,
-            rx_mistimed: Source::None,
-            idle_since: Date::None,
+            rx_mistimed: None,
+            idle_since: None,
             line_free_at: 0,
         },
         period: Clock::POWER_ON.apb_period,
         last: 0,
-        wake: Date::None,
+        wake: None,
         watched: false,
-        powered_down_at: Date::None,
+        powered_down_at: None,
         level: false,
     }
 }
@@ -82,7 +82,7 @@ pub fn new_core(offsets: [u32; 16], resets: [u32; 16]) -> Core
     Core {
         map,
         control,
-        receiving: Receiving::None,
+        receiving: None,
         byte: 0,
         flight: none,
         tx: none,

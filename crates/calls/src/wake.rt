@@ -69,7 +69,7 @@ pub fn wake<'a>(
     let control = core.control;
     let tests = replies::refusals::date_refusal(cycle, control.last);
     match tests {
-        Verdict::Refused(refusal) => answers::refuse(core, refusal),
-        Verdict::Passed => carry_out(core, gone_at, flight, tx, host, run_at, run_len, rx, cycle),
+        Err(refusal) => answers::refuse(core, refusal),
+        Ok(()) => carry_out(core, gone_at, flight, tx, host, run_at, run_len, rx, cycle),
     }
 }

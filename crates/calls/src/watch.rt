@@ -43,8 +43,8 @@ pub fn watch<'a>(
     let control = core.control;
     let tests = replies::refusals::date_refusal(cycle, control.last);
     match tests {
-        Verdict::Refused(refusal) => answers::refuse(core, refusal),
-        Verdict::Passed => {
+        Err(refusal) => answers::refuse(core, refusal),
+        Ok(()) => {
             let from = with_watched(core, cycle, on);
             let armed = device::arm::arm(from, gone_at, run_at);
             answers::done(armed, 0, 0)

@@ -1,11 +1,10 @@
 -- A Deadline after it is armed, and after a call. Assumes nothing.
-use Rattle.std.specs.Prelude.{ℕ}
+use Rattle.std.specs.Prelude.{ℕ, Some}
 use Rattle.model.specs.Arm.{armed, called}
-use Rattle.model.specs.declared.Date.{Date}
 use Rattle.deadline.specs.declared.Deadline.{Deadline}
 
 abbrev pub armed_at : Deadline → ℕ → Deadline
-armed_at d at = record { due = armed (Date.At at) d.due }
+armed_at d at = record { due = armed (Some at) d.due }
 
 abbrev pub called_at : Deadline → ℕ → Deadline
 called_at d at = record { due = called at d.due }

@@ -21,9 +21,9 @@ impl Deadline {
     {
         let due = self.due;
         match due {
-            Date::None => Deadline { due: Date::At(at) },
-            Date::At(cycle) => Deadline {
-                due: Date::At(dates::earlier(cycle, at)),
+            None => Deadline { due: Some(at) },
+            Some(cycle) => Deadline {
+                due: Some(dates::earlier(cycle, at)),
             },
         }
     }
@@ -32,10 +32,10 @@ impl Deadline {
         ensures { result ≡ called_at self at }
     {
         let due = self.due;
-        let none = Deadline { due: Date::None };
+        let none = Deadline { due: None };
         match due {
-            Date::None => none,
-            Date::At(cycle) => if cycle <= at { none } else { self },
+            None => none,
+            Some(cycle) => if cycle <= at { none } else { self },
         }
     }
 
@@ -77,8 +77,8 @@ pub fn arm(due: Date, instant: Date) -> Date
     ensures { result ≡ armed (in_cycles instant) due }
 {
     match instant {
-        Date::None => due,
-        Date::At(subcycle) => Deadline { due }.after_arm(dates::cycles(subcycle)).due,
+        None => due,
+        Some(subcycle) => Deadline { due }.after_arm(dates::cycles(subcycle)).due,
     }
 }
 

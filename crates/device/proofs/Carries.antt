@@ -1,6 +1,6 @@
 -- One pass over the slots: what the control decides, carried out by a store at the back of the receive FIFO, one at the first
 -- run's count, and three cursors that go on where a test says so, is the definition's pass. Assumes nothing.
-use Rattle.std.specs.Prelude.{◌≡◌, Bool, ℕ, ◌-◌, ◌<◌, ◌≤◌, leb, length, take, set}
+use Rattle.std.specs.Prelude.{◌≡◌, Bool, ℕ, ◌-◌, ◌<◌, ◌≤◌, leb, length, take, set, Some, None}
 use Rattle.std.proofs.Math.Path.{refl, ap, sym}
 use Rattle.std.proofs.Common.{◌∙◌, ⊎_elim, lt-ltb, le-ltb, length-set}
 use Rattle.std.proofs.Math.Bool.{true, false}
@@ -14,7 +14,7 @@ use Rattle.model.specs.Setters.{with_rx, with_receiving, with_host, with_line_of
 use Rattle.model.specs.Numbers.{choose}
 use Rattle.model.proofs.Laws.Choose.{choose-true, choose-false}
 use Rattle.model.specs.Settle.{pop_run}
-use Rattle.model.specs.declared.Date.{Date}
+use Rattle.model.specs.Names.{Date}
 use Rattle.model.specs.declared.Line.{Line}
 use Rattle.model.specs.declared.Settings.{Settings}
 use Rattle.line.specs.declared.Found.{Found}
@@ -26,7 +26,7 @@ use Rattle.queue.specs.Stores
 use Rattle.queue.specs.Stores.{Stored, set-stored, both, same-stored, first-stored}
 use Rattle.queue.specs.Guards.{push-if-held, pop-if-held, push-if-elems, pop-if-elems}
 use Rattle.queue.specs.declared.Cursor.{Cursor}
-use Rattle.line.specs.declared.Receiving.{Receiving}
+use Rattle.line.specs.Names.{Receiving}
 use Rattle.line.specs.declared.Move.{Move}
 use Rattle.line.specs.Moves.{move}
 use Rattle.line.specs.Seen.{Seen}
@@ -55,13 +55,13 @@ subject-of : (t : Bool) (hosts : List ℕ) (h : Cursor) (r : Receiving) (b : ℕ
     → subject t (host_of hosts h) (on_the_line r b) ≡ choose t (get_or hosts h.start 0) b ∷ []
 unfolding subject line_byte on_the_line is_on choose
 subject-of true hosts h r b hh w k = ap (take 1) (first-elems (slot_of hosts 0) 1024 h hh (w refl))
-subject-of false hosts h Receiving.None b hh w k = never (k refl)
-subject-of false hosts h (Receiving.OnTheLine f) b hh w k = refl
+subject-of false hosts h None b hh w k = never (k refl)
+subject-of false hosts h (Some f) b hh w k = refl
 
 marked-of : (r : Receiving) (bs : List ℕ) (b : ℕ) → (is_on r ≡ true → bs ≡ b ∷ []) → marked r bs ≡ on_the_line r b
 unfolding marked on_the_line is_on
-marked-of Receiving.None bs b k = refl
-marked-of (Receiving.OnTheLine f) bs b k = ap (marked (Receiving.OnTheLine f)) (k refl)
+marked-of None bs b k = refl
+marked-of (Some f) bs b k = ap (marked (Some f)) (k refl)
 
 stored_of : (t : Bool) (bs held : List ℕ) (b : ℕ) → (t ≡ true → bs ≡ b ∷ []) → stored_into t bs held ≡ held ++ one_if t b
 unfolding stored_into one_if

@@ -1,18 +1,18 @@
 -- What a move of the control allows: a byte starts only where one waits, one is stored only where there is room, and one that
 -- did not start in the pass was on the line before it. Assumes nothing.
-use Rattle.std.specs.Prelude.{◌≡◌, Bool, ℕ, ◌<◌}
+use Rattle.std.specs.Prelude.{◌≡◌, Bool, ℕ, ◌<◌, Some, None}
 use Rattle.std.proofs.Math.Path.{refl}
 use Rattle.std.proofs.Common.{sym, ltb-true}
 use Rattle.std.proofs.Math.Bool.{true, false}
 use Rattle.model.proofs.Laws.Choose.{choose-ind}
 use Rattle.model.specs.Line.{fate}
-use Rattle.model.specs.declared.Date.{Date}
+use Rattle.model.specs.Names.{Date}
 use Rattle.model.specs.declared.Line.{Line}
 use Rattle.model.specs.declared.Frame.{Frame}
 use Rattle.model.specs.declared.Settings.{Settings}
 use Rattle.model.specs.declared.Fate.{Fate}
 use Rattle.line.specs.declared.Found.{Found}
-use Rattle.line.specs.declared.Receiving.{Receiving}
+use Rattle.line.specs.Names.{Receiving}
 use Rattle.line.specs.declared.Move.{Move}
 use Rattle.line.specs.Applied.{is_stored}
 use Rattle.line.specs.Moves.{resting, timing_out, landing, in_frame, before_start, idle, line_free, move}
@@ -20,13 +20,13 @@ use Rattle.device.specs.Never.{never}
 
 -- a byte is on the line
 unfoldable pub is_on : Receiving → Bool
-is_on Receiving.None = false
-is_on (Receiving.OnTheLine f) = true
+is_on None = false
+is_on (Some f) = true
 
 -- a date is there
 unfoldable pub is_set : Date → Bool
-is_set Date.None = false
-is_set (Date.At d) = true
+is_set None = false
+is_set (Some d) = true
 
 pub record Allows (held : ℕ) (waits : Date) (on : Receiving) (m : Move) : Type 0 where
   pub starts : m.started ≡ true → is_set waits ≡ true
@@ -67,15 +67,15 @@ module _ (s : Settings) (held : ℕ) (waits : Date) (on : Receiving) where
       → Allows held waits on (in_frame s held date started f l)
   unfolding in_frame
   in_frame-allows date started f l w k =
-      choose-ind (Allows held waits on) _ (λ _. (still started (Receiving.OnTheLine f) l w (λ e _. k e)).1)
-      (λ _. choose-ind (Allows held waits on) _ (λ _. (still started (Receiving.OnTheLine f) l w (λ e _. k e)).0)
+      choose-ind (Allows held waits on) _ (λ _. (still started (Some f) l w (λ e _. k e)).1)
+      (λ _. choose-ind (Allows held waits on) _ (λ _. (still started (Some f) l w (λ e _. k e)).0)
       (λ _. lands started f l w k))
 
   -- no byte is on the line, and none started
-  free : (l : Line) → Allows held waits on (resting false Receiving.None l)
-      × Allows held waits on (timing_out s held false Receiving.None l)
+  free : (l : Line) → Allows held waits on (resting false None l)
+      × Allows held waits on (timing_out s held false None l)
   unfolding is_on
-  free l = still false Receiving.None l (λ e. never e) (λ _ e. never e)
+  free l = still false None l (λ e. never e) (λ _ e. never e)
 
   line-idle : (date : ℕ) (l : Line) → Allows held waits on (idle s held date l)
   unfolding idle
@@ -90,10 +90,10 @@ module _ (s : Settings) (held : ℕ) (waits : Date) (on : Receiving) where
 module _ (s : Settings) (held date : ℕ) where
   line-free : (waits : Date) (on : Receiving) (l : Line) → Allows held waits on (line_free s held date waits l)
   unfolding line_free is_set
-  line-free Date.None on l = line-idle s held Date.None on date l
-  line-free (Date.At d) on l = before-start s held (Date.At d) on date _ l refl
+  line-free None on l = line-idle s held None on date l
+  line-free (Some d) on l = before-start s held (Some d) on date _ l refl
 
   pub allows : (waits : Date) (on : Receiving) (l : Line) → Allows held waits on (move s held date waits on l)
   unfolding move is_on
-  allows waits Receiving.None l = line-free waits Receiving.None l
-  allows waits (Receiving.OnTheLine f) l = in_frame-allows s held waits (Receiving.OnTheLine f) date false f l (λ e. never e) (λ _. refl)
+  allows waits None l = line-free waits None l
+  allows waits (Some f) l = in_frame-allows s held waits (Some f) date false f l (λ e. never e) (λ _. refl)

@@ -1,6 +1,6 @@
 -- Arming a held UART is the definition's: each instant from the numbers of the queues, and the wake that keeps the earliest.
 -- Assumes nothing.
-use Rattle.std.specs.Prelude.{◌≡◌, refl, List, [], ◌∷◌, ℕ, zero, suc, ◌-◌, ◌≤◌, ◌<◌, length, get_or}
+use Rattle.std.specs.Prelude.{◌≡◌, refl, List, [], ◌∷◌, ℕ, zero, suc, ◌-◌, ◌≤◌, ◌<◌, length, get_or, Some, None}
 use Rattle.std.proofs.Common.{sym, ◌∙◌, arith}
 use Rattle.std.proofs.Math.Path.{ap}
 use Rattle.model.specs.Numbers.{only_if, earliest, in_cycles}
@@ -13,13 +13,13 @@ use Rattle.model.specs.Settle.{empty_threshold, settings_of}
 use Rattle.model.specs.Arm.{nth_gone, last_gone, below_threshold_at, instants, armed, arm_all}
 use Rattle.model.specs.Arm
 use Rattle.model.specs.Tests.{period_limit}
-use Rattle.model.specs.declared.Date.{Date}
+use Rattle.model.specs.Names.{Date}
 use Rattle.model.specs.declared.Settings.{Settings}
 use Rattle.queue.specs.Cursors.{Held, nth_of}
 use Rattle.queue.specs.Laws.{elems-length, elems-nth}
 use Rattle.queue.specs.declared.Cursor.{Cursor}
 use Rattle.line.specs.Instants.{below_threshold, gone_below, below_at, next_landing, instants-are}
-use Rattle.line.specs.declared.Below.{Below}
+use Rattle.line.specs.Names.{Below}
 use Rattle.device.specs.Holds.{Arrays, sent_at, flight_of, abs, Shape}
 use Rattle.device.specs.Waits.{waiting_at}
 use Rattle.device.specs.Carries.{waiting-of, mark_of}
@@ -61,13 +61,13 @@ ArmsAny c gone_at run_at c' = (a : Arrays) → a.gone_at ≡ gone_at → a.run_a
 
 -- ---- when a byte in flight has gone
 
-nth_in : {W : Type 0} (d : Sent W) (n : ℕ) (l : List (Sent W)) → n < length l → nth_gone n l ≡ Date.At (get_or l n d).gone_at
+nth_in : {W : Type 0} (d : Sent W) (n : ℕ) (l : List (Sent W)) → n < length l → nth_gone n l ≡ Some (get_or l n d).gone_at
 unfolding nth_gone
 nth_in d n [] h = absurd (omega arith)
 nth_in d zero (s ∷ l) h = refl
 nth_in d (suc n) (s ∷ l) h = nth_in d n l (omega arith)
 
-nth-out : {W : Type 0} (n : ℕ) (l : List (Sent W)) → length l ≤ n → nth_gone n l ≡ Date.None
+nth-out : {W : Type 0} (n : ℕ) (l : List (Sent W)) → length l ≤ n → nth_gone n l ≡ None
 unfolding nth_gone
 nth-out n [] h = refl
 nth-out zero (s ∷ l) h = absurd (omega arith)
@@ -77,20 +77,20 @@ module _ (dates bytes : List ℕ) (c : Cursor) where
   count : length (flight_of dates bytes c) ≡ c.count
   count = elems-length (sent_at dates bytes) 129 c
 
-  pub gone-in : (n : ℕ) → n < c.count → Date.At (get_or dates (nth_of 129 n c) 0) ≡ nth_gone n (flight_of dates bytes c)
+  pub gone-in : (n : ℕ) → n < c.count → Some (get_or dates (nth_of 129 n c) 0) ≡ nth_gone n (flight_of dates bytes c)
   gone-in n h =
       let d : Sent ℕ = sent_at dates bytes 0 in
       sym (nth_in d n (flight_of dates bytes c) (omega (arith, count))
-      ∙ ap (λ (s : Sent ℕ). Date.At s.gone_at) (elems-nth (sent_at dates bytes) 129 c n d h))
+      ∙ ap (λ (s : Sent ℕ). Some s.gone_at) (elems-nth (sent_at dates bytes) 129 c n d h))
 
-  pub gone-out : (n : ℕ) → c.count ≤ n → Date.None ≡ nth_gone n (flight_of dates bytes c)
+  pub gone-out : (n : ℕ) → c.count ≤ n → None ≡ nth_gone n (flight_of dates bytes c)
   gone-out n h = sym (nth-out n (flight_of dates bytes c) (omega (arith, count)))
 
   pub last-in : {r : Date} → r ≡ nth_gone (c.count - 1) (flight_of dates bytes c) → r ≡ last_gone (flight_of dates bytes c)
   unfolding last_gone
   last-in e = e ∙ ap (λ (n : ℕ). nth_gone (n - 1) (flight_of dates bytes c)) (sym count)
 
-  pub last_none : c.count ≤ 0 → Date.None ≡ last_gone (flight_of dates bytes c)
+  pub last_none : c.count ≤ 0 → None ≡ last_gone (flight_of dates bytes c)
   unfolding last_gone
   last_none h = gone-out _ (omega (arith, count))
 

@@ -1,5 +1,5 @@
 -- What the control is given of the slots. Assumes nothing.
-use Rattle.std.specs.Prelude.{◌≡◌, ℕ, ◌<◌, ◌≤◌}
+use Rattle.std.specs.Prelude.{◌≡◌, ℕ, ◌<◌, ◌≤◌, Some, None}
 use Rattle.std.proofs.Math.Path.{refl, ap}
 use Rattle.std.proofs.Common.{ap₂, ◌∙◌, ⊎_elim, lt-ltb, le-ltb}
 use mathlib.Core.List.{List, [], ◌∷◌}
@@ -7,22 +7,21 @@ use native.Mathlib.Omega.{arith}
 use Rattle.std.proofs.Math.ListN.{get_or}
 use Rattle.model.specs.State.{Run}
 use Rattle.model.specs.Numbers.{choose}
-use Rattle.model.specs.declared.Date.{Date}
 use Rattle.queue.specs.Slots.{side}
 use Rattle.queue.specs.Cursors.{Held, slot_of}
 use Rattle.queue.specs.Laws.{first-elems, elems-none}
 use Rattle.queue.specs.declared.Cursor.{Cursor}
-use Rattle.line.specs.declared.Receiving.{Receiving}
+use Rattle.line.specs.Names.{Receiving}
 use Rattle.line.specs.Applied.{waiting, mark}
 use Rattle.device.specs.Holds.{run_in, host_of, runs_of, on_the_line}
 use Rattle.device.specs.Waits.{waiting_at}
 
 pub mark_of : (r : Receiving) (b : ℕ) → mark (on_the_line r b) ≡ r
 unfolding mark on_the_line
-mark_of Receiving.None b = refl
-mark_of (Receiving.OnTheLine f) b = refl
+mark_of None b = refl
+mark_of (Some f) b = refl
 
-waiting-nil : (rs : List Run) → waiting {H = ℕ} rs [] ≡ Date.None
+waiting-nil : (rs : List Run) → waiting {H = ℕ} rs [] ≡ None
 unfolding waiting
 waiting-nil [] = refl
 waiting-nil (r ∷ rs) = refl

@@ -1,14 +1,14 @@
 -- What a core and the slots of its queues stand for: a state of the definition. Assumes nothing.
 -- Free, and so left out of it: where a queue starts in its slots, what stands in slots that hold no element, and the byte of
 -- the core while nothing is on the line.
-use Rattle.std.specs.Prelude.{◌≡◌, List, ℕ, length}
+use Rattle.std.specs.Prelude.{◌≡◌, List, ℕ, length, Some, None}
 use Rattle.std.proofs.Math.Option.{Option, none, some}
 use Rattle.model.specs.State.{Sent, Run, OnTheLine}
 use Rattle.model.specs.State
 use Rattle.model.specs.Limits.{Within}
 use Rattle.queue.specs.Cursors.{Held, slot_of, elems}
 use Rattle.queue.specs.declared.Cursor.{Cursor}
-use Rattle.line.specs.declared.Receiving.{Receiving}
+use Rattle.line.specs.Names.{Receiving}
 use Rattle.device.specs.declared.Core.{Core}
 
 -- the slots of the seven arrays
@@ -45,8 +45,8 @@ abbrev pub rx_of : List ℕ → Cursor → List ℕ
 rx_of slots c = elems (slot_of slots 0) 128 c
 
 unfoldable pub on_the_line : Receiving → ℕ → Option (OnTheLine ℕ)
-on_the_line Receiving.None b = none
-on_the_line (Receiving.OnTheLine f) b = some (record { byte = b; frame = f })
+on_the_line None b = none
+on_the_line (Some f) b = some (record { byte = b; frame = f })
 
 -- ---- the whole
 

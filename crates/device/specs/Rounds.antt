@@ -1,5 +1,5 @@
 -- The passes in a loop: what is still to run is what the definition runs from where the loop stands. Assumes nothing.
-use Rattle.std.specs.Prelude.{◌≡◌, Bool, true, ℕ, ◌+◌, ◌≤◌, ◌<◌}
+use Rattle.std.specs.Prelude.{◌≡◌, Bool, true, ℕ, ◌+◌, ◌≤◌, ◌<◌, Some, None}
 use Rattle.std.proofs.Math.Path.{refl, ap, sym}
 use Rattle.std.proofs.Common.{◌∙◌, arith}
 use Rattle.std.proofs.Math.Bool.{false}
@@ -16,7 +16,7 @@ use Rattle.line.specs.declared.Found.{Found}
 use Rattle.queue.specs.Cursors.{slot_of}
 use Rattle.queue.specs.Laws.{elems-length}
 use Rattle.line.specs.Seen.{Seen, seen, goes_on, lost, goes_on-seen, loses}
-use Rattle.line.specs.declared.Receiving.{Receiving}
+use Rattle.line.specs.Names.{Receiving}
 use Rattle.device.specs.Holds
 use Rattle.device.specs.Receives.{Fit, with}
 use Rattle.device.specs.Ends.{Gives}
@@ -97,8 +97,8 @@ blank = new [] []
 
 one_on : (r : Receiving) (b : ℕ) → on_the_line (Holds.on_the_line r b) ≤ 1
 unfolding on_the_line Holds.on_the_line
-one_on Receiving.None b = omega arith
-one_on (Receiving.OnTheLine f) b = omega arith
+one_on None b = omega arith
+one_on (Some f) b = omega arith
 
 pub few-passes : (s : Settings) (date : ℕ) (at : Reception) (hosts dates counts rxs : List ℕ) → Fit at hosts dates counts rxs
     → passes_in (Settle.passes s date (with at hosts dates counts rxs blank)).events ≤ 2052

@@ -1,5 +1,5 @@
 -- A settling of a held UART is the definition's: its departures, its passes and its levels, put together. Assumes nothing.
-use Rattle.std.specs.Prelude.{◌≡◌, Bool, take}
+use Rattle.std.specs.Prelude.{◌≡◌, Bool, take, Some}
 use Rattle.std.proofs.Math.Path.{ap, ap₂, sym}
 use Rattle.std.proofs.Common.{subst, ◌∙◌, arith}
 use mathlib.Core.List.{List, ◌++◌, map}
@@ -7,7 +7,6 @@ use Prim.Native.Nat.{ℕ, ◌+◌, ◌-◌, ◌≤◌}
 use Rattle.std.proofs.Math.ListN.{length, drop}
 use Rattle.dates.specs.Dates.{subcycles}
 use Rattle.model.specs.Numbers.{earliest, instant_of}
-use Rattle.model.specs.declared.Date.TheVariants.{At}
 use Rattle.model.specs.State
 use Rattle.model.specs.State.{Sent}
 use Rattle.model.specs.Setters.{with_line, with_level, with_control, with_in_flight, with_tx}
@@ -97,7 +96,7 @@ control-after c {held} {held'} {flying} {flying'} {l} a b el ed =
 module _ (cycle : ℕ) (c : Core) (a : Arrays) (ok : Valid c a) {date n passes overflows : ℕ} {s : Settings} {flight' tx' : Cursor}
     {left' counts' rx' : List ℕ}
     {l l' : Line} {at' : Reception} {level : Bool}
-    (dated : date ≡ instant_of (earliest (At (subcycles cycle)) c.control.powered_down_at))
+    (dated : date ≡ instant_of (earliest (Some (subcycles cycle)) c.control.powered_down_at))
     (counted : (bytes : List ℕ) → n ≡ gone date (flight_of a.gone_at bytes c.flight))
     (leaves : Leaves n a.flight c.flight c.tx a.tx flight' tx' left')
     (reads : s ≡ Timing.settings c.control.words c.control.period)

@@ -19,9 +19,9 @@ fn nth_gone(gone_at: &[u64; 129], flight: Cursor, n: usize) -> Date
 {
     if n < flight.count {
         let at = flight.nth(129, n);
-        return Date::At(gone_at[at]);
+        return Some(gone_at[at]);
     }
-    Date::None
+    None
 }
 
 pub fn last_gone(gone_at: &[u64; 129], flight: Cursor) -> Date
@@ -31,7 +31,7 @@ pub fn last_gone(gone_at: &[u64; 129], flight: Cursor) -> Date
     if 0 < flight.count {
         return nth_gone(gone_at, flight, flight.count - 1);
     }
-    Date::None
+    None
 }
 
 // When the transmit FIFO falls below its threshold.
@@ -40,8 +40,8 @@ fn below_threshold_at(gone_at: &[u64; 129], flight: Cursor, below: Below) -> Dat
     ensures { (bytes : List ℕ) → result ≡ gone_below below (flight_of gone_at.now bytes flight) }
 {
     match below {
-        Below::Never => Date::None,
-        Below::After(n) => nth_gone(gone_at, flight, n),
+        None => None,
+        Some(n) => nth_gone(gone_at, flight, n),
     }
 }
 

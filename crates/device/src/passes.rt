@@ -59,8 +59,8 @@ fn starts_later(waits: Date, free: u64, date: u64) -> bool
     ensures { result ≡ starts_later waits free date }
 {
     match waits {
-        Date::None => true,
-        Date::At(run) => date < dates::later(run, free),
+        None => true,
+        Some(run) => date < dates::later(run, free),
     }
 }
 
@@ -69,8 +69,8 @@ fn comes_later(receiving: Receiving, waits: Date, free: u64, date: u64) -> bool
     ensures { result ≡ comes_later receiving waits free date }
 {
     match receiving {
-        Receiving::None => starts_later(waits, free, date),
-        Receiving::OnTheLine(_) => date < free,
+        None => starts_later(waits, free, date),
+        Some(_) => date < free,
     }
 }
 
@@ -79,8 +79,8 @@ fn quiet(since: Date, receiving: Receiving, waits: Date, free: u64, date: u64) -
     ensures { result ≡ Quiet·quiet since receiving waits free date }
 {
     match since {
-        Date::None => comes_later(receiving, waits, free, date),
-        Date::At(_) => false,
+        None => comes_later(receiving, waits, free, date),
+        Some(_) => false,
     }
 }
 

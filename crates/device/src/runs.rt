@@ -15,10 +15,10 @@ pub fn waiting(host: usize, runs: usize, date: u64) -> Date
 {
     if 0 < host {
         if 0 < runs {
-            return Date::At(date);
+            return Some(date);
         }
     }
-    Date::None
+    None
 }
 
 // The date of the last run, in subcycles; 0 where none waits.

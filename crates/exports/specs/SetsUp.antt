@@ -1,8 +1,7 @@
 -- What set-up gives in plain numbers: the definition's new state, within the limits unless it is refused. Assumes nothing.
-use Rattle.std.specs.Prelude.{◌≡◌, refl, List, ℕ, length}
+use Rattle.std.specs.Prelude.{◌≡◌, refl, List, ℕ, length, Ok}
 use Rattle.std.proofs.Common.{sym, subst, ◌∙◌, ap}
 use Rattle.model.specs.SetUp.{new, set_up_reply}
-use Rattle.model.specs.declared.SetUp.{SetUp}
 use Rattle.device.specs.Holds.{Arrays, abs, Valid}
 use Rattle.device.specs.declared.Core.{Core}
 use Rattle.calls.specs.NewCore.{new_core}
@@ -21,7 +20,7 @@ pub record SetsUpPlainly (offsets resets : List ℕ) (core : PlainCore) (reply :
   pub state : (a : Arrays) → abs (core_of core) a ≡ new offsets resets
   -- no other number stands behind a mark that is not set: a refused first call gives these numbers back one by one
   pub plain : core ≡ plain_core (core_of core)
-  pub good : set_up_reply offsets ≡ SetUp.Ready → (a : Arrays) → Slots offsets resets a → Valid (core_of core) a
+  pub good : set_up_reply offsets ≡ (Ok tt) → (a : Arrays) → Slots offsets resets a → Valid (core_of core) a
 
 pub sets-up : (offsets resets : List ℕ) {core : PlainCore} {reply : PlainReply} → length offsets ≡ 16
     → core ≡ plain_core (new_core offsets resets)

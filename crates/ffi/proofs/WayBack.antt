@@ -1,30 +1,30 @@
 -- The way back: a core in plain numbers stands for that core. Assumes nothing.
-use Rattle.std.specs.Prelude.{◌≡◌, refl}
+use Rattle.std.specs.Prelude.{◌≡◌, refl, Some, None}
 use Rattle.std.proofs.Common.{ap, ◌∙◌}
 use Rattle.model.specs.Numbers.{choose}
-use Rattle.model.specs.declared.Date.{Date}
-use Rattle.model.specs.declared.Source.{Source}
-use Rattle.line.specs.declared.Receiving.{Receiving}
+use Rattle.model.specs.Names.{Date, Source}
+use Rattle.model.specs.declared.Unmodelled.{Unmodelled}
+use Rattle.line.specs.Names.{Receiving}
 use Rattle.device.specs.declared.Core.{Core}
 use Rattle.ffi.specs.declared.OnTheLine.{OnTheLine}
 use Rattle.ffi.specs.Plain.{date_of, source_of, receiving_of, core_of, plain_date, plain_source, on_the_line, plain_core}
 
 date-back : (d : Date) → date_of (plain_date d) ≡ d
 unfolding date_of plain_date choose
-date-back Date.None = refl
-date-back (Date.At n) = refl
+date-back None = refl
+date-back (Some n) = refl
 
 source-back : (s : Source) → source_of (plain_source s) ≡ s
 unfolding source_of choose
-source-back Source.None = refl
-source-back Source.Sel0 = refl
-source-back Source.Sel2 = refl
+source-back None = refl
+source-back (Some Unmodelled.Sel0) = refl
+source-back (Some Unmodelled.Sel2) = refl
 
 receiving-back : (r : Receiving) → receiving_of (on_the_line r).on (on_the_line r).timed_on (on_the_line r).heard ≡ r
 unfolding receiving_of on_the_line choose
-receiving-back Receiving.None = refl
-receiving-back (Receiving.OnTheLine f) =
-    ap (λ (s : Source). Receiving.OnTheLine (record { timed_on = s; heard = f.heard })) (source-back f.timed_on)
+receiving-back None = refl
+receiving-back (Some f) =
+    ap (λ (s : Source). Some (record { timed_on = s; heard = f.heard })) (source-back f.timed_on)
 
 -- a core with other values where an enum stands
 abbrev with : Core → Source → Date → Date → Date → Receiving → Core

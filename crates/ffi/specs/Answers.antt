@@ -9,7 +9,7 @@ use Rattle.device.specs.Holds.{Arrays, Valid}
 use Rattle.ffi.specs.Plain.{core_of, plain_core}
 use Rattle.ffi.specs.declared.PlainCore.{PlainCore}
 use Rattle.ffi.specs.Replies.{plain_report}
-use Rattle.model.specs.declared.Row.{Row}
+use Rattle.model.specs.Names.{Row}
 use Rattle.ffi.specs.Replies.{plain_row}
 use Rattle.ffi.specs.declared.results.PlainReply.{PlainReply}
 use Rattle.ffi.specs.declared.results.PlainRow.{PlainRow}

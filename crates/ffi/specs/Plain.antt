@@ -1,11 +1,11 @@
 -- What plain numbers stand for, and a core in plain numbers. Assumes nothing.
-use Rattle.std.specs.Prelude.{Bool, true, false, ℕ, eqb}
+use Rattle.std.specs.Prelude.{Bool, true, false, ℕ, eqb, Some, None}
 use Rattle.model.specs.Numbers.{choose}
-use Rattle.model.specs.declared.Date.{Date}
-use Rattle.model.specs.declared.Source.{Source}
+use Rattle.model.specs.Names.{Date, Source}
+use Rattle.model.specs.declared.Unmodelled.{Unmodelled}
 use Rattle.model.specs.declared.Line.{Line}
 use Rattle.model.specs.declared.Control.{Control}
-use Rattle.line.specs.declared.Receiving.{Receiving}
+use Rattle.line.specs.Names.{Receiving}
 use Rattle.device.specs.declared.Core.{Core}
 use Rattle.ffi.specs.declared.PlainDate.{PlainDate}
 use Rattle.ffi.specs.declared.PlainCore.{PlainCore}
@@ -14,15 +14,15 @@ use Rattle.ffi.specs.declared.OnTheLine.{OnTheLine}
 -- ---- from plain numbers
 
 unfoldable pub date_of : PlainDate → Date
-date_of d = choose d.set (Date.At d.at) Date.None
+date_of d = choose d.set (Some d.at) None
 
 -- one more than an SCLK_SEL; 0, and any number that is no source's, for none
 unfoldable pub source_of : ℕ → Source
-source_of n = choose (eqb n 1) Source.Sel0 (choose (eqb n 3) Source.Sel2 Source.None)
+source_of n = choose (eqb n 1) (Some Unmodelled.Sel0) (choose (eqb n 3) (Some Unmodelled.Sel2) None)
 
 unfoldable pub receiving_of : Bool → ℕ → Bool → Receiving
 receiving_of on source heard =
-    choose on (Receiving.OnTheLine (record { timed_on = source_of source; heard = heard })) Receiving.None
+    choose on (Some (record { timed_on = source_of source; heard = heard })) None
 
 abbrev pub line_of : PlainCore → Line
 line_of p = record {
@@ -60,17 +60,17 @@ core_of p = record {
 -- ---- to plain numbers
 
 unfoldable pub plain_date : Date → PlainDate
-plain_date Date.None = record { set = false; at = 0 }
-plain_date (Date.At n) = record { set = true; at = n }
+plain_date None = record { set = false; at = 0 }
+plain_date (Some n) = record { set = true; at = n }
 
 abbrev pub plain_source : Source → ℕ
-plain_source Source.None = 0
-plain_source Source.Sel0 = 1
-plain_source Source.Sel2 = 3
+plain_source None = 0
+plain_source (Some Unmodelled.Sel0) = 1
+plain_source (Some Unmodelled.Sel2) = 3
 
 unfoldable pub on_the_line : Receiving → OnTheLine
-on_the_line Receiving.None = record { on = false; timed_on = 0; heard = false }
-on_the_line (Receiving.OnTheLine f) = record { on = true; timed_on = plain_source f.timed_on; heard = f.heard }
+on_the_line None = record { on = false; timed_on = 0; heard = false }
+on_the_line (Some f) = record { on = true; timed_on = plain_source f.timed_on; heard = f.heard }
 
 unfoldable pub plain_core : Core → PlainCore
 plain_core c = record {

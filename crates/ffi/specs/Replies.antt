@@ -1,14 +1,9 @@
 -- Replies and reports in plain numbers. Assumes nothing.
-use Rattle.std.specs.Prelude.{Bool, true, false, ℕ}
+use Rattle.std.specs.Prelude.{Bool, true, false, ℕ, Some, None, Ok, Err}
 use Rattle.model.specs.Replies.{number}
 use Rattle.model.specs.declared.Refusal.{Refusal}
 use Rattle.model.specs.declared.Report.{Report}
-use Rattle.model.specs.declared.SetUp.{SetUp}
-use Rattle.model.specs.declared.Read.{Read}
-use Rattle.model.specs.declared.Write.{Write}
-use Rattle.model.specs.declared.Done.{Done}
-use Rattle.model.specs.declared.Taken.{Taken}
-use Rattle.model.specs.declared.Row.{Row}
+use Rattle.model.specs.Names.{SetUp, Read, Write, Done, Taken, Row}
 use Rattle.calls.specs.declared.queries.HasLeft.{HasLeft}
 use Rattle.calls.specs.declared.queries.HostPending.{HostPending}
 use Rattle.ffi.specs.Plain.{plain_date}
@@ -24,30 +19,30 @@ abbrev pub carried_out : Bool → ℕ → PlainReply
 carried_out holds value = record { number = 0; holds = holds; value = value }
 
 unfoldable pub plain_set_up : SetUp → PlainReply
-plain_set_up SetUp.Ready = carried_out true 0
-plain_set_up (SetUp.Refused r) = refused_reply r
+plain_set_up (Ok _) = carried_out true 0
+plain_set_up (Err r) = refused_reply r
 
 unfoldable pub plain_read : Read → PlainReply
-plain_read (Read.Value n) = carried_out true n
-plain_read Read.NoValue = carried_out false 0
-plain_read (Read.Refused r) = refused_reply r
+plain_read (Ok (Some n)) = carried_out true n
+plain_read (Ok None) = carried_out false 0
+plain_read (Err r) = refused_reply r
 
 unfoldable pub plain_write : Write → PlainReply
-plain_write Write.Accepted = carried_out true 0
-plain_write Write.NotAccepted = carried_out false 0
-plain_write (Write.Refused r) = refused_reply r
+plain_write (Ok true) = carried_out true 0
+plain_write (Ok false) = carried_out false 0
+plain_write (Err r) = refused_reply r
 
 unfoldable pub plain_done : Done → PlainReply
-plain_done Done.Done = carried_out true 0
-plain_done (Done.Refused r) = refused_reply r
+plain_done (Ok _) = carried_out true 0
+plain_done (Err r) = refused_reply r
 
 unfoldable pub plain_taken : Taken → PlainReply
-plain_taken (Taken.Bytes n) = carried_out true n
-plain_taken (Taken.Refused r) = refused_reply r
+plain_taken (Ok n) = carried_out true n
+plain_taken (Err r) = refused_reply r
 
 unfoldable pub plain_row : Row → PlainRow
-plain_row (Row.Made m) = record { number = 0; made = m.count; first = m.first; second = m.second }
-plain_row (Row.Refused r) = record { number = number r; made = 0; first = 0; second = 0 }
+plain_row (Ok m) = record { number = 0; made = m.count; first = m.first; second = m.second }
+plain_row (Err r) = record { number = number r; made = 0; first = 0; second = 0 }
 
 -- has_left and host_pending bring their number with them
 abbrev pub plain_left : HasLeft → PlainReply

@@ -56,9 +56,9 @@ fn date_of(date: PlainDate) -> Date
     ensures { result ≡ date_of date }
 {
     if date.set {
-        Date::At(date.at)
+        Some(date.at)
     } else {
-        Date::None
+        None
     }
 }
 
@@ -66,8 +66,8 @@ pub fn plain_date(date: Date) -> PlainDate
     ensures { result ≡ plain_date date }
 {
     match date {
-        Date::None => PlainDate { set: false, at: 0 },
-        Date::At(at) => PlainDate { set: true, at },
+        None => PlainDate { set: false, at: 0 },
+        Some(at) => PlainDate { set: true, at },
     }
 }
 
@@ -75,21 +75,21 @@ fn source_of(code: u32) -> Source
     ensures { result ≡ source_of code }
 {
     if code == 1 {
-        return Source::Sel0;
+        return Some(Unmodelled::Sel0);
     }
     if code == 3 {
-        return Source::Sel2;
+        return Some(Unmodelled::Sel2);
     }
-    Source::None
+    None
 }
 
 fn plain_source(source: Source) -> u32
     ensures { result ≡ plain_source source }
 {
     match source {
-        Source::None => 0,
-        Source::Sel0 => 1,
-        Source::Sel2 => 3,
+        None => 0,
+        Some(Unmodelled::Sel0) => 1,
+        Some(Unmodelled::Sel2) => 3,
     }
 }
 
@@ -98,12 +98,12 @@ fn receiving_of(on_the_line: bool, timed_on: u32, heard: bool) -> Receiving
 {
     if on_the_line {
         let source = source_of(timed_on);
-        Receiving::OnTheLine(Frame {
+        Some(Frame {
             timed_on: source,
             heard,
         })
     } else {
-        Receiving::None
+        None
     }
 }
 
@@ -119,12 +119,12 @@ fn on_the_line(receiving: Receiving) -> OnTheLine
     ensures { result ≡ on_the_line receiving }
 {
     match receiving {
-        Receiving::None => OnTheLine {
+        None => OnTheLine {
             on: false,
             timed_on: 0,
             heard: false,
         },
-        Receiving::OnTheLine(frame) => {
+        Some(frame) => {
             let source = frame.timed_on;
             OnTheLine {
                 on: true,

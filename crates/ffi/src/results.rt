@@ -72,8 +72,8 @@ pub fn set_up_reply(reply: SetUp) -> PlainReply
     ensures { result ≡ plain_set_up reply }
 {
     match reply {
-        SetUp::Ready => carried_out(true, 0),
-        SetUp::Refused(refusal) => refusal_reply(refusal),
+        Ok(()) => carried_out(true, 0),
+        Err(refusal) => refusal_reply(refusal),
     }
 }
 
@@ -81,9 +81,9 @@ pub fn read_reply(reply: Read) -> PlainReply
     ensures { result ≡ plain_read reply }
 {
     match reply {
-        Read::Value(value) => carried_out(true, value as u64),
-        Read::NoValue => carried_out(false, 0),
-        Read::Refused(refusal) => refusal_reply(refusal),
+        Ok(Some(value)) => carried_out(true, value as u64),
+        Ok(None) => carried_out(false, 0),
+        Err(refusal) => refusal_reply(refusal),
     }
 }
 
@@ -91,9 +91,9 @@ pub fn write_reply(reply: Write) -> PlainReply
     ensures { result ≡ plain_write reply }
 {
     match reply {
-        Write::Accepted => carried_out(true, 0),
-        Write::NotAccepted => carried_out(false, 0),
-        Write::Refused(refusal) => refusal_reply(refusal),
+        Ok(true) => carried_out(true, 0),
+        Ok(false) => carried_out(false, 0),
+        Err(refusal) => refusal_reply(refusal),
     }
 }
 
@@ -101,8 +101,8 @@ pub fn done_reply(reply: Done) -> PlainReply
     ensures { result ≡ plain_done reply }
 {
     match reply {
-        Done::Done => carried_out(true, 0),
-        Done::Refused(refusal) => refusal_reply(refusal),
+        Ok(()) => carried_out(true, 0),
+        Err(refusal) => refusal_reply(refusal),
     }
 }
 
@@ -110,8 +110,8 @@ pub fn taken_reply(reply: Taken) -> PlainReply
     ensures { result ≡ plain_taken reply }
 {
     match reply {
-        Taken::Bytes(count) => carried_out(true, count as u64),
-        Taken::Refused(refusal) => refusal_reply(refusal),
+        Ok(count) => carried_out(true, count as u64),
+        Err(refusal) => refusal_reply(refusal),
     }
 }
 
@@ -119,13 +119,13 @@ pub fn row_reply(reply: Row) -> PlainRow
     ensures { result ≡ plain_row reply }
 {
     match reply {
-        Row::Made(made) => PlainRow {
+        Ok(made) => PlainRow {
             number: 0,
             made: made.count as u64,
             first: made.first,
             second: made.second,
         },
-        Row::Refused(refusal) => PlainRow {
+        Err(refusal) => PlainRow {
             number: number_of(refusal),
             made: 0,
             first: 0,

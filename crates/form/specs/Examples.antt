@@ -1,5 +1,5 @@
 -- Forms and bytes that are none, computed. Assumes nothing.
-use Rattle.std.specs.Prelude.{◌≡◌, refl, ℕ, ◌*◌, ◌<◌, true, false}
+use Rattle.std.specs.Prelude.{◌≡◌, refl, ℕ, ◌*◌, ◌<◌, true, false, Some, None}
 use Rattle.std.proofs.Common.{arith}
 use Rattle.std.proofs.Math.Option.{some}
 use mathlib.Core.List.{List, [], ◌∷◌, ◌++◌, flat_map}
@@ -15,8 +15,6 @@ use Rattle.form.specs.Form.{map_fields, word_fields, date_and_mark_fields, run_f
 use Rattle.form.specs.Read.{value_of, number_at, numbers_in, parts_from, map_in, dates_in, sent_in, runs_from, state_with, state_in}
 use Rattle.form.specs.Tests.{chained, every, all_pass, limits, is_within}
 use Rattle.form.specs.Load.{pairs_lie, lies, same_bytes, is_form, loaded, refused, load}
-use Rattle.model.specs.declared.Date.TheVariants.{None, At}
-use Rattle.model.specs.declared.Source.{Source}
 use Rattle.model.specs.declared.Words.{Words}
 use Rattle.form.specs.declared.NotLoaded.TheVariants.{Layout, NoState}
 
@@ -110,10 +108,10 @@ lunch = record {
   };
   control = record {
     words = lunch_words;
-    line = record { int_raw = 2; rx_mistimed = Source.None; idle_since = None; line_free_at = 520 * 32 };
+    line = record { int_raw = 2; rx_mistimed = None; idle_since = None; line_free_at = 520 * 32 };
     period = 8;
     last = 110;
-    wake = At 520;
+    wake = Some 520;
     watched = false;
     powered_down_at = None;
     level = false;
@@ -122,7 +120,7 @@ lunch = record {
   tx = [];
   host = 0x66 ∷ [];
   host_runs = record { date = 100 * 32; count = 1 } ∷ [];
-  receiving = some (record { byte = 0x55; frame = record { timed_on = Source.None; heard = true } });
+  receiving = some (record { byte = 0x55; frame = record { timed_on = None; heard = true } });
   rx = [];
 }
 

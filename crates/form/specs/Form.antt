@@ -1,6 +1,6 @@
 -- The form of a state: seven parts, and before them how many they are and where each lies. One state has one form: where a ring
 -- starts, what an unused slot holds and what stands behind an absent value are no bytes of it. Assumes nothing.
-use Rattle.std.specs.Prelude.{ℕ, ◌+◌, Bool, true, false, length}
+use Rattle.std.specs.Prelude.{ℕ, ◌+◌, Bool, true, false, length, Some, None}
 use Rattle.std.proofs.Math.Option.{Option, none, some}
 use mathlib.Core.List.{List, [], ◌∷◌, ◌++◌, map, flat_map}
 use Rattle.model.specs.Numbers.{choose, instant_of}
@@ -8,9 +8,8 @@ use Rattle.model.specs.State.{Run, OnTheLine, Uart, line_of, line_bytes}
 use Rattle.model.specs.Limits.{flight_dates}
 use Rattle.model.specs.Calls.{written}
 use Rattle.form.specs.Cells.{Cell, Field, numbers}
-use Rattle.model.specs.declared.Date.{Date}
-use Rattle.model.specs.declared.Date.TheVariants.{None, At}
-use Rattle.model.specs.declared.Source.{Source}
+use Rattle.model.specs.Names.{Date, Source}
+use Rattle.model.specs.declared.Unmodelled.{Unmodelled}
 use Rattle.model.specs.declared.Words.{Words}
 use Rattle.model.specs.declared.RegisterMap.{RegisterMap}
 
@@ -37,13 +36,13 @@ mark_of true = 1
 -- a date that may be missing is a mark, 0 for none and 1 for a date, and the date, 0 where none is
 abbrev pub date_mark : Date → ℕ
 date_mark None = 0
-date_mark (At d) = 1
+date_mark (Some d) = 1
 
 -- 0 for none, else one more than the SCLK_SEL
 abbrev pub source_number : Source → ℕ
-source_number Source.None = 0
-source_number Source.Sel0 = 1
-source_number Source.Sel2 = 3
+source_number None = 0
+source_number (Some Unmodelled.Sel0) = 1
+source_number (Some Unmodelled.Sel2) = 3
 
 -- the byte on the line: 0 for none, 1 where its start was not heard, 2 where it was
 abbrev pub frame_mark : {H : Type 0} → Option (OnTheLine H) → ℕ

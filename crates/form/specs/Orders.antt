@@ -1,5 +1,5 @@
 -- What is asked of a UART that may be parked: calls and rows, saves and loads; and whole lists of them. Assumes nothing.
-use Rattle.std.specs.Prelude.{ℕ, List, [], ◌∷◌, ◌++◌, get_or}
+use Rattle.std.specs.Prelude.{ℕ, List, [], ◌∷◌, ◌++◌, get_or, Ok, Err}
 use Rattle.std.proofs.Math.Option.{Option, none, some}
 use Rattle.model.specs.State.{Uart}
 use Rattle.model.specs.Replies.{Take}
@@ -8,7 +8,7 @@ use Rattle.model.specs.Run.{Step, asked}
 use Rattle.form.specs.Cells.{Cell, bytes_of}
 use Rattle.form.specs.Form.{form}
 use Rattle.form.specs.Load.{Loading, loaded, refused, load, saved}
-use Rattle.model.specs.declared.Taken.{Taken}
+use Rattle.model.specs.Names.{Taken}
 use Rattle.form.specs.declared.NotLoaded.{NotLoaded}
 
 -- A is a call or a row, L what a lent buffer holds, F what is loaded
@@ -34,8 +34,8 @@ pub record OrderStep (H W L S : Type 0) : Type 0 where
 
 -- a refused save takes no number
 unfoldable pub kept_by : {S : Type 0} → Taken → S → List S → List S
-kept_by (Taken.Bytes n) s kept = kept ++ (s ∷ [])
-kept_by (Taken.Refused r) s kept = kept
+kept_by (Ok n) s kept = kept ++ (s ∷ [])
+kept_by (Err r) s kept = kept
 
 -- a refused load leaves the UART in place
 unfoldable pub loading : {H W L S : Type 0} → Loading H W → WithSaves H W S → OrderStep H W L S

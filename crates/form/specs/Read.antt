@@ -1,12 +1,11 @@
 -- How bytes are read back as a state: each field at its place. That the bytes are a form is tested apart from it (Load), so any
 -- bytes give some state here. Assumes nothing.
-use Rattle.std.specs.Prelude.{ℕ, zero, suc, ◌+◌, ◌-◌, ◌*◌, ◌/◌, List, [], ◌∷◌, ◌++◌, eqb, length, get_or, take, drop, replicate}
+use Rattle.std.specs.Prelude.{ℕ, zero, suc, ◌+◌, ◌-◌, ◌*◌, ◌/◌, List, [], ◌∷◌, ◌++◌, eqb, length, get_or, take, drop, replicate, Some, None}
 use Rattle.std.proofs.Math.Option.{Option, none, some}
 use Rattle.model.specs.Numbers.{choose}
 use Rattle.model.specs.State.{Sent, Run, OnTheLine, Uart}
-use Rattle.model.specs.declared.Date.{Date}
-use Rattle.model.specs.declared.Date.TheVariants.{None, At}
-use Rattle.model.specs.declared.Source.{Source}
+use Rattle.model.specs.Names.{Date, Source}
+use Rattle.model.specs.declared.Unmodelled.{Unmodelled}
 use Rattle.model.specs.declared.Words.{Words}
 use Rattle.model.specs.declared.RegisterMap.{RegisterMap}
 use Rattle.model.specs.declared.Control.{Control}
@@ -74,10 +73,10 @@ unfoldable pub map_in : List ℕ → RegisterMap
 map_in p = map_with (take 16 (numbers_in (replicate 27 4) p)) (drop 16 (numbers_in (replicate 27 4) p))
 
 abbrev pub date_in : ℕ → ℕ → Date
-date_in mark d = choose (eqb mark 0) None (At d)
+date_in mark d = choose (eqb mark 0) None (Some d)
 
 abbrev pub source_in : ℕ → Source
-source_in n = choose (eqb n 1) Source.Sel0 (choose (eqb n 3) Source.Sel2 Source.None)
+source_in n = choose (eqb n 1) (Some Unmodelled.Sel0) (choose (eqb n 3) (Some Unmodelled.Sel2) None)
 
 -- the widths of the dates and marks that are always there
 abbrev pub fixed_widths : List ℕ

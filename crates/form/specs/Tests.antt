@@ -1,6 +1,6 @@
 -- Whether a state is within the limits, as a test. That it passes exactly where Within, Limits, holds is proved (Laws/Within). Assumes
 -- nothing.
-use Rattle.std.specs.Prelude.{ℕ, ◌+◌, Bool, true, false, ◌&&◌, ◌||◌, not, List, [], ◌∷◌, leb, ltb, eqb, length}
+use Rattle.std.specs.Prelude.{ℕ, ◌+◌, Bool, true, false, ◌&&◌, ◌||◌, not, List, [], ◌∷◌, leb, ltb, eqb, length, Some, None}
 use Rattle.std.proofs.Math.Option.{Option, none, some}
 use Rattle.std.specs.Int.Bits.{bit_and}
 use Rattle.model.specs.Events.{total}
@@ -9,8 +9,7 @@ use Rattle.model.specs.Line.{fifo_bytes}
 use Rattle.model.specs.Tests.{repeated, date_end, sent_limit, host_limit, runs_limit, period_limit}
 use Rattle.model.specs.SetUp.{fifo_counts}
 use Rattle.model.specs.Limits.{flight_dates, run_dates, run_counts}
-use Rattle.model.specs.declared.Date.{Date}
-use Rattle.model.specs.declared.Date.TheVariants.{None, At}
+use Rattle.model.specs.Names.{Date}
 
 -- each passes the test with the next
 unfoldable pub chained : (ℕ → ℕ → Bool) → List ℕ → Bool
@@ -24,11 +23,11 @@ every p (n ∷ ns) = p n && every p ns
 
 abbrev pub no_later : ℕ → Date → Bool
 no_later n None = true
-no_later n (At d) = leb d n
+no_later n (Some d) = leb d n
 
 abbrev pub is_none : Date → Bool
 is_none None = true
-is_none (At d) = false
+is_none (Some d) = false
 
 -- no idle line is open beside a heard byte on the line
 abbrev pub closed : {H : Type 0} → Option (OnTheLine H) → Date → Bool

@@ -1,5 +1,5 @@
 -- Host bytes handed over: what the tests leave of room, and the state once they wait. Assumes nothing.
-use Rattle.std.specs.Prelude.{◌≡◌, refl, false, List, [], ◌∷◌, ◌++◌, ℕ, ◌+◌, ◌-◌, ◌≤◌, ◌<◌, take, get_or}
+use Rattle.std.specs.Prelude.{◌≡◌, refl, false, List, [], ◌∷◌, ◌++◌, ℕ, ◌+◌, ◌-◌, ◌≤◌, ◌<◌, take, get_or, Err}
 use Rattle.std.proofs.Common.{sym, ap, ◌∙◌}
 use Rattle.std.proofs.Math.Path.{subst}
 use Rattle.std.proofs.Math.Logic.{⊎_elim}
@@ -18,7 +18,6 @@ use Rattle.model.specs.Events.{total}
 use Rattle.model.specs.Limits.{run_counts}
 use Rattle.model.proofs.Keeps.Kept.{Kept, settle-keeps, fewer-waiting, fewer-runs, last-run}
 use Rattle.model.proofs.Keeps.EachCall.{room-before}
-use Rattle.model.specs.declared.Done.{Done}
 use Rattle.model.specs.declared.Refusal.{Refusal}
 use Rattle.replies.specs.Refusals.{receiving}
 use Rattle.replies.specs.Calls.{receive-tests}
@@ -145,10 +144,10 @@ module _ (cycle at : ℕ) (bs : List ℕ) {c : Core} {a : Arrays} (ok : Valid c 
       receiving cycle c.control.last (record { bytes = c.host.count; runs = c.runs.count; last_date = last }) (length bs) date
 
   pub receive-checks : dated_call cycle (Calls.receive cycle at bs) (abs c a)
-      ≡ unless checked Done.Refused (carried (some cycle) (Calls.receive cycle at bs (abs c a))) (abs c a)
+      ≡ unless checked Err (carried (some cycle) (Calls.receive cycle at bs (abs c a))) (abs c a)
   receive-checks =
       receive-tests cycle (abs c a) at bs
-      ∙ ap (λ (t : Option Refusal). unless t Done.Refused (carried (some cycle) (Calls.receive cycle at bs (abs c a))) (abs c a))
+      ∙ ap (λ (t : Option Refusal). unless t Err (carried (some cycle) (Calls.receive cycle at bs (abs c a))) (abs c a))
       (sym (tested cycle at bs c a el ed))
 
   pub left-room : checked ≡ none → Valid c a × (cycle < date_end) × Room c a (host_date cycle at) (length bs)

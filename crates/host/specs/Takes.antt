@@ -1,5 +1,5 @@
 -- The contract of a call that fills a lent buffer: its answer, and every byte of the buffer. Assumes nothing.
-use Rattle.std.specs.Prelude.{◌≡◌, List, [], map}
+use Rattle.std.specs.Prelude.{◌≡◌, List, [], map, Ok, Err}
 use Rattle.std.proofs.Math.Path.{sym, ap, subst}
 use Rattle.std.proofs.Common.{◌∙◌, arith}
 use Rattle.std.proofs.Math.Option.{Option, none, some}
@@ -10,7 +10,7 @@ use Rattle.model.specs.Calls.{Outcome, refusing, unless, not_taken}
 use Rattle.model.specs.Limits.{Within}
 use Rattle.model.specs.declared.Refusal.{Refusal}
 use Rattle.model.specs.declared.Report.{Report}
-use Rattle.model.specs.declared.Taken.{Taken}
+use Rattle.model.specs.Names.{Taken}
 use Rattle.replies.specs.Notices.{noted}
 use Rattle.queue.specs.Cursors.{Held, empty}
 use Rattle.queue.specs.Laws.{empty-held}
@@ -53,13 +53,13 @@ emptied-shape c a flight f k = let tx = empty-held 1152 (omega arith) in search
 -- ---- the structs
 
 abbrev pub taken_core : Core → ℕ → ℕ → ℕ → TakeCore
-taken_core c n passes overflows = record { core = c; reply = Taken.Bytes n; report = report_of c passes overflows (noted []) }
+taken_core c n passes overflows = record { core = c; reply = Ok n; report = report_of c passes overflows (noted []) }
 
 abbrev pub undated_core : Core → ℕ → TakeCore
-undated_core c n = record { core = c; reply = Taken.Bytes n; report = no_report }
+undated_core c n = record { core = c; reply = Ok n; report = no_report }
 
 abbrev pub refused_take : Core → Refusal → TakeCore
-refused_take c q = record { core = c; reply = Taken.Refused q; report = no_report }
+refused_take c q = record { core = c; reply = Err q; report = no_report }
 
 -- ---- refused, or carried out
 

@@ -1,5 +1,5 @@
 -- take_tx's work: settled, and the bytes that left handed out. Assumes nothing.
-use Rattle.std.specs.Prelude.{◌≡◌, refl, List, [], ◌++◌, ℕ, length, drop}
+use Rattle.std.specs.Prelude.{◌≡◌, refl, List, [], ◌++◌, ℕ, length, drop, Ok}
 use Rattle.std.proofs.Common.{sym, ap, subst, ◌∙◌}
 use Rattle.model.specs.State
 use Rattle.model.specs.Setters.{with_tx}
@@ -7,7 +7,6 @@ use Rattle.model.specs.Settle
 use Rattle.model.specs.Replies.{contents, taken_number}
 use Rattle.model.specs.Calls.{after_settling, carried, quiet, filled, take_tx}
 use Rattle.model.specs.Plans.{settle_at}
-use Rattle.model.specs.declared.Taken.{Taken}
 use Rattle.replies.specs.Notices.{noted}
 use Rattle.queue.specs.Cursors.{slot_of, empty}
 use Rattle.queue.specs.Laws.{elems-length, empty-elems}
@@ -40,17 +39,17 @@ emptied_tx c = with_tx_of empty c
 -- settled, and what left handed out
 took-tx : (lent : List ℕ) {t : Settle.Settled ℕ ℕ} {c : Core} {a : Arrays} {n o k : ℕ} {out : List ℕ} → Settles t c a n o → k ≡ c.tx.count
     → out ≡ tx_of a.tx c.tx ++ drop c.tx.count lent
-    → TakeWorks (after_settling t (λ s. quiet (filled s.tx lent) (with_tx [] s))) (emptied_tx c) a (Taken.Bytes k)
+    → TakeWorks (after_settling t (λ s. quiet (filled s.tx lent) (with_tx [] s))) (emptied_tx c) a (Ok k)
     (report_of (emptied_tx c) n o (noted [])) out
 unfolding quiet filled contents after_settling
 took-tx lent {t} {c} {a} {n} {o} {k} {out} s e whole =
     let left : length (tx_of a.tx c.tx) ≡ c.tx.count = elems-length (slot_of a.tx 0) 1152 c.tx in
-    let works : Works (λ x. x.taken) (after_settling t (λ s. quiet (filled s.tx lent) (with_tx [] s))) (emptied_tx c) a (Taken.Bytes k)
+    let works : Works (λ x. x.taken) (after_settling t (λ s. quiet (filled s.tx lent) (with_tx [] s))) (emptied_tx c) a (Ok k)
     (report_of (emptied_tx c) n o (noted [])) =
     after (λ x. x.taken) s (λ s. quiet (filled s.tx lent) (with_tx [] s))
     (record {
       shape = emptied-shape c a c.flight s.ok.shape.flight s.ok.shape;
-      replies = ap Taken.Bytes (e ∙ sym left);
+      replies = ap Ok (e ∙ sym left);
       notes = refl;
       state = ap (λ (l : List ℕ). with_tx l (abs c a)) (empty-elems (slot_of a.tx 0) 1152);
     })

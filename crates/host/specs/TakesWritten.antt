@@ -1,12 +1,11 @@
 -- take_written's work: the bytes that left and those in flight handed out, without settling. Assumes nothing.
-use Rattle.std.specs.Prelude.{◌≡◌, refl, List, ◌++◌, map, ℕ, ◌+◌, ◌≤◌, length, drop}
+use Rattle.std.specs.Prelude.{◌≡◌, refl, List, ◌++◌, map, ℕ, ◌+◌, ◌≤◌, length, drop, Ok}
 use Rattle.std.proofs.Common.{sym, ap, ◌∙◌, append_assoc, arith, length-append}
 use Rattle.std.proofs.Math.Option.{none}
 use Rattle.model.specs.State.{Sent}
 use Rattle.model.specs.Replies.{no_report, contents}
 use Rattle.model.specs.Tests.{sent_limit}
 use Rattle.model.specs.Calls.{carried, quiet, filled, written, take_written}
-use Rattle.model.specs.declared.Taken.{Taken}
 use Rattle.queue.specs.Cursors.{slot_of, elems, empty}
 use Rattle.queue.specs.Laws.{elems-length, map-elems, empty-held, empty-elems}
 use Rattle.device.specs.Holds.{Arrays, sent_at, tx_of, abs, Shape, Valid}
@@ -45,7 +44,7 @@ emptied_all c = record {
 
 -- all that was written, handed out without settling
 pub took-written : (lent : List ℕ) (c : Core) (a : Arrays) {k : ℕ} {out : List ℕ} → Shape c a → Filled c a.flight a.tx lent k out
-    → TakeWorks (carried none (take_written lent (abs c a)) (abs c a)) (emptied_all c) a (Taken.Bytes k) no_report out
+    → TakeWorks (carried none (take_written lent (abs c a)) (abs c a)) (emptied_all c) a (Ok k) no_report out
 unfolding carried take_written quiet filled written contents
 took-written lent c a {k} {out} s f =
     let bytes : map (λ (x : Sent ℕ). x.byte) (abs c a).in_flight ≡ elems (slot_of a.flight 0) 129 c.flight =
@@ -56,7 +55,7 @@ took-written lent c a {k} {out} s f =
     in (
       record {
         shape = emptied-shape c a empty (empty-held 129 (omega arith)) s;
-        replies = ap Taken.Bytes (sym all);
+        replies = ap Ok (sym all);
         reports = refl;
         state = rw (empty-elems (slot_of a.tx 0) 1152, empty-elems (sent_at a.gone_at a.flight) 129);
       },

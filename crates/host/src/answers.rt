@@ -24,7 +24,7 @@ pub fn done(core: Core, count: usize, passes: u64, overflows: u64) -> TakeCore
     let report = report::report(control.level, wake, overflows, passes, none);
     TakeCore {
         core,
-        reply: Taken::Bytes(count),
+        reply: Ok(count),
         report,
     }
 }
@@ -36,7 +36,7 @@ pub fn undated(core: Core, count: usize) -> TakeCore
     let none = report::no_report();
     TakeCore {
         core,
-        reply: Taken::Bytes(count),
+        reply: Ok(count),
         report: none,
     }
 }
@@ -47,7 +47,7 @@ pub fn refuse(core: Core, refusal: Refusal) -> TakeCore
     let report = report::no_report();
     TakeCore {
         core,
-        reply: Taken::Refused(refusal),
+        reply: Err(refusal),
         report,
     }
 }

@@ -111,8 +111,8 @@ pub fn receive<'a, 'b>(
     let date = host_date(cycle, at);
     let tests = replies::refusals::receive_refusal(cycle, control.last, waiting, bytes.len(), date);
     match tests {
-        Verdict::Refused(refusal) => answers::refuse(core, refusal),
-        Verdict::Passed => carry_out(
+        Err(refusal) => answers::refuse(core, refusal),
+        Ok(()) => carry_out(
             core, gone_at, flight, tx, host, run_at, run_len, rx, cycle, at, bytes,
         ),
     }

@@ -62,8 +62,8 @@ pub fn take_tx<'a, 'b>(
     let control = core.control;
     let tests = replies::refusals::take_refusal(cycle, control.last, out.len());
     match tests {
-        Verdict::Refused(refusal) => answers::refuse(core, refusal),
-        Verdict::Passed => carry_out(
+        Err(refusal) => answers::refuse(core, refusal),
+        Ok(()) => carry_out(
             core, gone_at, flight, tx, host, run_at, run_len, rx, cycle, out,
         ),
     }

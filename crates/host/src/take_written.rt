@@ -45,8 +45,8 @@ pub fn take_written<'a>(
 {
     let tests = replies::refusals::written_refusal(out.len());
     match tests {
-        Verdict::Refused(refusal) => answers::refuse(core, refusal),
-        Verdict::Passed => {
+        Err(refusal) => answers::refuse(core, refusal),
+        Ok(()) => {
             let count = fill(core, flight, tx, out);
             let mut rest = core;
             rest.flight = Cursor::new();

@@ -1,5 +1,5 @@
 -- The bytes follow: a pass of the definition is what `move` decides, carried out on the bytes. Assumes nothing.
-use Rattle.std.specs.Prelude.{◌≡◌, ℕ, Bool, true, false, length, take, drop}
+use Rattle.std.specs.Prelude.{◌≡◌, ℕ, Bool, true, false, length, take, drop, Some, None}
 use Rattle.std.proofs.Math.Path.{refl}
 use Rattle.std.proofs.Math.Option.{Option, none, some}
 use mathlib.Core.List.{List, [], ◌∷◌, ◌++◌}
@@ -9,27 +9,27 @@ use Rattle.model.specs.Setters.{with_rx, with_receiving, with_host, with_line_of
 use Rattle.model.specs.Line.{frame, fate}
 use Rattle.model.specs.Settle
 use Rattle.model.specs.Settle.{pop_run, received, nothing_due, timed_out, landed, begun, pass_on, pass}
-use Rattle.model.specs.declared.Date.{Date}
+use Rattle.model.specs.Names.{Date}
 use Rattle.model.specs.declared.Settings.{Settings}
 use Rattle.model.specs.declared.Fate.{Fate}
 use Rattle.model.specs.declared.Fate.TheVariants.{Stored, Overflowed, Cleared, ClockOff, Unheard}
 use Rattle.line.specs.declared.Found.{Found}
 use Rattle.line.specs.declared.Found.TheVariants.{NothingDue, TimedOut, Landed}
 use Rattle.line.specs.Seen.{found_of, Seen, seen}
-use Rattle.line.specs.declared.Receiving.{Receiving}
+use Rattle.line.specs.Names.{Receiving}
 use Rattle.line.specs.declared.Move.{Move}
 use Rattle.line.specs.Moves.{resting, timing_out, landing, in_frame, before_start, idle, line_free, move}
 
 -- the date of the first run, if a host byte waits
 unfoldable pub waiting : {H : Type 0} → List Run → List H → Date
-waiting [] bs = Date.None
-waiting (r ∷ rs) [] = Date.None
-waiting (r ∷ rs) (b ∷ bs) = Date.At r.date
+waiting [] bs = None
+waiting (r ∷ rs) [] = None
+waiting (r ∷ rs) (b ∷ bs) = Some r.date
 
 -- what is on the line, without its byte, and the byte
 unfoldable pub mark : {H : Type 0} → Option (OnTheLine H) → Receiving
-mark none = Receiving.None
-mark (some l) = Receiving.OnTheLine l.frame
+mark none = None
+mark (some l) = Some l.frame
 
 unfoldable pub line_byte : {H : Type 0} → Option (OnTheLine H) → List H
 line_byte none = []
@@ -41,9 +41,9 @@ subject true host l = take 1 host
 subject false host l = line_byte l
 
 unfoldable pub marked : {H : Type 0} → Receiving → List H → Option (OnTheLine H)
-marked Receiving.None bs = none
-marked (Receiving.OnTheLine f) [] = none
-marked (Receiving.OnTheLine f) (b ∷ bs) = some (record { byte = b; frame = f })
+marked None bs = none
+marked (Some f) [] = none
+marked (Some f) (b ∷ bs) = some (record { byte = b; frame = f })
 
 abbrev pub is_stored : Found → Bool
 is_stored NothingDue = false

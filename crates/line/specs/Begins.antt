@@ -1,6 +1,6 @@
 -- A pass in two steps: a start that is due comes, and then what is on the line is looked at. It is the same move, and a frame
 -- stands in one place of the code. Assumes nothing.
-use Rattle.std.specs.Prelude.{◌≡◌, ℕ, ◌<◌, ◌≤◌, Bool, ltb}
+use Rattle.std.specs.Prelude.{◌≡◌, ℕ, ◌<◌, ◌≤◌, Bool, ltb, Some, None}
 use Rattle.std.proofs.Math.Path.{refl}
 use Rattle.std.proofs.Common.{ap, sym, ◌∙◌}
 use native.Mathlib.Omega.{arith}
@@ -9,10 +9,10 @@ use borrow.Author.Tests.{ltb-true, ltb-false, leb-true, le-leb}
 use Rattle.dates.specs.Dates.{later, earlier}
 use Rattle.model.specs.Numbers.{choose, due_by}
 use Rattle.model.specs.Line.{timeout_at, frame, start}
-use Rattle.model.specs.declared.Date.{Date}
+use Rattle.model.specs.Names.{Date}
 use Rattle.model.specs.declared.Line.{Line}
 use Rattle.model.specs.declared.Settings.{Settings}
-use Rattle.line.specs.declared.Receiving.{Receiving}
+use Rattle.line.specs.Names.{Receiving}
 use Rattle.line.specs.declared.Move.{Move}
 use Rattle.line.specs.declared.pass.FrameStart.{FrameStart}
 use Rattle.line.specs.Moves
@@ -26,27 +26,27 @@ module _ (s : Settings) (date : ℕ) where
   -- a host byte waits for its start: it comes unless it is dated later, or a timeout is due by it
   unfoldable pub started : ℕ → Line → FrameStart
   started at l =
-      choose (ltb date at) (kept Receiving.None l)
-      (choose (due_by at (timeout_at s l)) (kept Receiving.None l)
-      (record { receiving = Receiving.OnTheLine (frame s); started = true; line = start s at l }))
+      choose (ltb date at) (kept None l)
+      (choose (due_by at (timeout_at s l)) (kept None l)
+      (record { receiving = Some (frame s); started = true; line = start s at l }))
 
   unfoldable pub line_free : Date → Line → FrameStart
-  line_free Date.None l = kept Receiving.None l
-  line_free (Date.At run) l = started (later run l.line_free_at) l
+  line_free None l = kept None l
+  line_free (Some run) l = started (later run l.line_free_at) l
 
   unfoldable pub begun : Date → Receiving → Line → FrameStart
-  begun waiting Receiving.None l = line_free waiting l
-  begun waiting (Receiving.OnTheLine f) l = kept (Receiving.OnTheLine f) l
+  begun waiting None l = line_free waiting l
+  begun waiting (Some f) l = kept (Some f) l
 
   -- what the pass does then
   unfoldable pub move_on : ℕ → FrameStart → Receiving → Move
-  move_on held b Receiving.None = idle s held date b.line
-  move_on held b (Receiving.OnTheLine f) = in_frame s held date b.started f b.line
+  move_on held b None = idle s held date b.line
+  move_on held b (Some f) = in_frame s held date b.started f b.line
 
   due-later : (at : ℕ) (d : Date) → at ≤ date → due_by at d ≡ true → due_by date d ≡ true
   unfolding due_by
-  due-later at Date.None le h = h
-  due-later at (Date.At t) le h = let b : t ≤ at = leb-true t at h in le-leb t date (omega arith)
+  due-later at None le h = h
+  due-later at (Some t) le h = let b : t ≤ at = leb-true t at h in le-leb t date (omega arith)
 
   module _ (held at : ℕ) (l : Line) where
     -- by the test on the dates, and then by that on the timeout
@@ -76,15 +76,15 @@ module _ (s : Settings) (date : ℕ) where
   free_law : (held : ℕ) (waiting : Date) (l : Line)
       → move_on held (line_free waiting l) (line_free waiting l).receiving ≡ Moves.line_free s held date waiting l
   unfolding move_on line_free Moves.line_free
-  free_law held Date.None l = refl
-  free_law held (Date.At run) l = by-date held (later run l.line_free_at) l (ltb date (later run l.line_free_at)) refl
+  free_law held None l = refl
+  free_law held (Some run) l = by-date held (later run l.line_free_at) l (ltb date (later run l.line_free_at)) refl
 
   -- the two steps are the move
   pub begun-law : (held : ℕ) (waiting : Date) (r : Receiving) (l : Line)
       → move_on held (begun waiting r l) (begun waiting r l).receiving ≡ move s held date waiting r l
   unfolding begun move move_on
-  begun-law held waiting Receiving.None l = free_law held waiting l
-  begun-law held waiting (Receiving.OnTheLine f) l = refl
+  begun-law held waiting None l = free_law held waiting l
+  begun-law held waiting (Some f) l = refl
 
   -- the same, as the code comes to it
   pub moved : (held : ℕ) (waiting : Date) (r : Receiving) (l : Line) {x : Receiving} {b : FrameStart} {m : Move} → b ≡ begun waiting r l

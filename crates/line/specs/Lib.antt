@@ -1,3 +1,4 @@
+pub mod Names
 pub mod Levels
 pub mod Moves
 pub mod Seen

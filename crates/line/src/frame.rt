@@ -1,6 +1,6 @@
 // A frame on the line: how it starts, what becomes of its byte, and what its landing does. Dates in subcycles.
 
-ghost use Rattle.std.specs.Prelude.{◌≡◌};
+ghost use Rattle.std.specs.Prelude.{◌≡◌, None};
 ghost use Rattle.model.specs.Line.{note_source, frame as Line·frame, start as Line·start};
 ghost use Rattle.model.specs.Line.{fate as Line·fate, opened as Line·opened, land as Line·land};
 ghost use Rattle.model.specs.Numbers.{choose};
@@ -23,11 +23,11 @@ pub fn frame(settings: Settings) -> Frame
 
 // A start bit that is heard closes the idle line.
 fn hear(settings: Settings, line: Line) -> Line
-    ensures { result ≡ choose settings.rx_sclk_en (note_source settings.source (with_idle_since Date.None line)) line }
+    ensures { result ≡ choose settings.rx_sclk_en (note_source settings.source (with_idle_since None line)) line }
 {
     let source = settings.source;
     if settings.rx_sclk_en {
-        marks::note_source(source, marks::with_idle_since(Date::None, line))
+        marks::note_source(source, marks::with_idle_since(None, line))
     } else {
         line
     }
@@ -70,7 +70,7 @@ fn open_idle_line(f: Frame, line: Line) -> Line
     ensures { result ≡ Line·opened f line }
 {
     let timed_on = f.timed_on;
-    let open = marks::with_idle_since(Date::At(line.line_free_at), line);
+    let open = marks::with_idle_since(Some(line.line_free_at), line);
     marks::note_source(timed_on, open)
 }
 

@@ -11,8 +11,8 @@ pub fn due_by(date: u64, at: Date) -> bool
     ensures { result ≡ due_by date at }
 {
     match at {
-        Date::None => false,
-        Date::At(when) => when <= date,
+        None => false,
+        Some(when) => when <= date,
     }
 }
 
@@ -21,8 +21,8 @@ pub fn after_date(span: u64, at: Date) -> Date
     ensures { result ≡ after_date span at }
 {
     match at {
-        Date::None => Date::None,
-        Date::At(when) => Date::At(dates::after(when, span)),
+        None => None,
+        Some(when) => Some(dates::after(when, span)),
     }
 }
 
@@ -42,7 +42,7 @@ pub fn timeout_at(settings: Settings, line: Line) -> Date
 pub fn time_out(settings: Settings, held: usize, line: Line) -> Line
     ensures { result ≡ time_out settings held line }
 {
-    let closed = marks::with_idle_since(Date::None, line);
+    let closed = marks::with_idle_since(None, line);
     let source = settings.source;
     if settings.rx_tout_en {
         if settings.rx_sclk_en {

@@ -1,8 +1,7 @@
 // What a settling does before and after its passes: its date, TX_DONE, the levels and the interrupt.
-ghost use Rattle.std.specs.Prelude.{◌≡◌};
+ghost use Rattle.std.specs.Prelude.{◌≡◌, Some, None};
 ghost use Rattle.dates.specs.Dates.{subcycles};
 ghost use Rattle.model.specs.Numbers.{earliest, instant_of};
-ghost use Rattle.model.specs.declared.Date.TheVariants.{At};
 ghost use Rattle.model.specs.Settle.{tx_done, above_full, below_empty};
 ghost use Rattle.line.specs.Levels.{levels as Levels·levels, int_status, level as Levels·level};
 
@@ -11,12 +10,12 @@ use model::{Date, Line};
 
 // How far, in subcycles, a settling at a cycle goes: after power-down no further than that date.
 pub fn settling_date(cycle: u64, powered_down_at: Date) -> u64
-    ensures { result ≡ instant_of (earliest (At (subcycles cycle)) powered_down_at) }
+    ensures { result ≡ instant_of (earliest (Some (subcycles cycle)) powered_down_at) }
 {
     let date = dates::subcycles(cycle);
     match powered_down_at {
-        Date::None => date,
-        Date::At(down) => dates::earlier(date, down),
+        None => date,
+        Some(down) => dates::earlier(date, down),
     }
 }
 

@@ -12,12 +12,8 @@ pub mod pass;
 
 use model::{Fate, Frame, Line};
 
-// What is on the line beside its byte.
-#[derive(Clone, Copy)]
-pub enum Receiving {
-    None,
-    OnTheLine(Frame),
-}
+// What is on the line beside its byte, if one is.
+pub type Receiving = Option<Frame>;
 
 // What a pass found due.
 #[derive(Clone, Copy)]
@@ -36,11 +32,6 @@ pub struct Move {
     pub started: bool,
 }
 
-// Which byte in flight leaves fewer in the transmit FIFO than its threshold.
-#[derive(Clone, Copy)]
-pub enum Below {
-    // They are fewer already, or the threshold is 0.
-    Never,
-    // Once this byte has gone, counted from 0 at the shift register.
-    After(usize),
-}
+// Which byte in flight, once it has gone, leaves fewer in the transmit FIFO than its threshold, counted from 0 at the shift register: none
+// where they are fewer already, or the threshold is 0.
+pub type Below = Option<usize>;

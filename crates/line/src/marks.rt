@@ -5,7 +5,7 @@ ghost use Rattle.model.specs.Numbers.{choose};
 ghost use Rattle.model.specs.Setters.{with_int_raw, with_idle_since};
 ghost use Rattle.model.specs.Line.{latest as Line·latest, note_source};
 
-use model::{Date, Line, Source};
+use model::{Date, Line, Source, Unmodelled};
 
 // INT_RAW bit 0: more bytes received than RXFIFO_FULL_THRHD.
 pub const RXFIFO_FULL: u32 = 1 << 0;
@@ -39,9 +39,9 @@ fn latest(source: Source, old: Source) -> Source
     ensures { result ≡ Line·latest source old }
 {
     match source {
-        Source::None => old,
-        Source::Sel0 => Source::Sel0,
-        Source::Sel2 => Source::Sel2,
+        None => old,
+        Some(Unmodelled::Sel0) => Some(Unmodelled::Sel0),
+        Some(Unmodelled::Sel2) => Some(Unmodelled::Sel2),
     }
 }
 

@@ -13,7 +13,7 @@ use model::{Date, Line};
 pub fn only_if(test: bool, date: Date) -> Date
     ensures { result ≡ only_if test date }
 {
-    if test { date } else { Date::None }
+    if test { date } else { None }
 }
 
 // Which byte in flight takes the transmit FIFO below its threshold.
@@ -24,10 +24,10 @@ pub fn below_threshold(conf1: u32, flying: usize) -> Below
     if 0 < threshold {
         if threshold < flying {
             let above = flying - threshold;
-            return Below::After(above - 1);
+            return Some(above - 1);
         }
     }
-    Below::Never
+    None
 }
 
 // When the next host byte starts, if one waits: no earlier than its run's date, and once the line is free.
@@ -35,8 +35,8 @@ fn next_start(free: u64, waiting: Date) -> Date
     ensures { result ≡ next_start free waiting }
 {
     match waiting {
-        Date::None => Date::None,
-        Date::At(run) => Date::At(dates::later(run, free)),
+        None => None,
+        Some(run) => Some(dates::later(run, free)),
     }
 }
 
@@ -46,8 +46,8 @@ pub fn next_landing(byte_time: u64, receiving: Receiving, waiting: Date, line: L
 {
     let free = line.line_free_at;
     match receiving {
-        Receiving::None => idle::after_date(byte_time, next_start(free, waiting)),
-        Receiving::OnTheLine(_) => Date::At(free),
+        None => idle::after_date(byte_time, next_start(free, waiting)),
+        Some(_) => Some(free),
     }
 }
 

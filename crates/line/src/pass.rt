@@ -46,7 +46,7 @@ fn land(settings: Settings, held: usize, started: bool, f: Frame, line: Line) ->
     let fate = crate::frame::fate(settings, held, f);
     Move {
         line: crate::frame::land(settings, fate, f, line),
-        receiving: Receiving::None,
+        receiving: None,
         found: Found::Landed(fate),
         started,
     }
@@ -64,10 +64,10 @@ fn in_frame(settings: Settings, held: usize, date: u64, started: bool, f: Frame,
     ensures { result ≡ in_frame settings held date started f line }
 {
     if timeout_due(settings, date, line) {
-        return time_out(settings, held, started, Receiving::OnTheLine(f), line);
+        return time_out(settings, held, started, Some(f), line);
     }
     if date < line.line_free_at {
-        return rest(started, Receiving::OnTheLine(f), line);
+        return rest(started, Some(f), line);
     }
     land(settings, held, started, f, line)
 }
@@ -96,15 +96,15 @@ fn start(settings: Settings, date: u64, at: u64, line: Line) -> FrameStart
     ensures { result ≡ Begins·started settings date at line }
 {
     if date < at {
-        return keep(Receiving::None, line);
+        return keep(None, line);
     }
     if timeout_due(settings, at, line) {
-        return keep(Receiving::None, line);
+        return keep(None, line);
     }
     let f = crate::frame::frame(settings);
     let after = crate::frame::start(settings, at, line);
     FrameStart {
-        receiving: Receiving::OnTheLine(f),
+        receiving: Some(f),
         started: true,
         line: after,
     }
@@ -114,8 +114,8 @@ fn line_free(settings: Settings, date: u64, waiting: Date, line: Line) -> FrameS
     ensures { result ≡ Begins·line_free settings date waiting line }
 {
     match waiting {
-        Date::None => keep(Receiving::None, line),
-        Date::At(run) => start(settings, date, dates::later(run, line.line_free_at), line),
+        None => keep(None, line),
+        Some(run) => start(settings, date, dates::later(run, line.line_free_at), line),
     }
 }
 
@@ -130,8 +130,8 @@ fn begin(
     ensures { result ≡ Begins·begun settings date waiting receiving line }
 {
     match receiving {
-        Receiving::None => line_free(settings, date, waiting, line),
-        Receiving::OnTheLine(f) => keep(Receiving::OnTheLine(f), line),
+        None => line_free(settings, date, waiting, line),
+        Some(f) => keep(Some(f), line),
     }
 }
 
@@ -140,9 +140,9 @@ fn idle(settings: Settings, held: usize, date: u64, line: Line) -> Move
     ensures { result ≡ Moves·idle settings held date line }
 {
     if timeout_due(settings, date, line) {
-        time_out(settings, held, false, Receiving::None, line)
+        time_out(settings, held, false, None, line)
     } else {
-        rest(false, Receiving::None, line)
+        rest(false, None, line)
     }
 }
 
@@ -162,7 +162,7 @@ pub fn take_next_on_the_line(
     let on = b.receiving;
     let after = b.line;
     match on {
-        Receiving::None => idle(settings, held, date, after),
-        Receiving::OnTheLine(f) => in_frame(settings, held, date, b.started, f, after),
+        None => idle(settings, held, date, after),
+        Some(f) => in_frame(settings, held, date, b.started, f, after),
     }
 }

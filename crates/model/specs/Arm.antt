@@ -1,6 +1,6 @@
 -- The wake: the Deadline keeps the earliest date, and arming asks for the next instant at which the UART has something to
 -- do. Assumes nothing.
-use Rattle.std.specs.Prelude.{ℕ, zero, suc, ◌-◌, ◌&&◌, List, [], ◌∷◌, ltb, length}
+use Rattle.std.specs.Prelude.{ℕ, zero, suc, ◌-◌, ◌&&◌, List, [], ◌∷◌, ltb, length, Some, None}
 use Rattle.std.proofs.Math.Option.{Option, none, some}
 use Rattle.dates.specs.Dates.{later}
 use Rattle.model.specs.Numbers.{choose, only_if, due_by, earliest, in_cycles}
@@ -8,8 +8,7 @@ use Rattle.model.specs.State.{Sent, Run, OnTheLine, Uart, line_of}
 use Rattle.model.specs.Setters.{with_wake, with_control}
 use Rattle.model.specs.Line.{after_date, timeout_at}
 use Rattle.model.specs.Settle.{empty_threshold, settings_of}
-use Rattle.model.specs.declared.Date.{Date}
-use Rattle.model.specs.declared.Date.TheVariants.{None, At}
+use Rattle.model.specs.Names.{Date}
 
 -- a Deadline that is armed for a cycle keeps the earlier one
 abbrev pub armed : Date → Date → Date
@@ -22,7 +21,7 @@ called now wake = choose (due_by now wake) None wake
 -- when the n-th byte in flight has gone
 unfoldable pub nth_gone : {W : Type 0} → ℕ → List (Sent W) → Date
 nth_gone n [] = None
-nth_gone zero (s ∷ ss) = At s.gone_at
+nth_gone zero (s ∷ ss) = Some s.gone_at
 nth_gone (suc n) (s ∷ ss) = nth_gone n ss
 
 unfoldable pub last_gone : {W : Type 0} → List (Sent W) → Date
@@ -36,12 +35,12 @@ below_threshold_at threshold ss = only_if (ltb 0 threshold && ltb threshold (len
 unfoldable pub next_start : {H : Type 0} → ℕ → List Run → List H → Date
 next_start free [] bs = None
 next_start free (r ∷ rs) [] = None
-next_start free (r ∷ rs) (b ∷ bs) = At (later r.date free)
+next_start free (r ∷ rs) (b ∷ bs) = Some (later r.date free)
 
 module _ {H W : Type 0} where
   unfoldable pub landing_of : ℕ → Option (OnTheLine H) → Uart H W → Date
   landing_of time none u = after_date time (next_start (line_of u).line_free_at u.host_runs u.host)
-  landing_of time (some l) u = At (line_of u).line_free_at
+  landing_of time (some l) u = Some (line_of u).line_free_at
 
   -- when the byte on the line lands, or the next to start, timed with the settings of now
   unfoldable pub next_landing : Uart H W → Date

@@ -2,10 +2,9 @@
 use Rattle.std.specs.Prelude.{ℕ, Bool, List, [], ◌∷◌}
 use Rattle.std.proofs.Math.Option.{Option, none, some}
 use Rattle.model.specs.Replies.{ReadOf, Take}
-use Rattle.model.specs.declared.Write.{Write}
-use Rattle.model.specs.declared.Done.{Done}
+use Rattle.model.specs.Names.{Write, Done, Row}
 use Rattle.model.specs.declared.Report.{Report}
-use Rattle.model.specs.declared.Row.{Row}
+
 
 -- what the machine around the UART does
 pub data Machine : Type 0 where

@@ -1,5 +1,5 @@
 -- Every call: its tests, its settlings, its work, its whole reply and the next state. Assumes nothing.
-use Rattle.std.specs.Prelude.{ℕ, ◌+◌, ◌%◌, Bool, List, [], ◌∷◌, ◌++◌, map, leb, ltb, length, drop}
+use Rattle.std.specs.Prelude.{ℕ, ◌+◌, ◌%◌, Bool, List, [], ◌∷◌, ◌++◌, map, leb, ltb, length, drop, Some, None, Ok, Err}
 use Rattle.std.proofs.Math.Option.{Option, none, some}
 use Rattle.dates.specs.Dates.{subcycles, later}
 use Rattle.model.specs.Numbers.{choose}
@@ -14,16 +14,13 @@ use Rattle.model.specs.Map.{Register, is_fifo, register_of}
 use Rattle.model.specs.Registers.{Access, read_at, send_byte, write_register, concluded}
 use Rattle.model.specs.Tests.{transmit_full, host_full, runs_full, period_too_long, buffer_too_short, refuse_if, refuse_date}
 use Rattle.model.specs.Call.{Machine}
-use Rattle.model.specs.declared.Date.{Date}
-use Rattle.model.specs.declared.Source.{Source}
 use Rattle.model.specs.declared.Line.{Line}
 use Rattle.model.specs.declared.Control.{Control}
 use Rattle.model.specs.declared.Refusal.{Refusal}
 use Rattle.model.specs.declared.Refusal.TheVariants.{TransmitFull, HostFull, RunsFull, PeriodTooLong, BufferTooShort}
 use Rattle.model.specs.declared.Report.{Report}
-use Rattle.model.specs.declared.Write.{Write}
-use Rattle.model.specs.declared.Done.{Done}
-use Rattle.model.specs.declared.Taken.{Taken}
+use Rattle.model.specs.Names.{Write, Done}
+
 
 -- ---- what a call gives
 
@@ -104,7 +101,7 @@ host_date now at = subcycles (later at now)
 
 -- INT_RAW 0, the idle line closed, a mistimed reception forgotten; when the line is free stays
 unfoldable pub cleared_line : Line → Line
-cleared_line l = with_int_raw 0 (with_idle_since Date.None (with_mistimed Source.None l))
+cleared_line l = with_int_raw 0 (with_idle_since None (with_mistimed None l))
 
 -- a period of 0 counts as 1
 abbrev pub period_of : ℕ → ℕ
@@ -112,10 +109,10 @@ period_of period = later period 1
 
 -- the bytes at the front, and nothing written after them
 unfoldable pub filled : {W L : Type 0} → List W → List L → Take W L
-filled out lent = record { taken = Taken.Bytes (length out); front = out; rest = drop (length out) lent }
+filled out lent = record { taken = Ok (length out); front = out; rest = drop (length out) lent }
 
 unfoldable pub not_taken : {W L : Type 0} → List L → Refusal → Take W L
-not_taken lent r = record { taken = Taken.Refused r; front = []; rest = lent }
+not_taken lent r = record { taken = Err r; front = []; rest = lent }
 
 module _ {H W : Type 0} where
   unfoldable pub quiet : {R : Type 0} → R → Uart H W → Access R H W
@@ -127,7 +124,7 @@ module _ {H W : Type 0} where
 
   -- one that answers done
   abbrev pub doing : Option Refusal → List (Uart H W → Uart H W) → (Uart H W → Uart H W) → Plan Done H W
-  doing test changes change = record { test = test; refuses = Done.Refused; changes = changes; work = λ s. quiet Done.Done (change s) }
+  doing test changes change = record { test = test; refuses = Err; changes = changes; work = λ s. quiet (Ok tt) (change s) }
 
   -- one that is never refused and changes nothing
   abbrev pub asking : {R : Type 0} → (Uart H W → R) → Uart H W → Plan R H W
@@ -139,7 +136,7 @@ module _ {H W : Type 0} where
   read_placed now p u = record { test = none; refuses = refused; changes = once; work = read_at p }
 
   abbrev pub writing : Option Refusal → (Uart H W → Access Write H W) → Plan Write H W
-  writing test access = record { test = test; refuses = Write.Refused; changes = once; work = λ s. concluded (access s) }
+  writing test access = record { test = test; refuses = Err; changes = once; work = λ s. concluded (access s) }
 
   unfoldable pub write_placed : ℕ → Register → ℕ → Uart H W → Plan Write H W
   write_placed now p v u = writing none (write_register p v)
@@ -180,9 +177,9 @@ module _ {H W : Type 0} where
   machine now Machine.wake u = doing none ((λ s. with_control (with_wake (called now s.control.wake) s.control) s) ∷ []) arm
   -- a reset first ends a power-down and settles
   machine now Machine.reset u =
-      doing none ((λ s. with_control (with_powered_down_at Date.None s.control) s) ∷ []) (λ s. arm (levels (cleared s)))
+      doing none ((λ s. with_control (with_powered_down_at None s.control) s) ∷ []) (λ s. arm (levels (cleared s)))
   -- power-down neither settles nor arms
-  machine now Machine.power_down u = doing none [] (λ s. with_control (with_powered_down_at (Date.At (subcycles now)) s.control) s)
+  machine now Machine.power_down u = doing none [] (λ s. with_control (with_powered_down_at (Some (subcycles now)) s.control) s)
   -- watching arms without settling
   machine now (Machine.watch b) u = doing none [] (λ s. arm (with_control (with_watched b s.control) s))
   -- settled with the old period, and again with the new one

@@ -1,4 +1,5 @@
 -- What a UART is, from the plain to the composed; proofs/ holds what is proved of it.
+pub mod Names
 pub mod Numbers
 pub mod State
 pub mod Setters

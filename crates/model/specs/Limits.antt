@@ -1,7 +1,7 @@
 -- Within the limits: document 01's list, all of it. Beside it stand only widths that the types give, where a law needs
 -- them: sixteen offsets, and dates in flight, of runs and of the line that fit 64 bits. A source is 0, 2 or none by its
 -- type, and the byte on the line lands when the line is free by the state's form. Assumes nothing.
-use Rattle.std.specs.Prelude.{◌≡◌, ℕ, ◌+◌, ◌≤◌, ◌<◌, true, false, List, [], ◌∷◌, map, length}
+use Rattle.std.specs.Prelude.{◌≡◌, ℕ, ◌+◌, ◌≤◌, ◌<◌, true, false, List, [], ◌∷◌, map, length, Some, None}
 use Rattle.std.proofs.Math.Option.{some}
 use Rattle.std.specs.Int.Bits.{bit_and}
 use Rattle.dates.specs.Dates
@@ -10,8 +10,7 @@ use Rattle.model.specs.State.{Sent, Run, OnTheLine, Uart, line_of}
 use Rattle.model.specs.Line.{fifo_bytes}
 use Rattle.model.specs.Tests.{repeated, date_end, sent_limit, host_limit, runs_limit, period_limit}
 use Rattle.model.specs.SetUp.{fifo_counts}
-use Rattle.model.specs.declared.Date.{Date}
-use Rattle.model.specs.declared.Date.TheVariants.{None, At}
+use Rattle.model.specs.Names.{Date}
 
 -- each element stands in R to the next
 pub data Chain (R : ℕ → ℕ → Type 0) : List ℕ → Type 0 where
@@ -25,7 +24,7 @@ pub data All {A : Type 0} (P : A → Type 0) : List A → Type 0 where
 
 abbrev pub NoLater : ℕ → Date → Type 0
 NoLater n None = Unit {0}
-NoLater n (At d) = d ≤ n
+NoLater n (Some d) = d ≤ n
 
 abbrev pub flight_dates : {W : Type 0} → List (Sent W) → List ℕ
 flight_dates ss = map (λ s. s.gone_at) ss

@@ -1,12 +1,11 @@
 -- What happens to the line's numbers and marks at a start, a landing and a timeout. No byte is here. Assumes nothing.
-use Rattle.std.specs.Prelude.{ℕ, ◌^◌, Bool, ◌&&◌, not, ltb}
+use Rattle.std.specs.Prelude.{ℕ, ◌^◌, Bool, ◌&&◌, not, ltb, Some, None}
 use Rattle.std.specs.Int.Bits.{bit_or}
 use Rattle.dates.specs.Dates.{after}
 use Rattle.model.specs.Numbers.{choose}
 use Rattle.model.specs.Setters.{with_int_raw, with_mistimed, with_idle_since, with_line_free_at}
-use Rattle.model.specs.declared.Date.{Date}
-use Rattle.model.specs.declared.Date.TheVariants.{None, At}
-use Rattle.model.specs.declared.Source.{Source}
+use Rattle.model.specs.Names.{Date, Source}
+use Rattle.model.specs.declared.Unmodelled.{Unmodelled}
 use Rattle.model.specs.declared.Line.{Line}
 use Rattle.model.specs.declared.Frame.{Frame}
 use Rattle.model.specs.declared.Settings.{Settings}
@@ -39,9 +38,9 @@ raise_if test n l = with_int_raw (choose test (bit_or l.int_raw (2 ^ n)) l.int_r
 
 -- the later source of a mistimed reception overwrites the one before
 abbrev pub latest : Source → Source → Source
-latest Source.None old = old
-latest Source.Sel0 old = Source.Sel0
-latest Source.Sel2 old = Source.Sel2
+latest None old = old
+latest (Some Unmodelled.Sel0) old = Some Unmodelled.Sel0
+latest (Some Unmodelled.Sel2) old = Some Unmodelled.Sel2
 
 unfoldable pub note_source : Source → Line → Line
 note_source s l = with_mistimed (latest s l.rx_mistimed) l
@@ -49,11 +48,11 @@ note_source s l = with_mistimed (latest s l.rx_mistimed) l
 -- a while after a date, if there is one
 unfoldable pub after_date : ℕ → Date → Date
 after_date span None = None
-after_date span (At at) = At (after at span)
+after_date span (Some at) = Some (after at span)
 
 -- the idle line opens at the landing
 unfoldable pub opened : Frame → Line → Line
-opened f l = note_source f.timed_on (with_idle_since (At l.line_free_at) l)
+opened f l = note_source f.timed_on (with_idle_since (Some l.line_free_at) l)
 
 module _ (s : Settings) where
   -- when the timeout of the open idle line comes

@@ -1,11 +1,10 @@
 -- The UART chapter of the ESP32-C3 Technical Reference Manual, in numbers, fields and bits alone. The manual itself is not at
 -- hand: each line rests on document 01 and uart.rs's comments. MeetsManual proves it of `step`. Assumes nothing.
-use Rattle.std.specs.Prelude.{◌≡◌, ℕ, ◌+◌, ◌*◌, Bool, ◌&&◌, not, List, [], ◌∷◌, ◌++◌, leb, ltb, eqb}
+use Rattle.std.specs.Prelude.{◌≡◌, ℕ, ◌+◌, ◌*◌, Bool, ◌&&◌, not, List, [], ◌∷◌, ◌++◌, leb, ltb, eqb, Some, None}
 use Rattle.std.proofs.Math.Option.{Option, none, some}
 use Rattle.dates.specs.Dates.{after, later}
 use Rattle.model.specs.Numbers.{choose, field, bit}
-use Rattle.model.specs.declared.Date.{Date}
-use Rattle.model.specs.declared.Date.TheVariants.{None, At}
+use Rattle.model.specs.Names.{Date}
 
 -- ---- UART_CONF0: the frame, a start bit, 5 to 8 data bits, a parity bit or none, 1, 1.5 or 2 stop bits
 
@@ -83,19 +82,19 @@ landings time free (b ∷ bs) =
 -- the receive timeout of a line that is idle since a date: so long after it
 unfoldable pub timeout : {B : Type 0} → ℕ → Date → List (ℕ × Option B)
 timeout span None = []
-timeout span (At since) = (after since span, none) ∷ []
+timeout span (Some since) = (after since span, none) ∷ []
 
 -- the same where a byte starts at a date, if the timeout comes no later: a start ends the idle line
 unfoldable pub timeout_before : {B : Type 0} → ℕ → ℕ → Date → List (ℕ × Option B)
 timeout_before start span None = []
-timeout_before start span (At since) = choose (leb (after since span) start) ((after since span, none) ∷ []) []
+timeout_before start span (Some since) = choose (leb (after since span) start) ((after since span, none) ∷ []) []
 
 -- all that a receiver with its clock on shows, each with its date: a byte that lands, or none for a timeout
 unfoldable pub reception : {B : Type 0} → ℕ → ℕ → Date → ℕ → List (ℕ × B) → List (ℕ × Option B)
 reception time span idle free [] = timeout span idle
 reception time span idle free (b ∷ bs) =
     timeout_before (later b.0 free) span idle ++ (after (later b.0 free) time, some b.1)
-    ∷ reception time span (At (after (later b.0 free) time)) (after (later b.0 free) time) bs
+    ∷ reception time span (Some (after (later b.0 free) time)) (after (later b.0 free) time) bs
 
 -- those of a list that come by a date
 unfoldable pub by : {B : Type 0} → ℕ → List (ℕ × B) → List (ℕ × B)

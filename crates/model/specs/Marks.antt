@@ -1,6 +1,6 @@
 -- Document 01's marked lines P1 to P10 on its bench settings, as rows of one list, and one claim over the list.
 -- Assumes nothing.
-use Rattle.std.specs.Prelude.{◌≡◌, refl, ℕ, ◌*◌, List, [], ◌∷◌, ◌++◌, map, take, drop, replicate}
+use Rattle.std.specs.Prelude.{◌≡◌, refl, ℕ, ◌*◌, List, [], ◌∷◌, ◌++◌, map, take, drop, replicate, Some, Ok, true}
 use Rattle.std.proofs.Math.Bool.{decide}
 use Rattle.model.specs.Numbers.{choose, due_by, instant_of, only_if, earliest, in_cycles}
 use Rattle.model.specs.State.{Uart}
@@ -30,12 +30,9 @@ use Rattle.model.specs.Calls
 use Rattle.model.specs.SetUp.{words_among, map_of, new_control, new}
 use Rattle.model.specs.Call.{wake, Dated, receive, machine, Call, date_of, Written, Asked, Ask, Reply, reads, writes, does}
 use Rattle.model.specs.Run.{number_of, stepped, replying, plan_by, writing, plan, step, asked_by, run_by, asked, run}
-use Rattle.model.specs.declared.Date.{Date}
-use Rattle.model.specs.declared.Date.TheVariants.{At}
+use Rattle.model.specs.Names.{Date}
 use Rattle.model.specs.declared.Unsupported.{Unsupported}
 use Rattle.model.specs.declared.Unsupported.TheVariants.{UartOverflow, UartEmptyRead}
-use Rattle.model.specs.declared.Write.TheVariants.{Accepted}
-use Rattle.model.specs.declared.Done.TheVariants.{Done}
 
 -- ---- the bench: offsets 4 × place, reset words 0 but five
 
@@ -91,27 +88,27 @@ marks =
     ∷ (bit_time (words_among bench_words) 8 ≡ 1344) ∷ (byte_time (words_among bench_words) 8 ≡ 13440)
     -- P3: one byte sent
     ∷ (replies (write 100 fifo 0x41 ∷ read 519 (shown fsm_status) ∷ read 520 (shown fsm_status) ∷ read 520 (shown int_raw) ∷ [])
-    ≡ writes Accepted ∷ value 0x10 ∷ value 0 ∷ value 0x4002 ∷ [])
+    ≡ writes (Ok true) ∷ value 0x10 ∷ value 0 ∷ value 0x4002 ∷ [])
     -- P4: 129 writes, and the 130th
     ∷ (noted (replicate 129 (write 100 fifo 0x41) ++ read 100 (shown status) ∷ write 100 fifo 0x42 ∷ read 100 (shown status) ∷ [])
-    ≡ replicate 129 (writes Accepted, []) ++ (value 0x00800000, []) ∷ (writes Accepted, UartOverflow ∷ []) ∷ (value 0x00800000, []) ∷ [])
+    ≡ replicate 129 (writes (Ok true), []) ++ (value 0x00800000, []) ∷ (writes (Ok true), UartOverflow ∷ []) ∷ (value 0x00800000, []) ∷ [])
     -- P5: the wake after P4's 130 writes
     ∷ (drop 130 (wakes (replicate 130 (write 100 fifo 0x41)
     ++ write 100 int_clr 2 ∷ read 100 (shown int_raw) ∷ at 520 (machine wake) ∷ read 13960 (shown int_raw) ∷ []))
-    ≡ (writes Accepted, At 520) ∷ (value 0, At 520) ∷ (does Done, At 13960) ∷ (value 2, At 13960) ∷ [])
+    ≡ (writes (Ok true), Some 520) ∷ (value 0, Some 520) ∷ (does (Ok tt), Some 13960) ∷ (value 2, Some 13960) ∷ [])
     -- P6: one byte received
     ∷ (noted (at 100 (receive 100 (0x55 ∷ [])) ∷ read 519 (shown status) ∷ read 520 (shown status) ∷ read 520 fifo ∷ read 520 fifo ∷ [])
-    ≡ (does Done, []) ∷ (value 0, []) ∷ (value 1, []) ∷ (reads (byte 0x55), []) ∷ (value 0, UartEmptyRead ∷ []) ∷ [])
+    ≡ (does (Ok tt), []) ∷ (value 0, []) ∷ (value 1, []) ∷ (reads (byte 0x55), []) ∷ (value 0, UartEmptyRead ∷ []) ∷ [])
     -- P7: the receive timeout
-    ∷ (replies (p7 ++ read 939 (shown int_raw) ∷ read 940 (shown int_raw) ∷ []) ≡ writes Accepted ∷ does Done ∷ value 2 ∷ value 0x102 ∷ [])
+    ∷ (replies (p7 ++ read 939 (shown int_raw) ∷ read 940 (shown int_raw) ∷ []) ≡ writes (Ok true) ∷ does (Ok tt) ∷ value 2 ∷ value 0x102 ∷ [])
     -- P8: a second byte at the timeout, and one cycle before it
-    ∷ (drop 2 (replies (p7 ++ at 100 (receive 940 (0x56 ∷ [])) ∷ read 940 (shown int_raw) ∷ [])) ≡ does Done ∷ value 0x102 ∷ [])
+    ∷ (drop 2 (replies (p7 ++ at 100 (receive 940 (0x56 ∷ [])) ∷ read 940 (shown int_raw) ∷ [])) ≡ does (Ok tt) ∷ value 0x102 ∷ [])
     ∷ (drop 2 (replies (p7 ++ at 100 (receive 939 (0x56 ∷ [])) ∷ read 940 (shown int_raw) ∷ read 1358 (shown status)
     ∷ read 1359 (shown status) ∷ read 1778 (shown int_raw) ∷ read 1779 (shown int_raw) ∷ []))
-    ≡ does Done ∷ value 2 ∷ value 1 ∷ value 2 ∷ value 2 ∷ value 0x102 ∷ [])
+    ≡ does (Ok tt) ∷ value 2 ∷ value 1 ∷ value 2 ∷ value 2 ∷ value 0x102 ∷ [])
     -- P9: RXFIFO_FULL at its threshold of 96, and above; and each of the 97 landings is a pass
     ∷ (replies (at 0 (receive 0 (replicate 97 7)) ∷ read 40320 (shown status) ∷ read 40320 (shown int_raw) ∷ read 40740 (shown status)
-    ∷ read 40740 (shown int_raw) ∷ []) ≡ does Done ∷ value 96 ∷ value 2 ∷ value 97 ∷ value 3 ∷ [])
+    ∷ read 40740 (shown int_raw) ∷ []) ≡ does (Ok tt) ∷ value 96 ∷ value 2 ∷ value 97 ∷ value 3 ∷ [])
     ∷ (map (λ a. a.report.passes) (run (at 0 (receive 0 (replicate 97 7)) ∷ read 40740 (shown status) ∷ []) bench) ≡ 1 ∷ 98 ∷ [])
     -- P10: the host queue's last free byte
     ∷ (map (λ n. number_of (asked (at 0 (receive 0 (replicate n 7))) bench).answer.reply) (1024 ∷ 1025 ∷ []) ≡ 0 ∷ 5 ∷ [])

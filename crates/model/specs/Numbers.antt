@@ -1,9 +1,8 @@
 -- Tests, fields of words and optional dates: what the other definitions are written with. Assumes nothing.
-use Rattle.std.specs.Prelude.{ℕ, ◌-◌, ◌/◌, ◌%◌, ◌^◌, Bool, true, false, leb, eqb}
+use Rattle.std.specs.Prelude.{ℕ, ◌-◌, ◌/◌, ◌%◌, ◌^◌, Bool, true, false, leb, eqb, Some, None}
 use Rattle.std.specs.Int.Bits.{bit_and}
 use Rattle.dates.specs.Dates.{cycles, earlier}
-use Rattle.model.specs.declared.Date.{Date}
-use Rattle.model.specs.declared.Date.TheVariants.{None, At}
+use Rattle.model.specs.Names.{Date}
 
 -- the first where the test passes, and else the second
 unfoldable pub choose {ℓ} : {X : Type ℓ} → Bool → X → X → X
@@ -25,12 +24,12 @@ without mask word = bit_and word (2 ^ 32 - 1 - mask)
 -- document 01's due: dated at or before `date`
 unfoldable pub due_by : ℕ → Date → Bool
 due_by date None = false
-due_by date (At at) = leb at date
+due_by date (Some at) = leb at date
 
 -- the date that is there; 0 where none is
 unfoldable pub instant_of : Date → ℕ
 instant_of None = 0
-instant_of (At at) = at
+instant_of (Some at) = at
 
 unfoldable pub only_if : Bool → Date → Date
 only_if true d = d
@@ -39,10 +38,10 @@ only_if false d = None
 -- the earlier of two dates that may be missing
 unfoldable pub earliest : Date → Date → Date
 earliest None d = d
-earliest (At a) None = At a
-earliest (At a) (At b) = At (earlier a b)
+earliest (Some a) None = Some a
+earliest (Some a) (Some b) = Some (earlier a b)
 
 -- a date in subcycles as the cycle at which it has come
 unfoldable pub in_cycles : Date → Date
 in_cycles None = None
-in_cycles (At a) = At (cycles a)
+in_cycles (Some a) = Some (cycles a)

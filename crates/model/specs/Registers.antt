@@ -1,5 +1,5 @@
 -- Register access, after settling. Assumes nothing.
-use Rattle.std.specs.Prelude.{ℕ, ◌*◌, ◌^◌, Bool, true, false, not, ◌&&◌, ◌||◌, List, [], ◌∷◌, ◌++◌, ltb, eqb, length, take}
+use Rattle.std.specs.Prelude.{ℕ, ◌*◌, ◌^◌, Bool, true, false, not, ◌&&◌, ◌||◌, List, [], ◌∷◌, ◌++◌, ltb, eqb, length, take, Some, None, Ok}
 use Rattle.std.specs.Int.Bits.{bit_or}
 use Rattle.dates.specs.Dates.{after, subcycles, later}
 use Rattle.model.specs.Numbers.{choose, field, bit, without}
@@ -11,14 +11,13 @@ use Rattle.model.specs.Settle.{in_fifo, int_status, levels}
 use Rattle.model.specs.Arm.{arm, last_gone}
 use Rattle.model.specs.Replies.{ReadOf, word, byte, no_value}
 use Rattle.model.specs.Map.{Word, Shown, Register, fifo, int_clr, unknown, shown, stored, same_word, same_register, value_of, replaced}
-use Rattle.model.specs.declared.Date.{Date}
-use Rattle.model.specs.declared.Source.{Source}
+use Rattle.model.specs.Names.{Date, Source, Write}
+use Rattle.model.specs.declared.Unmodelled.{Unmodelled}
 use Rattle.model.specs.declared.Feature.TheVariants.{Loopback, InvertedRx, Autobaud, NoStopBit, FifoSize, Rs485, TxFlowControl}
 use Rattle.model.specs.declared.Feature.TheVariants.{RxFlowControl, InvertedTx, Irda, TxBreak}
 use Rattle.model.specs.declared.Unsupported.{Unsupported}
 use Rattle.model.specs.declared.Unsupported.TheVariants.{UartOverflow, UartEmptyRead, UartClock, UartReceiveClock, UartFeature}
-use Rattle.model.specs.declared.Write.{Write}
-use Rattle.model.specs.declared.Write.TheVariants.{Accepted, NotAccepted}
+
 
 -- ---- notices
 
@@ -28,9 +27,9 @@ note_if false n ns = ns
 
 -- a source without a frequency gives a notice with its SCLK_SEL
 unfoldable pub source_notes : (ℕ → Unsupported) → Source → List Unsupported
-source_notes notice Source.None = []
-source_notes notice Source.Sel0 = notice 0 ∷ []
-source_notes notice Source.Sel2 = notice 2 ∷ []
+source_notes notice None = []
+source_notes notice (Some Unmodelled.Sel0) = notice 0 ∷ []
+source_notes notice (Some Unmodelled.Sel2) = notice 2 ∷ []
 
 -- what an access gives beside the report of its settling
 pub record Access (R H W : Type 0) : Type 0 where
@@ -82,7 +81,7 @@ module _ {H W : Type 0} where
   -- a look at the receiver tells of a mistimed reception, once
   unfoldable pub read_looking : Bool → Register → Uart H W → Access (ReadOf H) H W
   read_looking true r u =
-      read_register (source_notes UartReceiveClock (line_of u).rx_mistimed) r (with_line_of (with_mistimed Source.None (line_of u)) u)
+      read_register (source_notes UartReceiveClock (line_of u).rx_mistimed) r (with_line_of (with_mistimed None (line_of u)) u)
   read_looking false r u = read_register [] r u
 
   unfoldable pub read_at : Register → Uart H W → Access (ReadOf H) H W
@@ -111,8 +110,8 @@ stored_notes x v =
     (note_if (same_word x Word.mem_conf && not (eqb (field 1 6 v) 9)) (UartFeature FifoSize) [])))
 
 unfoldable pub starts_at : ℕ → Date → ℕ
-starts_at now Date.None = now
-starts_at now (Date.At gone) = later gone now
+starts_at now None = now
+starts_at now (Some gone) = later gone now
 
 module _ {H W : Type 0} where
   -- when a byte written now has gone: it starts after the last one in flight, and not before now
@@ -122,10 +121,10 @@ module _ {H W : Type 0} where
   unfoldable pub sent : ℕ → W → Uart H W → Access Write H W
   sent now b u =
       gives (source_notes UartClock (unmodelled_source u.control.words.clk_conf))
-      (with_in_flight (u.in_flight ++ (record { gone_at = gone_at now u; byte = b } ∷ [])) u) Accepted
+      (with_in_flight (u.in_flight ++ (record { gone_at = gone_at now u; byte = b } ∷ [])) u) (Ok true)
 
   unfoldable pub dropped : Uart H W → Access Write H W
-  dropped u = gives (UartOverflow ∷ []) u Accepted
+  dropped u = gives (UartOverflow ∷ []) u (Ok true)
 
   -- with over 128 bytes in flight the byte is dropped
   unfoldable pub send_byte : ℕ → W → Uart H W → Access Write H W
@@ -136,17 +135,17 @@ module _ {H W : Type 0} where
   reset_fifos v u = with_in_flight (choose (bit 18 v) (take 1 u.in_flight) u.in_flight) (with_rx (choose (bit 17 v) [] u.rx) u)
 
   unfoldable pub storing : Word → ℕ → Uart H W → Access Write H W
-  storing x v u = gives (stored_notes x v) (with_control (with_words (replaced x v u.control.words) u.control) u) Accepted
+  storing x v u = gives (stored_notes x v) (with_control (with_words (replaced x v u.control.words) u.control) u) (Ok true)
 
   unfoldable pub clearing : ℕ → Uart H W → Access Write H W
-  clearing v u = gives [] (with_line_of (with_int_raw (without v (line_of u).int_raw) (line_of u)) u) Accepted
+  clearing v u = gives [] (with_line_of (with_int_raw (without v (line_of u).int_raw) (line_of u)) u) (Ok true)
 
   -- at a register other than FIFO. CONF0 resets the FIFOs first; a read-only or unknown register is not accepted
   unfoldable pub write_register : Register → ℕ → Uart H W → Access Write H W
-  write_register fifo v u = gives [] u NotAccepted
+  write_register fifo v u = gives [] u (Ok false)
   write_register int_clr v u = clearing v u
-  write_register unknown v u = gives [] u NotAccepted
-  write_register (shown s) v u = gives [] u NotAccepted
+  write_register unknown v u = gives [] u (Ok false)
+  write_register (shown s) v u = gives [] u (Ok false)
   write_register (stored x) v u = storing x v (choose (same_word x Word.conf0) (reset_fifos v u) u)
 
   -- every write raises levels, drives the interrupt and arms, accepted or not

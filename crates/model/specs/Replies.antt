@@ -1,8 +1,7 @@
 -- What calls answer: document 01's numbers and values for each case of a reply, and the report of a dated call.
 -- Assumes nothing.
-use Rattle.std.specs.Prelude.{◌≡◌, ℕ, ◌-◌, false, List, ◌++◌, map, length, replicate}
+use Rattle.std.specs.Prelude.{◌≡◌, ℕ, ◌-◌, true, false, List, ◌++◌, map, length, replicate, Some, None, Ok, Err}
 use Rattle.model.specs.State.{Uart}
-use Rattle.model.specs.declared.Date.{Date}
 use Rattle.model.specs.declared.Feature.{Feature}
 use Rattle.model.specs.declared.Unsupported.{Unsupported}
 use Rattle.model.specs.declared.Unsupported.TheVariants.{UartOverflow, UartEmptyRead, UartClock, UartReceiveClock, UartFeature}
@@ -11,11 +10,8 @@ use Rattle.model.specs.declared.Refusal.{Refusal}
 use Rattle.model.specs.declared.Refusal.TheVariants.{RepeatedOffset, DatePastEnd, DateWentBack, TransmitFull, HostFull, RunsFull}
 use Rattle.model.specs.declared.Refusal.TheVariants.{PeriodTooLong, BufferTooShort}
 use Rattle.model.specs.declared.Report.{Report}
-use Rattle.model.specs.declared.SetUp.{SetUp}
-use Rattle.model.specs.declared.Read.{Read}
-use Rattle.model.specs.declared.Write.{Write}
-use Rattle.model.specs.declared.Done.{Done}
-use Rattle.model.specs.declared.Taken.{Taken}
+use Rattle.model.specs.Names.{SetUp, Read, Write, Done, Taken}
+
 
 -- document 01's numbers. Its own words: doubled place, past the end, clock went back, tray full, basket full, runs full,
 -- slow clock, short buffer
@@ -69,7 +65,7 @@ notice_numbers (UartFeature mode) = (5, mode_number mode)
 
 -- fixed, for a refused or an undated call
 unfoldable pub no_report : Report
-no_report = record { level = false; wake = Date.None; overflows = 0; passes = 0; notices = replicate notice_places unused; noted = 0 }
+no_report = record { level = false; wake = None; overflows = 0; passes = 0; notices = replicate notice_places unused; noted = 0 }
 
 -- of passes, overflows and notices; level and wake as the call leaves them
 unfoldable pub report : {H W : Type 0} → ℕ → ℕ → List Unsupported → Uart H W → Report
@@ -87,10 +83,10 @@ pub data ReadOf (H : Type 0) : Type 0 where
 
 -- the reply of the function: a byte is a word too
 unfoldable pub as_read : ReadOf ℕ → Read
-as_read (word n) = Read.Value n
-as_read (byte b) = Read.Value b
-as_read no_value = Read.NoValue
-as_read (refused r) = Read.Refused r
+as_read (word n) = Ok (Some n)
+as_read (byte b) = Ok (Some b)
+as_read no_value = Ok None
+as_read (refused r) = Err r
 
 -- a lent buffer after the call: the bytes put at its front, and the rest as it was lent
 pub record Take (W L : Type 0) : Type 0 where
@@ -104,8 +100,8 @@ contents t = t.front ++ t.rest
 -- ---- the number of each case; 0 for done
 
 unfoldable pub set_up_number : SetUp → ℕ
-set_up_number SetUp.Ready = 0
-set_up_number (SetUp.Refused r) = number r
+set_up_number (Ok _) = 0
+set_up_number (Err r) = number r
 
 unfoldable pub read_number : {H : Type 0} → ReadOf H → ℕ
 read_number (word n) = 0
@@ -114,14 +110,14 @@ read_number no_value = 0
 read_number (refused r) = number r
 
 unfoldable pub write_number : Write → ℕ
-write_number Write.Accepted = 0
-write_number Write.NotAccepted = 0
-write_number (Write.Refused r) = number r
+write_number (Ok true) = 0
+write_number (Ok false) = 0
+write_number (Err r) = number r
 
 unfoldable pub done_number : Done → ℕ
-done_number Done.Done = 0
-done_number (Done.Refused r) = number r
+done_number (Ok _) = 0
+done_number (Err r) = number r
 
 unfoldable pub taken_number : Taken → ℕ
-taken_number (Taken.Bytes n) = 0
-taken_number (Taken.Refused r) = number r
+taken_number (Ok n) = 0
+taken_number (Err r) = number r

@@ -1,5 +1,5 @@
 -- A row: bytes written to FIFO at one date. It is the writes made one by one, up to the first that is refused. Assumes nothing.
-use Rattle.std.specs.Prelude.{ℕ, suc, Bool, ◌&&◌, eqb, length, take, get_or}
+use Rattle.std.specs.Prelude.{ℕ, suc, Bool, ◌&&◌, eqb, length, take, get_or, Ok, Err}
 use Rattle.std.proofs.Math.Option.{Option, none, some}
 use mathlib.Core.List.{List, [], ◌∷◌, map, flat_map}
 use Rattle.model.specs.Numbers.{choose}
@@ -11,8 +11,8 @@ use Rattle.model.specs.Calls.{Outcome, unless, outcome, send}
 use Rattle.model.specs.declared.Refusal.{Refusal}
 use Rattle.model.specs.declared.Report.{Report}
 use Rattle.model.specs.declared.Unsupported.{Unsupported}
-use Rattle.model.specs.declared.Write.{Write}
-use Rattle.model.specs.declared.Row.{Row}
+use Rattle.model.specs.Names.{Write, Row}
+
 
 -- a longer row is cut
 abbrev pub row_limit : ℕ
@@ -48,8 +48,8 @@ times_of n cs = get_or (map (λ c. c.times) cs) n 0
 -- ---- the writes
 
 unfoldable pub row_number : Row → ℕ
-row_number (Row.Made m) = 0
-row_number (Row.Refused r) = number r
+row_number (Ok m) = 0
+row_number (Err r) = number r
 
 module _ {H W : Type 0} where
   -- a write to FIFO, a call as every other
@@ -71,7 +71,7 @@ module _ {H W : Type 0} where
   summed u os =
       let counts : List Count = counted_all [] (flat_map (λ o. notes_of o.report) os) in
       record {
-        reply = Row.Made (record { count = length os; first = times_of 0 counts; second = times_of 1 counts });
+        reply = Ok (record { count = length os; first = times_of 0 counts; second = times_of 1 counts });
         report =
             report (total (λ o. o.report.passes) os) (total (λ o. o.report.overflows) os) (map (λ c. c.what) counts) (left_by u os);
         state = left_by u os;
@@ -84,4 +84,4 @@ module _ {H W : Type 0} where
   first_test now (b ∷ bs) u = (send now b u).test
 
   unfoldable pub row : ℕ → List W → Uart H W → Outcome Row H W
-  row now bs u = unless (refuse_date now u.control (first_test now bs u)) Row.Refused (λ s. summed s (writes now s (take row_limit bs))) u
+  row now bs u = unless (refuse_date now u.control (first_test now bs u)) Err (λ s. summed s (writes now s (take row_limit bs))) u

@@ -9,7 +9,7 @@ use Rattle.model.specs.Calls.{Outcome, Plan, outcome}
 use Rattle.model.specs.Call.{Dated, Undated, Call, date_of, Written, Request, Reply, reads, writes, does, takes, left, pends, rows}
 use Rattle.model.specs.Call.{Asked, Ask, Answer}
 use Rattle.model.specs.Row.{row_number, row}
-use Rattle.model.specs.declared.Write.{Write}
+use Rattle.model.specs.Names.{Write}
 
 -- document 01's number of an answer, 0 for done; no test refuses has_left or host_pending
 unfoldable pub number_of : {H W L : Type 0} → Reply H W L → ℕ

@@ -1,5 +1,5 @@
 -- Set-up: a new UART from sixteen offsets and sixteen reset words. Assumes nothing.
-use Rattle.std.specs.Prelude.{ℕ, ◌^◌, false, List, [], get_or}
+use Rattle.std.specs.Prelude.{ℕ, ◌^◌, false, List, [], get_or, None, Ok, Err}
 use Rattle.std.proofs.Math.Option.{Option, none, some}
 use Rattle.model.specs.Numbers.{choose, without}
 use Rattle.model.specs.State.{Uart}
@@ -7,14 +7,12 @@ use Rattle.model.specs.Setters.{uart_from}
 use Rattle.model.specs.Line.{TXFIFO-EMPTY}
 use Rattle.model.specs.Map.{Register, shown, stored, status, mem_rx_status, place_among, registers, words_by}
 use Rattle.model.specs.Tests.{repeated}
-use Rattle.model.specs.declared.Date.TheVariants.{None}
-use Rattle.model.specs.declared.Source.{Source}
 use Rattle.model.specs.declared.Words.{Words}
 use Rattle.model.specs.declared.RegisterMap.{RegisterMap}
 use Rattle.model.specs.declared.Line.{Line}
 use Rattle.model.specs.declared.Control.{Control}
 use Rattle.model.specs.declared.Refusal.TheVariants.{RepeatedOffset}
-use Rattle.model.specs.declared.SetUp.{SetUp}
+use Rattle.model.specs.Names.{SetUp}
 
 -- the reset word of a register, among the sixteen in the order of set-up
 abbrev pub reset_of : List ℕ → Register → ℕ
@@ -37,7 +35,7 @@ map_of offsets ws =
 
 -- INT_RAW has TXFIFO_EMPTY set always
 abbrev pub new_line : Line
-new_line = record { int_raw = 2 ^ TXFIFO-EMPTY; rx_mistimed = Source.None; idle_since = None; line_free_at = 0 }
+new_line = record { int_raw = 2 ^ TXFIFO-EMPTY; rx_mistimed = None; idle_since = None; line_free_at = 0 }
 
 -- the APB clock's period at power-on, in cycles
 abbrev pub power_on : ℕ
@@ -53,7 +51,7 @@ unfoldable pub new : {H W : Type 0} → List ℕ → List ℕ → Uart H W
 new offsets ws = uart_from (map_of offsets ws) (new_control (words_among ws)) [] [] [] [] none []
 
 unfoldable pub set_up_reply : List ℕ → SetUp
-set_up_reply offsets = choose (repeated offsets) (SetUp.Refused RepeatedOffset) SetUp.Ready
+set_up_reply offsets = choose (repeated offsets) (Err RepeatedOffset) (Ok tt)
 
 -- the state of a new UART; a refused set-up returns none
 unfoldable pub set_up : {H W : Type 0} → List ℕ → List ℕ → Option (Uart H W)

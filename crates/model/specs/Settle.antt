@@ -1,5 +1,6 @@
 -- Settling: departures, then the line pass by pass, then levels and the interrupt. Assumes nothing.
 use Rattle.std.specs.Prelude.{ℕ, zero, suc, ◌+◌, ◌-◌, ◌*◌, Bool, true, false, ◌&&◌, not, List, [], ◌∷◌, ◌++◌, map, leb, ltb, eqb, length}
+use Rattle.std.specs.Prelude.{Some}
 use Rattle.std.specs.Prelude.{take, drop}
 use Rattle.std.proofs.Math.Option.{Option, none, some}
 use Rattle.std.specs.Int.Bits.{bit_and}
@@ -12,7 +13,6 @@ use Rattle.model.specs.Setters.{with_receiving, with_rx, with_line_of}
 use Rattle.model.specs.Timing.{settings}
 use Rattle.model.specs.Events.{Event, departure, timeout, landing, nothing, goes_on}
 use Rattle.model.specs.Line.{RXFIFO-FULL, TXFIFO-EMPTY, TX-DONE, raise_if, timeout_at, time_out, frame, start, fate, land}
-use Rattle.model.specs.declared.Date.TheVariants.{At}
 use Rattle.model.specs.declared.Line.{Line}
 use Rattle.model.specs.declared.Control.{Control}
 use Rattle.model.specs.declared.Settings.{Settings}
@@ -178,7 +178,7 @@ drive c = with_level (not (eqb (int_status c) 0)) c
 
 -- the settling's date: now, and after power-down no later than that date
 unfoldable pub settling_date : ℕ → Control → ℕ
-settling_date now c = instant_of (earliest (At (subcycles now)) c.powered_down_at)
+settling_date now c = instant_of (earliest (Some (subcycles now)) c.powered_down_at)
 
 module _ {H W : Type 0} where
   unfoldable pub levels : Uart H W → Uart H W

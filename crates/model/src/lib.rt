@@ -3,19 +3,18 @@
 // a line says cycles.
 #![tactic(auto)]
 
-#[derive(Clone, Copy)]
-pub enum Date {
-    None,
-    At(u64),
-}
+// A date, if there is one.
+pub type Date = Option<u64>;
 
-// The SCLK_SEL that timed something though the model has no frequency for it: none, 0 or 2.
+// An SCLK_SEL that the model has no frequency for: 0 or 2.
 #[derive(Clone, Copy)]
-pub enum Source {
-    None,
+pub enum Unmodelled {
     Sel0,
     Sel2,
 }
+
+// The one that timed something, if one did.
+pub type Source = Option<Unmodelled>;
 
 // The nine stored words: uart.rs's CONFIG. CLKDIV and CLK_CONF set the baud rate; IDLE_CONF, RS485_CONF and AT_CMD_CHAR have no effect of
 // their own.
@@ -168,39 +167,20 @@ pub struct Report {
     pub noted: usize,
 }
 
-#[derive(Clone, Copy)]
-pub enum SetUp {
-    Ready,
-    Refused(Refusal),
-}
+// What each call answers: its own result, or why it is refused.
+pub type SetUp = Result<(), Refusal>;
 
-#[derive(Clone, Copy)]
-pub enum Read {
-    Value(u32),
-    NoValue,
-    Refused(Refusal),
-}
+// The value at a place, or none where no word is read.
+pub type Read = Result<Option<u32>, Refusal>;
 
-#[derive(Clone, Copy)]
-pub enum Write {
-    Accepted,
-    NotAccepted,
-    Refused(Refusal),
-}
+// Whether the place takes what is written.
+pub type Write = Result<bool, Refusal>;
 
 // receive, wake, watch, reset, power_down and the clock change.
-#[derive(Clone, Copy)]
-pub enum Done {
-    Done,
-    Refused(Refusal),
-}
+pub type Done = Result<(), Refusal>;
 
 // take_tx and take_written: how many bytes stand at the front of the lent buffer.
-#[derive(Clone, Copy)]
-pub enum Taken {
-    Bytes(usize),
-    Refused(Refusal),
-}
+pub type Taken = Result<usize, Refusal>;
 
 // How many bytes of a row were written, and how often the first and the second notice of its report came.
 #[derive(Clone, Copy)]
@@ -210,8 +190,4 @@ pub struct Made {
     pub second: u64,
 }
 
-#[derive(Clone, Copy)]
-pub enum Row {
-    Made(Made),
-    Refused(Refusal),
-}
+pub type Row = Result<Made, Refusal>;

@@ -9,7 +9,7 @@ use Rattle.form.specs.Cells.{Field, low_first, field_bytes}
 use Rattle.form.specs.Form.{byte, word, long, mark_of, date_mark, source_number, frame_mark, frame_source}
 use Rattle.form.specs.Cells.{of_width}
 use Rattle.park.specs.Puts.{Puts, puts-both, puts-same}
-use Rattle.model.specs.declared.Date.{Date}
+use Rattle.model.specs.Names.{Date}
 use Rattle.model.specs.declared.Line.{Line}
 use Rattle.model.specs.declared.Control.{Control}
 

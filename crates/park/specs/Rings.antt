@@ -1,5 +1,5 @@
 -- The elements of a ring put one after the other. Assumes nothing.
-use Rattle.std.specs.Prelude.{◌≡◌, refl, ℕ, ◌+◌, ◌*◌, length}
+use Rattle.std.specs.Prelude.{◌≡◌, refl, ℕ, ◌+◌, ◌*◌, length, Some, None}
 use Rattle.std.proofs.Common.{sym, ap, ◌∙◌, add-one, arith}
 use mathlib.Core.List.{List, [], ◌∷◌, ◌++◌, map, flat_map, append-nil}
 use Rattle.model.specs.State.{Run, line_bytes}
@@ -9,17 +9,17 @@ use Rattle.form.specs.Cells.{Field, low_first, field_bytes}
 use Rattle.form.specs.Form.{long, short, run_fields}
 use Rattle.park.specs.Puts.{Puts, puts-both, puts-same}
 use Rattle.park.specs.Fields.{fields-both, number_more}
-use Rattle.line.specs.declared.Receiving.{Receiving}
+use Rattle.line.specs.Names.{Receiving}
 
 -- how many bytes are on the line
 abbrev pub line_count : Receiving → ℕ
-line_count Receiving.None = 0
-line_count (Receiving.OnTheLine f) = 1
+line_count None = 0
+line_count (Some f) = 1
 
 pub line-count : (r : Receiving) (b : ℕ) → length (line_bytes (on_the_line r b)) ≡ line_count r
 unfolding on_the_line
-line-count Receiving.None b = refl
-line-count (Receiving.OnTheLine f) b = refl
+line-count None b = refl
+line-count (Some f) b = refl
 
 -- the first i dates are put, and the next one is put behind them
 pub puts-date : (f : ℕ → ℕ) (i : ℕ) {at next last : ℕ} {out mid after : List ℕ}

@@ -1,5 +1,5 @@
 -- The bytes that are put are the form, and what a save answers. Assumes nothing.
-use Rattle.std.specs.Prelude.{◌≡◌, ℕ, ◌+◌, ◌*◌, ◌≤◌, ◌<◌, length, drop}
+use Rattle.std.specs.Prelude.{◌≡◌, ℕ, ◌+◌, ◌*◌, ◌≤◌, ◌<◌, length, drop, Some, None, Ok, Err}
 use Rattle.std.proofs.Math.Path.{refl, ap, ap₂}
 use Rattle.std.proofs.Common.{◌∙◌, arith, lt-ltb, le-ltb}
 use Rattle.std.proofs.Math.Option.{Option}
@@ -10,13 +10,13 @@ use Rattle.model.specs.Limits.{flight_dates}
 use Rattle.model.specs.Replies.{Take}
 use Rattle.model.specs.Tests.{refuse_if}
 use Rattle.model.specs.Calls.{refusing, unless, carried, outcome, filled, not_taken, quiet, written}
-use Rattle.model.specs.declared.Taken.{Taken}
+use Rattle.model.specs.Names.{Taken}
 use Rattle.model.specs.declared.Refusal.TheVariants.{BufferTooShort}
 use Rattle.queue.specs.Cursors.{slot_of, elems}
 use Rattle.queue.specs.Laws.{elems-length, map-elems}
 use Rattle.device.specs.Holds.{Arrays, sent_at, tx_of, host_of, runs_of, run_in, rx_of, on_the_line, abs}
 use Rattle.device.specs.declared.Core.{Core}
-use Rattle.line.specs.declared.Receiving.{Receiving}
+use Rattle.line.specs.Names.{Receiving}
 use Rattle.form.specs.Cells.{Cell, bytes_of, Field, field_bytes}
 use Rattle.form.specs.Form.{short, long, frame_mark, frame_source, map_fields, word_fields, date_and_mark_fields, run_fields}
 use Rattle.form.specs.Form.{parts_of, head_length, form}
@@ -53,8 +53,8 @@ queues_in c flight tx host run_at run_len rx =
 same-frame : (r : Receiving) (b : ℕ)
     → (frame_mark (on_the_line r b) ≡ frame_mark (on_the_line r 0)) × (frame_source (on_the_line r b) ≡ frame_source (on_the_line r 0))
 unfolding on_the_line
-same-frame Receiving.None b = (refl, refl)
-same-frame (Receiving.OnTheLine f) b = (refl, refl)
+same-frame None b = (refl, refl)
+same-frame (Some f) b = (refl, refl)
 
 regroup : (h m w c l d t f b o r x : List ℕ)
     → h ++ (m ++ (w ++ ((c ++ (l ++ d)) ++ ((t ++ f) ++ ((b ++ o) ++ (r ++ (x ++ []))))))) ≡ (h ++ (m ++ (w ++ (c ++ (l ++ d)))))
@@ -161,16 +161,16 @@ module _ (c : Core) (a : Arrays) (sixteen : length c.map.offsets ≡ 16) where
 
 -- shorter than the form: 8, and the buffer stays
 pub saves-short : (lent : List ℕ) (u : Uart ℕ ℕ) → length lent < length (form u)
-    → Saves (saved lent u).reply (Taken.Refused BufferTooShort) lent
+    → Saves (saved lent u).reply (Err BufferTooShort) lent
 unfolding saved save outcome unless refuse_if refusing not_taken
 saves-short lent u short = rw (lt-ltb (length lent) (length (form u)) short) (refl, refl)
 
 -- else the form stands at the front
 pub saves-form : (lent : List ℕ) (u : Uart ℕ ℕ) {n : ℕ} {xs out : List ℕ} {next : ℕ} → length (form u) ≤ length lent → n ≡ length (form u)
-    → xs ≡ bytes_of (form u) → Puts n xs lent 0 out next → Saves (saved lent u).reply (Taken.Bytes next) out
+    → xs ≡ bytes_of (form u) → Puts n xs lent 0 out next → Saves (saved lent u).reply (Ok next) out
 unfolding saved save outcome unless refuse_if carried quiet filled
 saves-form lent u {n} {xs} {out} {next} fits long same p =
     rw (le-ltb (length lent) (length (form u)) fits) (
-      ap Taken.Bytes (let e : next ≡ length (form u) = omega (arith, p.place, long) in e),
+      ap Ok (let e : next ≡ length (form u) = omega (arith, p.place, long) in e),
       puts-front (omega arith) p ∙ ap₂ (λ (l : List ℕ) (k : ℕ). l ++ drop k lent) same long,
     )

@@ -15,8 +15,8 @@ fn line_count(receiving: Receiving) -> usize
     ensures { (result ≡ line_count receiving) × (result ≤ 1) }
 {
     match receiving {
-        Receiving::None => 0,
-        Receiving::OnTheLine(_) => 1,
+        None => 0,
+        Some(_) => 1,
     }
 }
 

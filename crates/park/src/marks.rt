@@ -5,7 +5,7 @@ ghost use Rattle.form.specs.Form.{mark_of, date_mark, source_number, frame_mark,
 ghost use Rattle.device.specs.Holds.{on_the_line};
 
 use line::Receiving;
-use model::{Date, Source};
+use model::{Date, Source, Unmodelled};
 
 pub(crate) fn mark(yes: bool) -> u64
     ensures { result ≡ mark_of yes }
@@ -17,8 +17,8 @@ pub(crate) fn date_mark(date: Date) -> u64
     ensures { result ≡ date_mark date }
 {
     match date {
-        Date::None => 0,
-        Date::At(_) => 1,
+        None => 0,
+        Some(_) => 1,
     }
 }
 
@@ -27,8 +27,8 @@ pub(crate) fn instant(date: Date) -> u64
     ensures { result ≡ instant_of date }
 {
     match date {
-        Date::None => 0,
-        Date::At(at) => at,
+        None => 0,
+        Some(at) => at,
     }
 }
 
@@ -37,9 +37,9 @@ pub(crate) fn source_number(source: Source) -> u64
     ensures { result ≡ source_number source }
 {
     match source {
-        Source::None => 0,
-        Source::Sel0 => 1,
-        Source::Sel2 => 3,
+        None => 0,
+        Some(Unmodelled::Sel0) => 1,
+        Some(Unmodelled::Sel2) => 3,
     }
 }
 
@@ -48,8 +48,8 @@ pub(crate) fn frame_mark(receiving: Receiving) -> u64
     ensures { result ≡ frame_mark (on_the_line receiving 0) }
 {
     match receiving {
-        Receiving::None => 0,
-        Receiving::OnTheLine(frame) => { if frame.heard { 2 } else { 1 } }
+        None => 0,
+        Some(frame) => { if frame.heard { 2 } else { 1 } }
     }
 }
 
@@ -57,8 +57,8 @@ pub(crate) fn frame_source(receiving: Receiving) -> u64
     ensures { result ≡ frame_source (on_the_line receiving 0) }
 {
     match receiving {
-        Receiving::None => 0,
-        Receiving::OnTheLine(frame) => {
+        None => 0,
+        Some(frame) => {
             let source = frame.timed_on;
             source_number(source)
         }

@@ -33,8 +33,8 @@ pub(crate) fn put_on_the_line(out: &mut [u8], at: usize, receiving: Receiving, b
     ensures { Puts (line_count receiving) (line_bytes (on_the_line receiving byte)) out.old at out.new result }
 {
     match receiving {
-        Receiving::None => at,
-        Receiving::OnTheLine(_) => {
+        None => at,
+        Some(_) => {
             out[at] = byte;
             at + 1
         }

@@ -80,9 +80,9 @@ pub fn save<'a>(
 {
     let needed = form_length(core);
     if out.len() < needed {
-        return Taken::Refused(Refusal::BufferTooShort);
+        return Err(Refusal::BufferTooShort);
     }
     let at = save_numbers(out, core, gone_at);
     let end = save_queues(out, at, core, flight, tx, host, run_at, run_len, rx);
-    Taken::Bytes(end)
+    Ok(end)
 }

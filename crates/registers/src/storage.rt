@@ -11,16 +11,16 @@ pub fn read(words: Words, place: Place) -> Read
     ensures { result ≡ as_read (loaded words (held_at place)) }
 {
     match place {
-        Place::IntEna => Read::Value(words.int_ena),
-        Place::Clkdiv => Read::Value(words.clkdiv),
-        Place::Conf0 => Read::Value(words.conf0),
-        Place::Conf1 => Read::Value(words.conf1),
-        Place::ClkConf => Read::Value(words.clk_conf),
-        Place::IdleConf => Read::Value(words.idle_conf),
-        Place::Rs485Conf => Read::Value(words.rs485_conf),
-        Place::AtCmdChar => Read::Value(words.at_cmd_char),
-        Place::MemConf => Read::Value(words.mem_conf),
-        _ => Read::NoValue,
+        Place::IntEna => Ok(Some(words.int_ena)),
+        Place::Clkdiv => Ok(Some(words.clkdiv)),
+        Place::Conf0 => Ok(Some(words.conf0)),
+        Place::Conf1 => Ok(Some(words.conf1)),
+        Place::ClkConf => Ok(Some(words.clk_conf)),
+        Place::IdleConf => Ok(Some(words.idle_conf)),
+        Place::Rs485Conf => Ok(Some(words.rs485_conf)),
+        Place::AtCmdChar => Ok(Some(words.at_cmd_char)),
+        Place::MemConf => Ok(Some(words.mem_conf)),
+        _ => Ok(None),
     }
 }
 

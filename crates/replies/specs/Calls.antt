@@ -1,6 +1,6 @@
 -- Each call of the definition is refused as the functions of `refusals` say: the chains of Refusals.antt are the definition's.
 -- Assumes nothing.
-use Rattle.std.specs.Prelude.{◌≡◌, ℕ, Bool, List, length}
+use Rattle.std.specs.Prelude.{◌≡◌, ℕ, Bool, List, length, Err}
 use Rattle.std.proofs.Math.Path.{refl}
 use Rattle.std.proofs.Math.Option.{none, some}
 use Rattle.model.specs.State.{Uart}
@@ -10,8 +10,6 @@ use Rattle.model.specs.Tests.{refuse_date}
 use Rattle.model.specs.Calls.{unless, carried, outcome, last_date, host_date, not_taken, read_placed, write_placed, send, receive, machine}
 use Rattle.model.specs.Calls.{take_tx, take_written}
 use Rattle.model.specs.Call.{Machine}
-use Rattle.model.specs.declared.Write.{Write}
-use Rattle.model.specs.declared.Done.{Done}
 use Rattle.replies.specs.Refusals.{dates, dates_only, sending, receiving, clocking, taking_tx, taking_written}
 
 module _ {H W : Type 0} (now : ℕ) (u : Uart H W) where
@@ -21,12 +19,12 @@ module _ {H W : Type 0} (now : ℕ) (u : Uart H W) where
   read-tests r = refl
 
   pub write-tests : (r : Register) (v : ℕ) → outcome (some now) (write_placed now r v u) u
-      ≡ unless (dates_only now u.control.last) Write.Refused (carried (some now) (write_placed now r v u)) u
+      ≡ unless (dates_only now u.control.last) Err (carried (some now) (write_placed now r v u)) u
   unfolding outcome write_placed refuse_date dates_only dates
   write-tests r v = refl
 
   pub send-tests : (b : W) → outcome (some now) (send now b u) u
-      ≡ unless (sending now u.control.last (length u.tx) (length u.in_flight)) Write.Refused
+      ≡ unless (sending now u.control.last (length u.tx) (length u.in_flight)) Err
       (carried (some now) (send now b u)) u
   unfolding outcome send refuse_date sending dates
   send-tests b = refl
@@ -39,32 +37,32 @@ module _ {H W : Type 0} (now : ℕ) (u : Uart H W) where
         runs = length u.host_runs;
         last_date = last_date u.host_runs;
       }) (length bs) (host_date now at))
-      Done.Refused (carried (some now) (receive now at bs u)) u
+      Err (carried (some now) (receive now at bs u)) u
   unfolding outcome receive refuse_date receiving dates
   receive-tests at bs = refl
 
   pub wake-tests : outcome (some now) (machine now Machine.wake u) u
-      ≡ unless (dates_only now u.control.last) Done.Refused (carried (some now) (machine now Machine.wake u)) u
+      ≡ unless (dates_only now u.control.last) Err (carried (some now) (machine now Machine.wake u)) u
   unfolding outcome machine refuse_date dates_only dates
   wake-tests = refl
 
   pub watch-tests : (b : Bool) → outcome (some now) (machine now (Machine.watch b) u) u
-      ≡ unless (dates_only now u.control.last) Done.Refused (carried (some now) (machine now (Machine.watch b) u)) u
+      ≡ unless (dates_only now u.control.last) Err (carried (some now) (machine now (Machine.watch b) u)) u
   unfolding outcome machine refuse_date dates_only dates
   watch-tests b = refl
 
   pub power-down-tests : outcome (some now) (machine now Machine.power_down u) u
-      ≡ unless (dates_only now u.control.last) Done.Refused (carried (some now) (machine now Machine.power_down u)) u
+      ≡ unless (dates_only now u.control.last) Err (carried (some now) (machine now Machine.power_down u)) u
   unfolding outcome machine refuse_date dates_only dates
   power-down-tests = refl
 
   pub clock-tests : (period : ℕ) → outcome (some now) (machine now (Machine.clock_change period) u) u
-      ≡ unless (clocking now u.control.last period) Done.Refused (carried (some now) (machine now (Machine.clock_change period) u)) u
+      ≡ unless (clocking now u.control.last period) Err (carried (some now) (machine now (Machine.clock_change period) u)) u
   unfolding outcome machine refuse_date clocking dates
   clock-tests period = refl
 
   pub reset-tests : outcome (some now) (machine now Machine.reset u) u
-      ≡ unless (dates_only now u.control.last) Done.Refused (carried (some now) (machine now Machine.reset u)) u
+      ≡ unless (dates_only now u.control.last) Err (carried (some now) (machine now Machine.reset u)) u
   unfolding outcome machine refuse_date dates_only dates
   reset-tests = refl
 

@@ -1,27 +1,26 @@
 -- What the tests of each call say, as the definition chains them, from the numbers that the functions take.
 -- Assumes nothing.
-use Rattle.std.specs.Prelude.{◌≡◌, refl, ℕ}
+use Rattle.std.specs.Prelude.{◌≡◌, refl, ℕ, Ok, Err}
 use Rattle.std.proofs.Math.Option.{Option, none, some}
 use Rattle.model.specs.Tests.{past_end, went_back, transmit_full, host_full, runs_full, period_too_long, buffer_too_short, refuse_if}
 use Rattle.model.specs.declared.Refusal.{Refusal}
 use Rattle.model.specs.declared.Refusal.TheVariants.{DatePastEnd, DateWentBack, TransmitFull, HostFull, RunsFull, PeriodTooLong}
 use Rattle.model.specs.declared.Refusal.TheVariants.{BufferTooShort}
-use Rattle.replies.specs.declared.refusals.Verdict.{Verdict}
-use Rattle.replies.specs.declared.refusals.Verdict.TheVariants.{Passed, Refused}
+use Rattle.replies.specs.Names.{Verdict}
 use Rattle.replies.specs.declared.refusals.Waiting.{Waiting}
 
 -- each case of the enum as the definition's answer
 unfoldable pub verdict : Verdict → Option Refusal
-verdict Passed = none
-verdict (Refused r) = some r
+verdict (Ok _) = none
+verdict (Err r) = some r
 
 -- a contract that gives the verdict determines the answer
 pub verdict-one : (a b : Verdict) → verdict a ≡ verdict b → a ≡ b
 unfolding verdict
-verdict-one Passed Passed e = refl
-verdict-one Passed (Refused r) e = cc
-verdict-one (Refused r) Passed e = cc
-verdict-one (Refused r) (Refused s) e = cc
+verdict-one (Ok _) (Ok _) e = refl
+verdict-one (Ok _) (Err r) e = cc
+verdict-one (Err r) (Ok _) e = cc
+verdict-one (Err r) (Err s) e = cc
 
 -- ---- the tests of each call, from the last carried-out date and the numbers that it reads; Calls.antt ties them to it
 

@@ -28,11 +28,7 @@ const RUNS_LIMIT: usize = 64;
 const PERIOD_LIMIT: u64 = 1000000;
 
 // What the tests of a call say.
-#[derive(Clone, Copy)]
-pub enum Verdict {
-    Passed,
-    Refused(Refusal),
-}
+pub type Verdict = Result<(), Refusal>;
 
 // Document 01's number of a refusal.
 pub fn number_of(refusal: Refusal) -> u32
@@ -55,9 +51,9 @@ pub fn set_up_reply(offsets: [u32; 16]) -> SetUp
     ensures { result ≡ set_up_reply offsets }
 {
     if repeated(offsets) {
-        SetUp::Refused(Refusal::RepeatedOffset)
+        Err(Refusal::RepeatedOffset)
     } else {
-        SetUp::Ready
+        Ok(())
     }
 }
 
@@ -129,7 +125,7 @@ fn refuse_if(test: bool, refusal: Refusal, rest: Verdict) -> Verdict
     ensures { verdict result ≡ refuse_if test refusal (verdict rest) }
 {
     if test {
-        Verdict::Refused(refusal)
+        Err(refusal)
     } else {
         rest
     }
@@ -149,7 +145,7 @@ fn date_first(cycle: u64, last: u64, rest: Verdict) -> Verdict
 pub fn date_refusal(cycle: u64, last: u64) -> Verdict
     ensures { verdict result ≡ dates_only cycle last }
 {
-    date_first(cycle, last, Verdict::Passed)
+    date_first(cycle, last, Ok(()))
 }
 
 // A FIFO write.
@@ -160,7 +156,7 @@ pub fn send_refusal(cycle: u64, last: u64, left: usize, flying: usize) -> Verdic
     date_first(
         cycle,
         last,
-        refuse_if(full, Refusal::TransmitFull, Verdict::Passed),
+        refuse_if(full, Refusal::TransmitFull, Ok(())),
     )
 }
 
@@ -171,7 +167,7 @@ pub fn clock_refusal(cycle: u64, last: u64, period: u64) -> Verdict
     date_first(
         cycle,
         last,
-        refuse_if(long, Refusal::PeriodTooLong, Verdict::Passed),
+        refuse_if(long, Refusal::PeriodTooLong, Ok(())),
     )
 }
 
@@ -187,7 +183,7 @@ pub fn written_refusal(room: usize) -> Verdict
     ensures { verdict result ≡ taking_written room }
 {
     let short = buffer_too_short(room);
-    refuse_if(short, Refusal::BufferTooShort, Verdict::Passed)
+    refuse_if(short, Refusal::BufferTooShort, Ok(()))
 }
 
 // The host's side of a receive: how many bytes wait, in how many runs, and the last run's date in subcycles.
@@ -204,6 +200,6 @@ pub fn receive_refusal(cycle: u64, last: u64, waiting: Waiting, new: usize, date
 {
     let full = host_full(waiting.bytes, new);
     let runs = runs_full(new, waiting.runs, waiting.last_date, date);
-    let host = refuse_if(runs, Refusal::RunsFull, Verdict::Passed);
+    let host = refuse_if(runs, Refusal::RunsFull, Ok(()));
     date_first(cycle, last, refuse_if(full, Refusal::HostFull, host))
 }

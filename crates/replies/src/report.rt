@@ -24,5 +24,5 @@ pub fn report(level: bool, wake: Date, overflows: u64, passes: u64, notices: Not
 pub fn no_report() -> Report
     ensures { result ≡ no_report }
 {
-    report(false, Date::None, 0, 0, crate::notices::none())
+    report(false, None, 0, 0, crate::notices::none())
 }

@@ -1,5 +1,5 @@
 -- What the UART answered to a call or a row, put out, gives what the definition gives. Assumes nothing.
-use Rattle.std.specs.Prelude.{◌≡◌, refl, Bool, true, false}
+use Rattle.std.specs.Prelude.{◌≡◌, refl, Bool, true, false, Ok, Err}
 use Rattle.std.proofs.Math.Path.{ap, sym}
 use Rattle.std.proofs.Common.{ap₂, subst, ◌∙◌}
 use Rattle.std.proofs.Math.Option.{Option, none, some}
@@ -17,7 +17,7 @@ use Rattle.model.specs.Run.{Step, answering, step, asked_by, asked}
 use Rattle.model.proofs.Laws.StepCases.{step-cases}
 use Rattle.model.specs.declared.Refusal.{Refusal}
 use Rattle.model.specs.declared.Report.{Report}
-use Rattle.model.specs.declared.SetUp.{SetUp}
+use Rattle.model.specs.Names.{SetUp}
 use Rattle.calls.specs.Answers.{undated_call, Answers}
 use Rattle.calls.specs.Undated.{left_reply, pending_reply}
 use Rattle.calls.specs.declared.queries.HasLeft.{HasLeft}
@@ -116,14 +116,14 @@ module _ (s : Session) where
 
 module _ {offsets resets : List ℕ} {u : Uart} {reply : SetUp} (made : SetsUp offsets resets u reply)
     {before : List ℕ} {at : ℕ} {after : List ℕ} {place : ℕ} (p : Put (set_up_text reply) before at after place) where
-  pub set-up-ready : (d : Option (State.Uart ℕ ℕ)) {r : Session} → reply ≡ SetUp.Ready → r ≡ set_up u place
+  pub set-up-ready : (d : Option (State.Uart ℕ ℕ)) {r : Session} → reply ≡ (Ok tt) → r ≡ set_up u place
       → Gives (sets_up offsets resets d) before at after r
   set-up-ready d ready e =
       in_use (sets_up offsets resets d) (ap set_up_text made.replies)
       (ap some made.state ∙ ap (λ (x : SetUp). settled x (new offsets resets) d) (sym ready ∙ made.replies))
       (made.good ready) (used p e)
 
-  pub set-up-refused : (s : Session) {r : Session} (q : Refusal) → reply ≡ SetUp.Refused q → Good s.uart → r ≡ moved_to place s
+  pub set-up-refused : (s : Session) {r : Session} (q : Refusal) → reply ≡ Err q → Good s.uart → r ≡ moved_to place s
       → Gives (sets_up offsets resets (stands_for s)) before at after r
   set-up-refused s q refused g e =
       moved p (sets_up offsets resets (stands_for s)) s (ap set_up_text made.replies)

@@ -1,6 +1,6 @@
 -- The line of a hand-out as it is made from the lent buffer, and that it is the one of the definition's reply: what was lent after
 -- the bytes is as it was. Assumes nothing.
-use Rattle.std.specs.Prelude.{◌≡◌, refl, Bool, true, false, ℕ, zero, suc, ◌+◌, ◌-◌, ◌<◌, ◌≤◌, min, take, drop, get_or, set}
+use Rattle.std.specs.Prelude.{◌≡◌, refl, Bool, true, false, ℕ, zero, suc, ◌+◌, ◌-◌, ◌<◌, ◌≤◌, min, take, drop, get_or, set, Ok, Err}
 use Rattle.std.proofs.Common.{ap, sym, subst, ◌∙◌, add-zero, add-one, eq-eqb, ne_eqb, length-append, length-drop, drop_of_length-le}
 use Rattle.std.proofs.Common.{take_at, drop_at, take-suc-set, drop-cons}
 use Rattle.std.proofs.Math.Path.{ap₂}
@@ -16,7 +16,7 @@ use Rattle.model.specs.Calls.{Outcome, refusing, unless, after_settling, carried
 use Rattle.model.specs.Calls.{take_written}
 use Rattle.model.specs.declared.Refusal.{Refusal}
 use Rattle.model.specs.declared.Report.{Report}
-use Rattle.model.specs.declared.Taken.{Taken}
+use Rattle.model.specs.Names.{Taken}
 use Rattle.calls.specs.Answers.{dated_call, undated_call}
 use Rattle.answers.specs.Reports.{report_text}
 use Rattle.answers.specs.Replies.{refusal_text, hand_out_text}
@@ -31,8 +31,8 @@ abbrev pub hand_out_of : List ℕ → List ℕ → ℕ → List ℕ
 hand_out_of end l n = hand_out_text (take n l) (marked n l) ++ end
 
 abbrev pub line_of : List ℕ → List ℕ → Taken → List ℕ
-line_of end l (Taken.Bytes count) = hand_out_of end l (min count (length l))
-line_of end l (Taken.Refused q) = refusal_text q
+line_of end l (Ok count) = hand_out_of end l (min count (length l))
+line_of end l (Err q) = refusal_text q
 
 abbrev pub taken_line : Report → List ℕ → Taken → List ℕ
 taken_line report l t = line_of (report_text report) l t

@@ -1,5 +1,5 @@
 -- A call or a row that a line names, and its answer by the definition: the text, and the UART after it. Assumes nothing.
-use Rattle.std.specs.Prelude.{ℕ, zero, suc, ◌%◌, min, true, List, [], ◌∷◌, ◌++◌, map, eqb, take, drop, get_or}
+use Rattle.std.specs.Prelude.{ℕ, zero, suc, ◌%◌, min, true, List, [], ◌∷◌, ◌++◌, map, eqb, take, drop, get_or, Ok, Err}
 use Rattle.std.proofs.Math.Option.{Option, none, some}
 use Rattle.std.specs.Int.Bits.{bit_xor}
 use Rattle.text.specs.Ascii.{ascii}
@@ -15,8 +15,7 @@ use Rattle.model.specs.Call.{pends, rows, Answer}
 use Rattle.model.specs.Replies.{as_read}
 use Rattle.model.specs.Run.{asked}
 use Rattle.model.specs.declared.Report.{Report}
-use Rattle.model.specs.declared.SetUp.{SetUp}
-use Rattle.model.specs.declared.Taken.{Taken}
+use Rattle.model.specs.Names.{SetUp, Taken}
 use Rattle.answers.specs.Reports.{report_text}
 use Rattle.answers.specs.Replies.{refusal_text, set_up_text, read_text, write_text, row_text, done_text, hand_out_text, has_left_text}
 use Rattle.answers.specs.Replies.{host_pending_text}
@@ -73,8 +72,8 @@ command_of Figures ns last bytes s = figures (firsts_in s) (seconds_in s)
 
 -- a hand-out, and the end of its line: nothing after the bytes is changed
 abbrev pub handed_text : List ℕ → List ℕ → Taken → List ℕ
-handed_text end bytes (Taken.Bytes n) = hand_out_text bytes true ++ end
-handed_text end bytes (Taken.Refused q) = refusal_text q
+handed_text end bytes (Ok n) = hand_out_text bytes true ++ end
+handed_text end bytes (Err q) = refusal_text q
 
 -- what ends the line of a hand-out: the report of take_tx; take_written is not dated, and a row hands nothing out
 abbrev pub end_text : Ask → Report → List ℕ
@@ -102,8 +101,8 @@ pub record Next : Type 0 where
 
 -- a new UART; a refused set-up leaves the one before in place
 abbrev pub settled : SetUp → Uart ℕ ℕ → Option (Uart ℕ ℕ) → Option (Uart ℕ ℕ)
-settled SetUp.Ready u before = some u
-settled (SetUp.Refused q) u before = before
+settled (Ok _) u before = some u
+settled (Err q) u before = before
 
 abbrev pub sets_up : List ℕ → List ℕ → Option (Uart ℕ ℕ) → Next
 sets_up offsets resets before = record {

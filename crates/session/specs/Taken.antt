@@ -7,7 +7,7 @@ use Rattle.model.specs.Call.{Dated, Undated, Call, Asked, takes}
 use Rattle.model.specs.Calls.{take_tx, take_written}
 use Rattle.model.proofs.Laws.StepCases.{step-cases}
 use Rattle.model.specs.declared.Report.{Report}
-use Rattle.model.specs.declared.Taken.{Taken}
+use Rattle.model.specs.Names.{Taken}
 use Rattle.calls.specs.Answers.{dated_call, undated_call}
 use Rattle.uart.specs.declared.Uart.{Uart}
 use Rattle.uart.specs.Whole.{meaning, Took}

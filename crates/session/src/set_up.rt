@@ -22,10 +22,10 @@ pub fn set_up(session: Session, words: [u64; 32], out: &mut [u8]) -> Session
     let reply = new.reply;
     let at = put_set_up(out, session.at, reply);
     match reply {
-        SetUp::Ready => {
+        Ok(()) => {
             let uart = new.uart;
             in_use(uart, at)
         }
-        SetUp::Refused(_) => session.with_output(at),
+        Err(_) => session.with_output(at),
     }
 }

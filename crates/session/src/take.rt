@@ -62,8 +62,8 @@ fn after_take(after: AfterTake, lent: &[u8], at: usize, out: &mut [u8]) -> Sessi
     let report = after.report;
     let uart = after.uart;
     match reply {
-        Taken::Refused(refusal) => in_use(uart, put_refusal(out, at, refusal)),
-        Taken::Bytes(count) => {
+        Err(refusal) => in_use(uart, put_refusal(out, at, refusal)),
+        Ok(count) => {
             let n = within(count, lent);
             let kept = same_marks(lent, n);
             in_use(uart, put_taken(out, at, &lent[..n], kept, report))
@@ -81,8 +81,8 @@ fn after_written(after: AfterTake, lent: &[u8], at: usize, out: &mut [u8]) -> Se
     let reply = after.reply;
     let uart = after.uart;
     match reply {
-        Taken::Refused(refusal) => in_use(uart, put_refusal(out, at, refusal)),
-        Taken::Bytes(count) => {
+        Err(refusal) => in_use(uart, put_refusal(out, at, refusal)),
+        Ok(count) => {
             let n = within(count, lent);
             let kept = same_marks(lent, n);
             in_use(uart, put_written(out, at, &lent[..n], kept))

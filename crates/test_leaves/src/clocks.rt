@@ -39,7 +39,7 @@ fn earlier(rt: &HostRuntime, due: Date, at: u64, instant: u64) -> io::Result<()>
     show::date(rt, due)?;
     show::number(rt, at)?;
     show::text(rt, b" =")?;
-    show::date(rt, deadline::arm(due, Date::At(instant)))?;
+    show::date(rt, deadline::arm(due, Some(instant)))?;
     show::text(rt, b"\n")
 }
 
@@ -54,17 +54,17 @@ fn called(rt: &HostRuntime, due: Date, at: u64) -> io::Result<()> {
 
 // The earliest is kept; the largest subcycle is cycle 2^59; a call at or after the date clears it.
 pub(crate) fn deadlines(rt: &HostRuntime) -> io::Result<()> {
-    armed(rt, Date::None, Date::None)?;
-    armed(rt, Date::At(520), Date::None)?;
-    armed(rt, Date::None, Date::At(16640))?;
-    armed(rt, Date::At(520), Date::At(16641))?;
-    armed(rt, Date::At(520), Date::At(16608))?;
-    armed(rt, Date::None, Date::At(0xFFFF_FFFF_FFFF_FFFF))?;
-    earlier(rt, Date::None, 0, 0)?;
-    earlier(rt, Date::At(520), 521, 16672)?;
-    earlier(rt, Date::At(520), 519, 16608)?;
-    called(rt, Date::None, 520)?;
-    called(rt, Date::At(520), 519)?;
-    called(rt, Date::At(520), 520)?;
-    called(rt, Date::At(520), 521)
+    armed(rt, None, None)?;
+    armed(rt, Some(520), None)?;
+    armed(rt, None, Some(16640))?;
+    armed(rt, Some(520), Some(16641))?;
+    armed(rt, Some(520), Some(16608))?;
+    armed(rt, None, Some(0xFFFF_FFFF_FFFF_FFFF))?;
+    earlier(rt, None, 0, 0)?;
+    earlier(rt, Some(520), 521, 16672)?;
+    earlier(rt, Some(520), 519, 16608)?;
+    called(rt, None, 520)?;
+    called(rt, Some(520), 519)?;
+    called(rt, Some(520), 520)?;
+    called(rt, Some(520), 521)
 }

@@ -20,7 +20,7 @@ pub(crate) fn truth(rt: &HostRuntime, b: bool) -> io::Result<()> {
 
 pub(crate) fn date(rt: &HostRuntime, d: Date) -> io::Result<()> {
     match d {
-        Date::None => text(rt, b" -"),
-        Date::At(n) => number(rt, n),
+        None => text(rt, b" -"),
+        Some(n) => number(rt, n),
     }
 }

@@ -22,9 +22,9 @@ fn zeros() -> Words {
 
 fn value(rt: &HostRuntime, r: Read) -> io::Result<()> {
     match r {
-        Read::Value(v) => show::word(rt, v),
-        Read::NoValue => show::text(rt, b" -"),
-        Read::Refused(_) => show::text(rt, b" refused"),
+        Ok(Some(v)) => show::word(rt, v),
+        Ok(None) => show::text(rt, b" -"),
+        Err(_) => show::text(rt, b" refused"),
     }
 }
 

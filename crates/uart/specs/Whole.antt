@@ -2,7 +2,7 @@
 -- over parts. Assumes nothing.
 -- What is free is named in the specs of `device`, Holds: where a queue starts in its slots, and what stands in slots that hold no
 -- element. No answer depends on it, since every contract gives the answer from the meaning alone.
-use Rattle.std.specs.Prelude.{◌≡◌, false, List, ℕ, length, replicate}
+use Rattle.std.specs.Prelude.{◌≡◌, false, List, ℕ, length, replicate, Ok}
 use Rattle.std.proofs.Common.{sym, subst, ◌∙◌, arith}
 use Rattle.model.specs.State
 use Rattle.model.specs.SetUp.{map_of, new, set_up_reply}
@@ -13,8 +13,7 @@ use Rattle.model.specs.Limits.{Within}
 use Rattle.model.proofs.Laws.Choose.{choose-ind}
 use Rattle.model.proofs.Keeps.Runs.{new-within}
 use Rattle.model.specs.declared.Report.{Report}
-use Rattle.model.specs.declared.SetUp.{SetUp}
-use Rattle.model.specs.declared.Taken.{Taken}
+use Rattle.model.specs.Names.{SetUp, Taken}
 use Rattle.queue.specs.Cursors.{slot_of}
 use Rattle.queue.specs.Laws.{empty-held, empty-elems}
 use Rattle.device.specs.Holds.{Arrays, sent_at, run_in, on_the_line, abs, Shape, Valid}
@@ -78,7 +77,7 @@ pub record SetsUp (offsets resets : List ℕ) (u : Uart) (reply : SetUp) : Type 
   pub core : u.core ≡ new_core offsets resets
   pub slots : arrays_of u ≡ zeros
   pub state : meaning u ≡ new offsets resets
-  pub good : reply ≡ SetUp.Ready → Good u
+  pub good : reply ≡ (Ok tt) → Good u
 
 -- ---- set-up
 
@@ -105,12 +104,12 @@ module _ (offsets resets : List ℕ) (a : Arrays) where
   new-shape l = search (l, empty-held, arith)
 
   -- set-up that is not refused has offsets that all differ
-  all-differ : {reply : SetUp} → reply ≡ set_up_reply offsets → reply ≡ SetUp.Ready → repeated offsets ≡ false
+  all-differ : {reply : SetUp} → reply ≡ set_up_reply offsets → reply ≡ (Ok tt) → repeated offsets ≡ false
   unfolding set_up_reply
   all-differ {reply} e ready =
-      choose-ind (λ (r : SetUp). r ≡ SetUp.Ready → repeated offsets ≡ false) (repeated offsets) (λ _ bad. cc) (λ t _. t) (sym e ∙ ready)
+      choose-ind (λ (r : SetUp). r ≡ (Ok tt) → repeated offsets ≡ false) (repeated offsets) (λ _ bad. cc) (λ t _. t) (sym e ∙ ready)
 
-  pub new-good : {reply : SetUp} → length offsets ≡ 16 → Slots → reply ≡ set_up_reply offsets → reply ≡ SetUp.Ready
+  pub new-good : {reply : SetUp} → length offsets ≡ 16 → Slots → reply ≡ set_up_reply offsets → reply ≡ Ok tt
       → Valid (new_core offsets resets) a
   new-good sixteen l e ready = record {
     shape = new-shape l;

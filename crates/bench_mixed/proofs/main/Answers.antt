@@ -3,4 +3,4 @@ use native.Mathlib.Omega.{arith}
 use Rattle.bench_mixed.proofs.main.Goals as goal
 
 pub run-requires : goal.run-requires
-run-requires c = c.new-made.ensures.good c.in-Ready.is
+run-requires c = c.new-made.ensures.good c.in-Ok.is

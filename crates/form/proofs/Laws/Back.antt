@@ -1,5 +1,5 @@
 -- A form is read back as the state that it is the form of. Assumes nothing.
-use Rattle.std.specs.Prelude.{◌≡◌, ℕ, ◌-◌, ◌/◌, ◌^◌, ◌≤◌, ◌<◌, Bool, true, false, eqb, length, get_or, take, drop}
+use Rattle.std.specs.Prelude.{◌≡◌, ℕ, ◌-◌, ◌/◌, ◌^◌, ◌≤◌, ◌<◌, Bool, true, false, eqb, length, get_or, take, drop, Some, None}
 use Rattle.std.proofs.Math.Path.{refl, sym, ap, ap₂}
 use Rattle.std.proofs.Common.{◌∙◌, arith}
 use Rattle.std.proofs.Math.Option.{Option, none, some}
@@ -26,9 +26,8 @@ use Rattle.form.proofs.Laws.Numbers.{Holds, value-back, numbers-back, widths, va
 use Rattle.form.proofs.Laws.Numbers.{one-width-back}
 use Rattle.form.proofs.Laws.Parts.{laid_bytes, parts-read, parts-lie, numbers-bytes, host-bytes, written-bytes, laid-bytes}
 use Rattle.form.proofs.Laws.Lengths.{dates-long, runs-long, form-largest}
-use Rattle.model.specs.declared.Date.{Date}
-use Rattle.model.specs.declared.Date.TheVariants.{None, At}
-use Rattle.model.specs.declared.Source.{Source}
+use Rattle.model.specs.Names.{Date, Source}
+use Rattle.model.specs.declared.Unmodelled.{Unmodelled}
 use Rattle.model.specs.declared.Words.{Words}
 use Rattle.model.specs.declared.RegisterMap.{RegisterMap}
 
@@ -72,13 +71,13 @@ map_back m sixteen o h s r =
 date-back : (d : Date) → date_in (date_mark d) (instant_of d) ≡ d
 unfolding instant_of choose
 date-back None = refl
-date-back (At d) = refl
+date-back (Some d) = refl
 
 source-back : (s : Source) → source_in (source_number s) ≡ s
 unfolding choose
-source-back Source.None = refl
-source-back Source.Sel0 = refl
-source-back Source.Sel2 = refl
+source-back None = refl
+source-back (Some Unmodelled.Sel0) = refl
+source-back (Some Unmodelled.Sel2) = refl
 
 mark-back : (b : Bool) → eqb (mark_of b) 1 ≡ b
 mark-back true = refl
@@ -90,17 +89,17 @@ mark-fits false = omega arith
 
 date-mark-fits : (d : Date) → date_mark d < 256
 date-mark-fits None = omega arith
-date-mark-fits (At d) = omega arith
+date-mark-fits (Some d) = omega arith
 
 source_fits : (s : Source) → source_number s < 256
-source_fits Source.None = omega arith
-source_fits Source.Sel0 = omega arith
-source_fits Source.Sel2 = omega arith
+source_fits None = omega arith
+source_fits (Some Unmodelled.Sel0) = omega arith
+source_fits (Some Unmodelled.Sel2) = omega arith
 
 instant-fits : (n : ℕ) (d : Date) → n < 256 ^ 8 → NoLater n d → instant_of d < 256 ^ 8
 unfolding instant_of
 instant-fits n None h l = omega (arith, h)
-instant-fits n (At d) h l = omega (arith, h, l)
+instant-fits n (Some d) h l = omega (arith, h, l)
 
 frame-mark-fits : {H : Type 0} (r : Option (OnTheLine H)) → frame_mark r < 256
 unfolding choose

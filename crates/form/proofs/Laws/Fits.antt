@@ -1,5 +1,6 @@
 -- A state that is read from bytes has the widths of its fields, whatever the bytes are. Assumes nothing.
 use Rattle.std.specs.Prelude.{refl, ℕ, zero, suc, ◌+◌, ◌-◌, ◌/◌, ◌^◌, ◌≤◌, ◌<◌, Bool, true, false, List, [], ◌∷◌, ◌++◌, map, eqb, length}
+use Rattle.std.specs.Prelude.{Some, None}
 use Rattle.std.specs.Prelude.{get_or, take, drop, replicate}
 use Rattle.std.proofs.Common.{sym, subst, pow-suc, arith, get_or-drop}
 use Rattle.std.proofs.Math.Option.{none, some}
@@ -14,7 +15,6 @@ use Rattle.form.specs.Read.{value_of, number_at, numbers_in, parts_from, part_at
 use Rattle.form.specs.Read.{flying_in, dates_in}
 use Rattle.form.specs.Read.{receiving_in, waiting_in, sent_in, runs_from, state_with, state_in}
 use Rattle.form.proofs.Laws.Within.{Wide}
-use Rattle.model.specs.declared.Date.TheVariants.{None, At}
 
 -- ---- numbers
 
@@ -52,7 +52,7 @@ date-fits : (mark d : ℕ) → d < 256 ^ 8 → NoLater Dates.last (date_in mark 
 unfolding choose
 date-fits mark d h = by-mark (eqb mark 0)
   where
-    by-mark : (t : Bool) → NoLater Dates.last (choose t None (At d))
+    by-mark : (t : Bool) → NoLater Dates.last (choose t None (Some d))
     by-mark true = tt
     by-mark false = omega (arith, h)
 

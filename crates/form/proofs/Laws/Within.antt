@@ -1,5 +1,5 @@
 -- The test passes exactly where a state is within the limits. Assumes nothing.
-use Rattle.std.specs.Prelude.{◌≡◌, Bool, false, ◌&&◌, ◌||◌, length}
+use Rattle.std.specs.Prelude.{◌≡◌, Bool, false, ◌&&◌, ◌||◌, length, Some, None}
 use Rattle.std.proofs.Math.Path.{refl}
 use Rattle.std.proofs.Common.{sym, ap, ap₂, ◌∙◌}
 use Prim.Native.Nat.{ℕ, ◌≤◌, ◌<◌}
@@ -15,8 +15,7 @@ use Rattle.model.specs.Limits.{Chain, empty, single, link, All, nil, cons, NoLat
 use Rattle.model.proofs.Ends.Passes.{apart}
 use Rattle.dates.specs.Dates
 use Rattle.form.specs.Tests.{chained, every, no_later, closed, all_pass, limits, is_within}
-use Rattle.model.specs.declared.Date.{Date}
-use Rattle.model.specs.declared.Date.TheVariants.{None, At}
+use Rattle.model.specs.Names.{Date}
 
 abbrev Passes : Bool → Type 0
 Passes t = t ≡ true
@@ -62,11 +61,11 @@ module _ (p : ℕ → Bool) (P : ℕ → Type 0) where
 
 no-later : (n : ℕ) (d : Date) → Passes (no_later n d) → NoLater n d
 no-later n None e = tt
-no-later n (At d) e = leb-true d n e
+no-later n (Some d) e = leb-true d n e
 
 of-no-later : (n : ℕ) (d : Date) → NoLater n d → Passes (no_later n d)
 of-no-later n None h = refl
-of-no-later n (At d) h = le-leb d n h
+of-no-later n (Some d) h = le-leb d n h
 
 module _ {H : Type 0} where
   abbrev Closed : Option (OnTheLine H) → Date → Type 0
@@ -74,19 +73,19 @@ module _ {H : Type 0} where
 
   is-closed : (r : Option (OnTheLine H)) (idle : Date) → Passes (closed r idle) → Closed r idle
   is-closed r None e l f h = refl
-  is-closed none (At d) e l f h = absurd (none-ne-some l f)
-  is-closed (some k) (At d) e l f h =
+  is-closed none (Some d) e l f h = absurd (none-ne-some l f)
+  is-closed (some k) (Some d) e l f h =
       let heard : k.frame.heard ≡ true = ap (λ x. x.frame.heard) (some-injective k l f) ∙ h in
       absurd (false≢true (sym (ap (λ t. not t || false) heard) ∙ e))
 
   of-closed : (r : Option (OnTheLine H)) (idle : Date) → Closed r idle → Passes (closed r idle)
   of-closed none idle c = refl
   of-closed (some k) None c = or-true (not k.frame.heard)
-  of-closed (some k) (At d) c = by-heard k.frame.heard refl
+  of-closed (some k) (Some d) c = by-heard k.frame.heard refl
     where
       by-heard : (t : Bool) → k.frame.heard ≡ t → Passes (not t || false)
       by-heard false e = refl
-      by-heard true e = let f : At d ≡ None = c k refl e in apart (cc)
+      by-heard true e = let f : Some d ≡ None = c k refl e in apart (cc)
 
 -- ---- all of them
 

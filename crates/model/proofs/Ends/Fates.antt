@@ -1,5 +1,5 @@
 -- What becomes of the byte that a pass takes off the line, and what is pending after a pass. Assumes nothing.
-use Rattle.std.specs.Prelude.{◌≡◌, refl, ◌↔◌, ℕ, ◌+◌, ◌≤◌, ◌<◌, Bool, true, false, List, ◌++◌, length}
+use Rattle.std.specs.Prelude.{◌≡◌, refl, ◌↔◌, ℕ, ◌+◌, ◌≤◌, ◌<◌, Bool, true, false, List, ◌++◌, length, Some, None}
 use Rattle.std.proofs.Math.Path.{sym, ap}
 use Rattle.std.proofs.Common.{subst, ◌∙◌, arith, true≢false, ltb-true, ltb-false, le-ltb}
 use Rattle.std.proofs.Math.Option.{Option, none, some}
@@ -12,8 +12,7 @@ use Rattle.model.proofs.Laws.Choose.{choose-ind}
 use Rattle.model.proofs.Laws.Cases.{pass-cases}
 use Rattle.model.proofs.Ends.Passes.{apart, frame_of, underway, Takes, PassLaw, pass-law}
 use Rattle.model.specs.State.{line_bytes}
-use Rattle.model.specs.declared.Date.{Date}
-use Rattle.model.specs.declared.Date.TheVariants.{None, At}
+use Rattle.model.specs.Names.{Date}
 use Rattle.model.specs.declared.Line.{Line}
 use Rattle.model.specs.declared.Frame.{Frame}
 use Rattle.model.specs.declared.Settings.{Settings}
@@ -66,7 +65,7 @@ opens ClockOff = false
 opens Unheard = false
 
 land-idle : (s : Settings) (f : Fate) (fr : Frame) (l : Line)
-    → (land s f fr l).idle_since ≡ choose (opens f) (At l.line_free_at) l.idle_since
+    → (land s f fr l).idle_since ≡ choose (opens f) (Some l.line_free_at) l.idle_since
 unfolding land opens opened raise_if note_source choose
 land-idle s Stored fr l = refl
 land-idle s Overflowed fr l = refl
@@ -107,7 +106,7 @@ landed_fate (nothing at) = Stored
 unfoldable idle_by : {H W : Type 0} → Event H W → Date → Date
 idle_by (departure at b) d = d
 idle_by (timeout at) d = None
-idle_by (landing at b f) d = choose (opens f) (At at) d
+idle_by (landing at b f) d = choose (opens f) (Some at) d
 idle_by (nothing at) d = d
 
 module _ {H W : Type 0} (s : Settings) where
@@ -115,7 +114,7 @@ module _ {H W : Type 0} (s : Settings) where
   Lands u p =
       (at : ℕ) (b : H) (f : Fate) → p.event ≡ landing at b f
       → (f ≡ fate s (length u.rx) (frame_of s u.receiving))
-      × ((line_of p.state).idle_since ≡ choose (opens f) (At at) (line_of u).idle_since)
+      × ((line_of p.state).idle_since ≡ choose (opens f) (Some at) (line_of u).idle_since)
 
   landed-lands : (u : Uart H W) (l : OnTheLine H) → u.receiving ≡ some l → Lands u (landed s (fate s (length u.rx) l.frame) l u)
   unfolding landed idle_by landed_fate
@@ -129,7 +128,7 @@ module _ {H W : Type 0} (s : Settings) where
   begun-lands u at c cs p n h d b f q =
       let (which, idle) = h d b f q in (
         which ∙ ap (λ o. fate s (length u.rx) (frame_of s o)) (sym n),
-        idle ∙ same-unless (opens f) (At d) (λ o. start-idle s at (length u.rx) (line_of u) (sym (ap opens which) ∙ o)),
+        idle ∙ same-unless (opens f) (Some d) (λ o. start-idle s at (length u.rx) (line_of u) (sym (ap opens which) ∙ o)),
       )
 
   -- of a pass that found a landing: the idle line opens at the landing, or stays as it was, by the byte's fate

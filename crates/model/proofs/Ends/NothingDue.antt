@@ -1,6 +1,7 @@
 -- Demand 1 of a settling: within 2 × pending + 2 passes it leaves nothing due, spelled out in dates. Assumes nothing but,
 -- for the bytes in flight, that their dates never fall.
 use Rattle.std.specs.Prelude.{◌≡◌, refl, ℕ, zero, suc, ◌+◌, ◌*◌, ◌^◌, ◌≤◌, ◌<◌, min, Bool, List, [], ◌∷◌, ◌++◌, map, leb, length, take}
+use Rattle.std.specs.Prelude.{Some, None}
 use Rattle.std.specs.Prelude.{drop}
 use Rattle.std.proofs.Math.Path.{sym, ap, ap₂}
 use Rattle.std.proofs.Common.{◌∙◌, append_assoc, leb-true, leb-false}
@@ -20,7 +21,6 @@ use Rattle.model.specs.Limits.{All, nil, cons, Chain, empty, single, link, fligh
 use Rattle.model.proofs.Ends.Passes.{apart, After, LineQuiet, Kept}
 use Rattle.model.proofs.Laws.Events.{departures-pass, departures-lose}
 use Rattle.model.proofs.Ends.Through.{Through, through, through_passes, passes-bound, through-kept, through-quiet, through-last}
-use Rattle.model.specs.declared.Date.TheVariants.{None, At}
 use Rattle.model.specs.declared.Control.{Control}
 
 -- ---- the settling's date
@@ -31,7 +31,7 @@ unfolding settling_date earliest instant_of
 settles-now now c lt e = rw e (omega arith)
 
 -- after power-down no later than that date
-pub settles-down : (now down : ℕ) (c : Control) → now < 2 ^ 59 → c.powered_down_at ≡ At down → settling_date now c ≡ min (now * 32) down
+pub settles-down : (now down : ℕ) (c : Control) → now < 2 ^ 59 → c.powered_down_at ≡ Some down → settling_date now c ≡ min (now * 32) down
 unfolding settling_date earliest instant_of
 settles-down now down c lt e = rw e (omega arith)
 

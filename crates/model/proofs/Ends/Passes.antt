@@ -1,6 +1,6 @@
 -- What one pass does: it rests because nothing is due, or it takes one timeout, or it takes one byte off the line.
 -- Assumes nothing.
-use Rattle.std.specs.Prelude.{◌≡◌, ℕ, ◌≤◌, ◌<◌, true, false, length}
+use Rattle.std.specs.Prelude.{◌≡◌, ℕ, ◌≤◌, ◌<◌, true, false, length, Some, None}
 use Rattle.std.proofs.Math.Path.{refl, sym, ap, ap₂}
 use Rattle.std.proofs.Common.{◌∙◌, arith}
 use Rattle.std.proofs.lemmas.Bool.{false≢true}
@@ -16,8 +16,7 @@ use Rattle.model.specs.Line
 use Rattle.model.specs.Line.{raise_if, note_source, after_date, timeout_at, time_out, frame, start, land}
 use Rattle.model.specs.Settle.{Pass, received, nothing_due, timed_out, landed, in_frame, begun, before_start, idle, line_free, pass_on}
 use Rattle.model.specs.Settle.{pass}
-use Rattle.model.specs.declared.Date.{Date}
-use Rattle.model.specs.declared.Date.TheVariants.{None, At}
+use Rattle.model.specs.Names.{Date}
 use Rattle.model.specs.declared.Line.{Line}
 use Rattle.model.specs.declared.Frame.{Frame}
 use Rattle.model.specs.declared.Settings.{Settings}
@@ -34,12 +33,12 @@ apart e = absurd (let z : ◌≡◌ {A = ℕ} 0 1 = e in omega arith)
 -- a date, if there is one, lies after `date`: it is not due
 abbrev pub After : ℕ → Date → Type 0
 After date None = Unit {0}
-After date (At t) = date < t
+After date (Some t) = date < t
 
 -- there is a date, and it is due
 pub record DueAt (date : ℕ) (d : Date) : Type 0 where
   pub at : ℕ
-  pub is : d ≡ At at
+  pub is : d ≡ Some at
   pub due : at ≤ date
 
 -- the frame of the byte on the line, or of the next to start
@@ -75,7 +74,7 @@ module _ {H W : Type 0} where
 
     -- one timeout, that of the open idle line, was due: that line closes, and no byte moves into the receive FIFO
     pub record TakesTimeout (at : ℕ) (v : Uart H W) : Type 0 where
-      pub comes : timeout_at s (line_of u) ≡ At at
+      pub comes : timeout_at s (line_of u) ≡ Some at
       pub due : at ≤ date
       pub closed : (line_of v).idle_since ≡ None
       pub pends : underway v ≡ underway u
@@ -113,19 +112,19 @@ kept_trans p q = record {
 due-at : (date : ℕ) (d : Date) → due_by date d ≡ true → DueAt date d
 unfolding due_by
 due-at date None h = absurd (false≢true h)
-due-at date (At t) h = record { at = t; is = refl; due = leb-true t date h }
+due-at date (Some t) h = record { at = t; is = refl; due = leb-true t date h }
 
 not-due : (date : ℕ) (d : Date) → due_by date d ≡ false → After date d
 unfolding due_by
 not-due date None h = tt
-not-due date (At t) h = leb-false t date h
+not-due date (Some t) h = leb-false t date h
 
 due-later : {a b : ℕ} (d : Date) → a ≤ b → DueAt a d → DueAt b d
 due-later d le h = record { at = h.at; is = h.is; due = omega arith }
 
 before-start : (date at : ℕ) (d : Date) → date < at → After (earlier date at) d → After date d
 before-start date at None lt h = tt
-before-start date at (At t) lt h = omega arith
+before-start date at (Some t) lt h = omega arith
 
 first-date : {r r' : Run} {rs rs' : List Run} → r ∷ rs ≡ r' ∷ rs' → r.date ≡ r'.date
 first-date e = cc
@@ -137,7 +136,7 @@ unfolding timeout_at start note_source after_date
 start-timeout s at l date =
     choose-ind (λ (x : Line). DueAt date (after_date s.timeout_time x.idle_since)
     → after_date s.timeout_time x.idle_since ≡ timeout_at s l) s.rx_sclk_en
-    (λ _ h. let e : None ≡ At h.at = h.is in apart (cc)) (λ _ _. refl)
+    (λ _ h. let e : None ≡ Some h.at = h.is in apart (cc)) (λ _ _. refl)
 
 pub time_out-closes : (s : Settings) (held : ℕ) (l : Line) → (time_out s held l).idle_since ≡ None
 unfolding time_out raise_if note_source
@@ -157,15 +156,15 @@ land-free s ClockOff fr l = refl
 land-free s Unheard fr l = refl
 
 -- a due timeout has its date
-instant-is : (d : Date) {n : ℕ} → DueAt n d → d ≡ At (instant_of d)
+instant-is : (d : Date) {n : ℕ} → DueAt n d → d ≡ Some (instant_of d)
 unfolding instant_of
-instant-is None h = let e : None ≡ At h.at = h.is in apart (cc)
-instant-is (At t) h = refl
+instant-is None h = let e : None ≡ Some h.at = h.is in apart (cc)
+instant-is (Some t) h = refl
 
 instant-due : (d : Date) {n : ℕ} → DueAt n d → instant_of d ≤ n
 unfolding instant_of
-instant-due None h = let e : None ≡ At h.at = h.is in apart (cc)
-instant-due (At t) h = omega (arith, h.due, ap instant_of h.is)
+instant-due None h = let e : None ≡ Some h.at = h.is in apart (cc)
+instant-due (Some t) h = omega (arith, h.due, ap instant_of h.is)
 
 -- ---- one pass
 

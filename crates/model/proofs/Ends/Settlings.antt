@@ -1,6 +1,6 @@
 -- The settlings of a call, each bounded and leaving nothing due: those with which the definition carries it out. Assumes, for what is
 -- due, that dates in flight never fall.
-use Rattle.std.specs.Prelude.{◌≡◌, refl, ℕ, ◌+◌, ◌*◌, ◌≤◌, List, [], ◌∷◌}
+use Rattle.std.specs.Prelude.{◌≡◌, refl, ℕ, ◌+◌, ◌*◌, ◌≤◌, List, [], ◌∷◌, None}
 use Rattle.std.proofs.Common.{sym, ap, ◌∙◌}
 use Rattle.model.specs.Events.{passes_in}
 use Rattle.model.specs.State.{Uart}
@@ -16,7 +16,7 @@ use Rattle.model.specs.Limits.{All, nil, cons, Chain, flight_dates}
 use Rattle.model.proofs.Laws.AccessCases.{write-ind}
 use Rattle.model.proofs.Ends.Passes.{apart}
 use Rattle.model.proofs.Ends.NothingDue.{NothingLeft, settle-passes, settle-order, settle-nothing-left}
-use Rattle.model.specs.declared.Date.{Date}
+
 
 -- a settling: its cycle, and the state that it begins with
 pub record Settling : Type 0 where
@@ -43,7 +43,7 @@ Change = Uart ℕ ℕ → Uart ℕ ℕ
 -- nothing; the Deadline is called; a power-down ends; or the period is set, by a clock change
 module _ (Q : Change → Type 0) (now : ℕ) (nothing : Q (λ s. s))
     (wake : Q (λ s. with_control (with_wake (called now s.control.wake) s.control) s))
-    (reset : Q (λ s. with_control (with_powered_down_at Date.None s.control) s)) where
+    (reset : Q (λ s. with_control (with_powered_down_at None s.control) s)) where
   machine-changes : (m : Machine) (u : Uart ℕ ℕ) → ((period : ℕ) → m ≡ Machine.clock_change period → Q (clocked period))
       → All Q (Calls.machine now m u).changes
   unfolding Calls.machine

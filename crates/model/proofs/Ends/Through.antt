@@ -1,6 +1,6 @@
 -- The passes of a settling end: each but the last finds a timeout or a landing, the last finds nothing due, and they are
 -- at most 2 × pending + 2. Assumes nothing.
-use Rattle.std.specs.Prelude.{◌≡◌, Bool, List, [], ◌∷◌, ◌++◌, length}
+use Rattle.std.specs.Prelude.{◌≡◌, Bool, List, [], ◌∷◌, ◌++◌, length, Some, None}
 use Rattle.std.proofs.Math.Path.{refl, ap}
 use Rattle.std.proofs.Common.{sym, ap₂, subst, ◌∙◌, arith, true≢false}
 use Prim.Native.Nat.{ℕ, zero, suc, ◌+◌, ◌*◌, ◌≤◌, ◌<◌}
@@ -12,8 +12,7 @@ use Rattle.model.specs.Settle.{Pass, pass, found, ended, passes_from, pending, p
 use Rattle.model.specs.Limits.{All, nil, cons}
 use Rattle.model.proofs.Ends.Passes.{apart, LineQuiet, Kept, TakesTimeout, TakesByte, Takes, PassLaw, pass-law, kept_trans}
 use Rattle.model.proofs.Ends.Fates.{landings, pass-pending, pending-underway}
-use Rattle.model.specs.declared.Date.{Date}
-use Rattle.model.specs.declared.Date.TheVariants.{None, At}
+use Rattle.model.specs.Names.{Date}
 use Rattle.model.specs.declared.Settings.{Settings}
 use Rattle.model.specs.declared.Fate.{Fate}
 
@@ -30,17 +29,17 @@ pub data Through {H W : Type 0} (s : Settings) (date : ℕ) : Uart H W → List 
 
 open_line : Date → ℕ
 open_line None = 0
-open_line (At t) = 1
+open_line (Some t) = 1
 
 open_line-le : (d : Date) → open_line d ≤ 1
 unfolding open_line
 open_line-le None = omega arith
-open_line-le (At t) = omega arith
+open_line-le (Some t) = omega arith
 
-due-open : (s : Settings) (at : ℕ) (d : Date) → after_date s.timeout_time d ≡ At at → open_line d ≡ 1
+due-open : (s : Settings) (at : ℕ) (d : Date) → after_date s.timeout_time d ≡ Some at → open_line d ≡ 1
 unfolding open_line after_date
-due-open s at None h = let e : None ≡ At at = h in apart (cc)
-due-open s at (At t) h = refl
+due-open s at None h = let e : None ≡ Some at = h in apart (cc)
+due-open s at (Some t) h = refl
 
 module _ {H W : Type 0} (s : Settings) (date : ℕ) where
   todo : Uart H W → ℕ

@@ -1,5 +1,5 @@
 -- Register access keeps a state within the limits: a read, a write to any register, a byte sent. Assumes nothing.
-use Rattle.std.specs.Prelude.{◌≡◌, ℕ, ◌+◌, ◌≤◌, ◌<◌, Bool, take}
+use Rattle.std.specs.Prelude.{◌≡◌, ℕ, ◌+◌, ◌≤◌, ◌<◌, Bool, take, Some, Err}
 use Rattle.std.proofs.Math.Path.{refl, ap}
 use Rattle.std.proofs.Common.{◌∙◌, zero-le, arith, length-append, length-take, leb-false, ltb-false}
 use Rattle.std.proofs.Math.Nat.{min-le_right, le_of_suc-le, sub-zero, suc-sub-suc}
@@ -28,19 +28,18 @@ use Rattle.model.proofs.Keeps.Kept.{Kept, settle-keeps}
 use Rattle.model.proofs.Keeps.Settling.{levels-parts}
 use Rattle.model.proofs.Keeps.Wake.{arm-parts}
 use Rattle.model.proofs.Keeps.Dated.{not-refused, dated-parts, settle_at-parts}
-use Rattle.model.specs.declared.Date.TheVariants.{At}
 use Rattle.model.specs.declared.Unsupported.{Unsupported}
-use Rattle.model.specs.declared.Write.{Write}
+use Rattle.model.specs.Names.{Write}
 
 -- ---- the bytes in flight: one more behind, or the first alone
 
 module _ {W : Type 0} where
-  nth-last_of : (s : Sent W) (ss : List (Sent W)) → nth_gone (length ss) (s ∷ ss) ≡ At (last_of (flight_dates (s ∷ ss)))
+  nth-last_of : (s : Sent W) (ss : List (Sent W)) → nth_gone (length ss) (s ∷ ss) ≡ Some (last_of (flight_dates (s ∷ ss)))
   unfolding nth_gone last_of
   nth-last_of s [] = refl
   nth-last_of s (t ∷ ss) = nth-last_of t ss
 
-  pub last_gone-last_of : (s : Sent W) (ss : List (Sent W)) → last_gone (s ∷ ss) ≡ At (last_of (flight_dates (s ∷ ss)))
+  pub last_gone-last_of : (s : Sent W) (ss : List (Sent W)) → last_gone (s ∷ ss) ≡ Some (last_of (flight_dates (s ∷ ss)))
   unfolding last_gone
   last_gone-last_of s ss = ap (λ (n : ℕ). nth_gone n (s ∷ ss)) (suc-sub-suc (length ss) 0 ∙ sub-zero (length ss)) ∙ nth-last_of s ss
 
@@ -111,7 +110,7 @@ module _ {H W : Type 0} where
   unfolding outcome carried Calls.write_placed after_settling
   write_placed-parts now at v u p =
       let s : Uart H W = (settle_at now u).state in
-      dated-parts Write.Refused _ u p now none
+      dated-parts Err _ u p now none
       (λ h _. concluded-parts (write_register at v s) (write_register-parts at v s (settle_at-parts now u h p)))
 
   -- ---- send
@@ -130,6 +129,6 @@ module _ {H W : Type 0} where
   unfolding outcome carried Calls.send after_settling dated
   send-parts now b u p =
       let s : Uart H W = (settle_at now u).state in
-      dated-parts Write.Refused _ u p now _
+      dated-parts Err _ u p now _
       (λ h e. concluded-parts (send_byte now b s) (send_byte-parts now b (dated now u) s (settle-keeps now (dated now u))
       (not-refused _ _ none e).0 (settle_at-parts now u h p)))

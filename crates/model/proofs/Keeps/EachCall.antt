@@ -1,5 +1,5 @@
 -- Every call keeps a state within the limits, refused or carried out, from every such state. Assumes nothing.
-use Rattle.std.specs.Prelude.{◌≡◌, refl, ℕ, ◌%◌, ◌≤◌, ◌<◌, Bool, true, false, ◌&&◌, ltb, length}
+use Rattle.std.specs.Prelude.{◌≡◌, refl, ℕ, ◌%◌, ◌≤◌, ◌<◌, Bool, true, false, ◌&&◌, ltb, length, None, Err}
 use Rattle.std.proofs.Common.{subst, ◌∙◌, zero-le, arith, zero-lt-suc, lit≤, leb-false, ltb-false, lt-ltb}
 use Rattle.std.proofs.Math.Nat.{max-le, le-max_right, min-le_right, lt_of_le_of_lt}
 use Rattle.std.proofs.lemmas.Bool.{false≢true}
@@ -26,8 +26,7 @@ use Rattle.model.proofs.Keeps.Wake.{called-within, arm-parts}
 use Rattle.model.proofs.Keeps.Host.{joined-within}
 use Rattle.model.proofs.Keeps.Dated.{not-refused, unless-parts, dated-parts, moved-parts, settle_at-parts}
 use Rattle.model.proofs.Keeps.Access.{read_placed-parts, write_placed-parts, send-parts}
-use Rattle.model.specs.declared.Date.{Date}
-use Rattle.model.specs.declared.Done.{Done}
+
 
 -- ---- the host
 
@@ -62,7 +61,7 @@ module _ {H W : Type 0} where
   receive-parts : (now at : ℕ) (bs : List H) (u : Uart H W) → Parts u → Parts (outcome (some now) (Calls.receive now at bs u) u).state
   unfolding outcome carried Calls.receive after_settling quiet dated host_date
   receive-parts now at bs u p =
-      dated-parts Done.Refused _ u p now _
+      dated-parts Err _ u p now _
       (λ h e. let five = not-refused _ _ _ e in
       hand_over-parts (host_date now at) bs (dated now u) (settle_at now u).state (settle-keeps now (dated now u)) (min-le_right _ _)
       five.0 (not-refused _ _ none five.1).0
@@ -74,7 +73,7 @@ module _ {H W : Type 0} where
   unfolding outcome carried Calls.machine after_settling quiet dated
   wake-parts now u p =
       let v : Uart H W = with_control (with_wake (called now u.control.wake) u.control) u in
-      dated-parts Done.Refused _ u p now none
+      dated-parts Err _ u p now none
       (λ h _. arm-parts (settle_at now v).state (settle_at-parts now v h (put_clock p
       (record {
         low = p.clock.low;
@@ -87,11 +86,11 @@ module _ {H W : Type 0} where
   unfolding outcome carried Calls.machine after_settling quiet dated
   watch-parts now b u p =
       let v : Uart H W = with_control (with_watched b (dated now u).control) (dated now u) in
-      dated-parts Done.Refused _ u p now none (λ h _. arm-parts v (moved-parts now u h p))
+      dated-parts Err _ u p now none (λ h _. arm-parts v (moved-parts now u h p))
 
   power_down-parts : (now : ℕ) (u : Uart H W) → Parts u → Parts (outcome (some now) (Calls.machine now Machine.power_down u) u).state
   unfolding outcome carried Calls.machine after_settling quiet dated
-  power_down-parts now u p = dated-parts Done.Refused _ u p now none (λ h _. moved-parts now u h p)
+  power_down-parts now u p = dated-parts Err _ u p now none (λ h _. moved-parts now u h p)
 
   -- a period of 0 counts as 1, and test 7 keeps it at 1,000,000 or below
   pub clocked-parts : (period : ℕ) (u : Uart H W) → period ≤ period_limit → Parts u → Parts (clocked period u)
@@ -105,7 +104,7 @@ module _ {H W : Type 0} where
   clock_change-parts now period u p =
       let s : Uart H W = (settle_at now u).state in
       let t : Uart H W = (settle now (clocked period s)).state in
-      dated-parts Done.Refused _ u p now _
+      dated-parts Err _ u p now _
       (λ h e. arm-parts t (settle-parts now (clocked period s) (clocked-parts period s (ltb-false _ _ (not-refused _ _ none e).0)
       (settle_at-parts now u h p))))
 
@@ -118,9 +117,9 @@ module _ {H W : Type 0} where
   reset-parts : (now : ℕ) (u : Uart H W) → Parts u → Parts (outcome (some now) (Calls.machine now Machine.reset u) u).state
   unfolding outcome carried Calls.machine after_settling quiet dated
   reset-parts now u p =
-      let v : Uart H W = with_control (with_powered_down_at Date.None (dated now u).control) (dated now u) in
+      let v : Uart H W = with_control (with_powered_down_at None (dated now u).control) (dated now u) in
       let s : Uart H W = (settle now v).state in
-      dated-parts Done.Refused _ u p now none
+      dated-parts Err _ u p now none
       (λ h _. arm-parts (levels (cleared s)) (levels-parts (cleared s) (cleared-parts s (settle-parts now v (moved-parts now u h p)))))
 
   -- ---- taking what was sent

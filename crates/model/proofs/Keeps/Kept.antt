@@ -1,6 +1,6 @@
 -- What settling leaves alone: the map and the control but for the line and the level; no byte written is lost, and from the
 -- bytes in flight, the host bytes and their runs it takes only from the front. Assumes nothing.
-use Rattle.std.specs.Prelude.{◌≡◌, refl, ℕ, ◌+◌, ◌≤◌, false, List, [], ◌∷◌, ◌++◌, length, drop}
+use Rattle.std.specs.Prelude.{◌≡◌, refl, ℕ, ◌+◌, ◌≤◌, false, List, [], ◌∷◌, ◌++◌, length, drop, None}
 use Rattle.std.proofs.Common.{sym, ap, ◌∙◌, arith, le_refl, append_assoc, length-append}
 use Rattle.std.proofs.lemmas.List.{length-map}
 use Rattle.model.specs.State.{Run, Uart}
@@ -13,8 +13,6 @@ use Rattle.model.specs.Limits.{run_dates}
 use Rattle.model.proofs.Laws.Lists.{last_of, map-split, FromFront, front-refl, front-trans, front_length, front-last}
 use Rattle.model.proofs.Laws.Choose.{choose-ind}
 use Rattle.model.proofs.Laws.Cases.{KeptOnLine, pass-ind, passes-ind}
-use Rattle.model.specs.declared.Date.{Date}
-use Rattle.model.specs.declared.Source.{Source}
 use Rattle.model.specs.declared.Control.{Control}
 use Rattle.model.specs.declared.Settings.{Settings}
 
@@ -63,7 +61,7 @@ module _ {H W : Type 0} {u v : Uart H W} (k : Kept u v) where
 -- the control without the line and the level
 abbrev unmoved : Control → Control
 unmoved c =
-    with_level false (with_line (record { int_raw = 0; rx_mistimed = Source.None; idle_since = Date.None; line_free_at = 0 }) c)
+    with_level false (with_line (record { int_raw = 0; rx_mistimed = None; idle_since = None; line_free_at = 0 }) c)
 
 abbrev Still : {H W : Type 0} → Uart H W → Uart H W → Type 0
 Still u v =

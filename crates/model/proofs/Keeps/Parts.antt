@@ -1,6 +1,6 @@
 -- Within the limits, part by part: each part speaks of as little of the state as it can, so that a step that leaves a part
 -- alone carries its facts over as they are. Assumes nothing.
-use Rattle.std.specs.Prelude.{◌≡◌, refl, ℕ, ◌+◌, ◌≤◌, ◌<◌, Bool, true, false, List, length}
+use Rattle.std.specs.Prelude.{◌≡◌, refl, ℕ, ◌+◌, ◌≤◌, ◌<◌, Bool, true, false, List, length, None}
 use Rattle.std.proofs.Common.{ap, ◌∙◌}
 use Rattle.std.proofs.lemmas.Bool.{false≢true}
 use Rattle.std.proofs.Math.Option.{Option, none, some}
@@ -12,8 +12,7 @@ use Rattle.model.specs.Line.{fifo_bytes}
 use Rattle.model.specs.Tests.{repeated, date_end, sent_limit, host_limit, runs_limit, period_limit}
 use Rattle.model.specs.SetUp.{fifo_counts}
 use Rattle.model.specs.Limits.{Chain, All, NoLater, flight_dates, run_dates, run_counts, Fits, Within}
-use Rattle.model.specs.declared.Date.{Date}
-use Rattle.model.specs.declared.Date.TheVariants.{None}
+use Rattle.model.specs.Names.{Date}
 use Rattle.model.specs.declared.RegisterMap.{RegisterMap}
 use Rattle.model.specs.declared.Line.{Line}
 

@@ -1,5 +1,5 @@
 -- What the passes of a settling leave alone, and what the whole settling does. Assumes nothing.
-use Rattle.std.specs.Prelude.{◌≡◌, refl, ℕ, false, []}
+use Rattle.std.specs.Prelude.{◌≡◌, refl, ℕ, false, [], None}
 use Rattle.std.proofs.Math.Path.{ap}
 use Rattle.std.proofs.Common.{◌∙◌}
 use Rattle.std.proofs.Math.Bool.{true}
@@ -9,13 +9,11 @@ use Rattle.model.specs.Setters.{with_line, with_level, with_control, with_host, 
 use Rattle.model.specs.Settle.{Pass, leave, depart, nothing_due, timed_out, landed, begun, pass, passes, levels, leveled}
 use Rattle.model.specs.Settle.{assert_levels, drive, settings_of, settle_to}
 use Rattle.model.proofs.Laws.Cases.{pass-cases, passes_on}
-use Rattle.model.specs.declared.Date.{Date}
-use Rattle.model.specs.declared.Source.{Source}
 use Rattle.model.specs.declared.Line.{Line}
 use Rattle.model.specs.declared.Settings.{Settings}
 
 abbrev pub no_line : Line
-no_line = record { int_raw = 0; rx_mistimed = Source.None; idle_since = Date.None; line_free_at = 0 }
+no_line = record { int_raw = 0; rx_mistimed = None; idle_since = None; line_free_at = 0 }
 
 module _ {H W : Type 0} where
   -- the state without what a pass or the levels may change

@@ -1,6 +1,6 @@
 -- Arming keeps a state within the limits: every instant that it asks for fits 64 bits in subcycles, so its cycle is at most
 -- 2^59. Assumes nothing.
-use Rattle.std.specs.Prelude.{ℕ, zero, suc, Bool, true, false, List, [], ◌∷◌}
+use Rattle.std.specs.Prelude.{ℕ, zero, suc, Bool, true, false, List, [], ◌∷◌, Some, None}
 use Rattle.std.proofs.Math.Nat.{min-le_left, min-le_right}
 use Rattle.std.proofs.Common.{le_trans}
 use Rattle.std.proofs.Math.Option.{Option, none, some}
@@ -14,8 +14,7 @@ use Rattle.model.specs.Tests.{date_end}
 use Rattle.model.specs.Limits.{All, nil, cons, NoLater, flight_dates, Fits, Within}
 use Rattle.model.proofs.Laws.Choose.{choose-ind}
 use Rattle.model.proofs.Keeps.Parts.{Parts, put_clock, through}
-use Rattle.model.specs.declared.Date.{Date}
-use Rattle.model.specs.declared.Date.TheVariants.{None, At}
+use Rattle.model.specs.Names.{Date}
 
 -- a date of 64 bits, if there is one
 abbrev DateFits : Date → Type 0
@@ -39,7 +38,7 @@ only_if-fits false d h = tt
 after_date-fits : (span : ℕ) (d : Date) → DateFits (after_date span d)
 unfolding after_date
 after_date-fits span None = tt
-after_date-fits span (At d) = min-le_right _ _
+after_date-fits span (Some d) = min-le_right _ _
 
 module _ {H W : Type 0} (u : Uart H W) where
   landing_of-fits : (time : ℕ) (l : Option (OnTheLine H)) → Fits (line_of u).line_free_at → DateFits (landing_of time l u)
@@ -60,13 +59,13 @@ module _ {H W : Type 0} (u : Uart H W) where
 earliest-within : (n : ℕ) (c d : Date) → NoLater n c → NoLater n d → NoLater n (earliest c d)
 unfolding earliest
 earliest-within n None d h k = k
-earliest-within n (At a) None h k = h
-earliest-within n (At a) (At b) h k = le_trans (min-le_left a b) h
+earliest-within n (Some a) None h k = h
+earliest-within n (Some a) (Some b) h k = le_trans (min-le_left a b) h
 
 in_cycles-within : (d : Date) → DateFits d → NoLater date_end (in_cycles d)
 unfolding in_cycles
 in_cycles-within None h = tt
-in_cycles-within (At d) h = cycles-bound d h
+in_cycles-within (Some d) h = cycles-bound d h
 
 arm_all-within : (ds : List Date) (wake : Date) → All DateFits ds → NoLater date_end wake → NoLater date_end (arm_all ds wake)
 unfolding arm_all

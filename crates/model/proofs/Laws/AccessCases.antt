@@ -1,6 +1,6 @@
 -- Register access and refusals in few cases: at every register a read, and a write, do one of two or three things.
 -- Assumes nothing.
-use Rattle.std.specs.Prelude.{◌≡◌, ℕ, ◌%◌, true, false, List, []}
+use Rattle.std.specs.Prelude.{◌≡◌, ℕ, ◌%◌, true, false, List, [], Ok}
 use Rattle.std.proofs.Math.Option.{Option, none, some}
 use Rattle.model.specs.State.{Uart}
 use Rattle.model.specs.Replies.{ReadOf}
@@ -10,7 +10,7 @@ use Rattle.model.specs.Calls.{Outcome, Plan, refusing, unless, send, write_place
 use Rattle.model.proofs.Laws.Choose.{choose-ind}
 use Rattle.model.specs.declared.Refusal.{Refusal}
 use Rattle.model.specs.declared.Unsupported.{Unsupported}
-use Rattle.model.specs.declared.Write.{Write}
+use Rattle.model.specs.Names.{Write}
 
 -- a fact of FIFO writes and of writes elsewhere is one of every write
 pub write-ind : {H : Type 0} (P : Plan Write H ℕ → Type 0) (now : ℕ) (p : Register) (v : ℕ) (u : Uart H ℕ)
@@ -28,7 +28,7 @@ unless-ind P (some r) reply work u a b = a r
 
 -- a write elsewhere than at FIFO is not accepted, clears, or stores, as CONF0 with the FIFOs reset
 pub write_register-ind : {H W : Type 0} (P : Register → Access Write H W → Type 0) (v : ℕ) (u : Uart H W)
-    → ((k : Register) → P k (gives [] u Write.NotAccepted)) → P Register.int_clr (clearing v u)
+    → ((k : Register) → P k (gives [] u (Ok false))) → P Register.int_clr (clearing v u)
     → ((x : Word) → P (Register.stored x) (storing x v (reset_fifos v u)))
     → ((x : Word) → P (Register.stored x) (storing x v u)) → (k : Register) → P k (write_register k v u)
 unfolding write_register

@@ -1,5 +1,5 @@
 -- How to prove a fact of every pass and of the passes of a settling. Assumes nothing.
-use Rattle.std.specs.Prelude.{◌≡◌, ℕ, zero, suc, ◌≤◌, min, Bool, false, length}
+use Rattle.std.specs.Prelude.{◌≡◌, ℕ, zero, suc, ◌≤◌, min, Bool, false, length, Some, None}
 use Rattle.std.proofs.Math.Path.{refl}
 use Rattle.std.proofs.Common.{arith, leb-true, le-leb}
 use Rattle.std.proofs.Math.Bool.{true}
@@ -12,13 +12,13 @@ use Rattle.model.specs.State.{Run, OnTheLine, Uart, line_of}
 use Rattle.model.specs.Line.{timeout_at, fate}
 use Rattle.model.specs.Settle.{Pass, nothing_due, timed_out, landed, in_frame, begun, before_start, idle, line_free, pass_on, pass}
 use Rattle.model.specs.Settle.{passes_from, passes}
-use Rattle.model.specs.declared.Date.{Date}
+use Rattle.model.specs.Names.{Date}
 use Rattle.model.specs.declared.Settings.{Settings}
 
 earlier-due : (date at : ℕ) (d : Date) → due_by (earlier date at) d ≡ true → due_by date d ≡ true
 unfolding due_by
-earlier-due date at Date.None h = h
-earlier-due date at (Date.At a) h =
+earlier-due date at None h = h
+earlier-due date at (Some a) h =
     let b : a ≤ min date at = leb-true a (min date at) h in
     le-leb a date (omega arith)
 

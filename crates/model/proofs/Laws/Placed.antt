@@ -12,7 +12,7 @@ use Rattle.model.specs.Call.{Dated, Undated, Call, date_of, Request, Asked, writ
 use Rattle.model.specs.Run.{Step, stepped, replying, plan_by, writing, plan, step, run_by}
 use Rattle.model.specs.Replies.{ReadOf}
 use Rattle.model.proofs.Laws.Choose.{choose-nat}
-use Rattle.model.specs.declared.Write.{Write}
+use Rattle.model.specs.Names.{Write}
 
 -- what is written where: a byte to FIFO, or a word to another register
 pub data Put (W : Type 0) : Type 0 where

@@ -1,6 +1,6 @@
 -- The receive timeout comes the manual's bit times after the last landing heard, unless a byte starts before: all that a settling finds
 -- on the line is what the manual has a receiver show whose clock is on. Assumes nothing.
-use Rattle.std.specs.Prelude.{◌≡◌, true, false, length, take}
+use Rattle.std.specs.Prelude.{◌≡◌, true, false, length, take, Some, None}
 use Rattle.std.proofs.Math.Path.{refl, sym, ap, ap₂, subst}
 use Rattle.std.proofs.Common.{◌∙◌, arith, true≢false, le-leb, leb-true, leb-false, ltb-false}
 use Prim.Native.Nat.{ℕ, ◌≤◌, ◌<◌}
@@ -27,8 +27,7 @@ use Rattle.model.proofs.Keeps.Settling.{depart-within, pass-within}
 use Rattle.model.proofs.MeetsManual.Reception.{dated_bytes, first-dated, none-dated, Due, due-append}
 use Rattle.model.proofs.MeetsManual.Reception.{not_yet, all-by}
 use Rattle.model.proofs.Keeps.Parts.{is_heard}
-use Rattle.model.specs.declared.Date.{Date}
-use Rattle.model.specs.declared.Date.TheVariants.{None, At}
+use Rattle.model.specs.Names.{Date}
 use Rattle.model.specs.declared.Line.{Line}
 use Rattle.model.specs.declared.Frame.{Frame}
 use Rattle.model.specs.declared.Settings.{Settings}
@@ -39,7 +38,7 @@ use Rattle.model.specs.declared.Fate.{Fate}
 -- what a receiver shows from a state of the line on: the byte on the line lands first, and opens the idle line
 unfoldable pub to_show : {H : Type 0} → ℕ → ℕ → Date → ℕ → Option (OnTheLine H) → List (ℕ × H) → List (ℕ × Option H)
 to_show time span idle free none bs = reception time span idle free bs
-to_show time span idle free (some l) bs = (free, some l.byte) ∷ reception time span (At free) free bs
+to_show time span idle free (some l) bs = (free, some l.byte) ∷ reception time span (Some free) free bs
 
 module _ {H W : Type 0} where
   -- all that it is to show, given the time of a byte and of the timeout
@@ -72,25 +71,25 @@ out-now : {H : Type 0} (s : Settings) (date : ℕ) (d : Date) → due_by date (a
     → Manual.timeout {B = H} s.timeout_time d ≡ (instant_of (after_date s.timeout_time d), none) ∷ []
 unfolding Manual.timeout after_date due_by instant_of
 out-now s date None h = absurd (true≢false (sym h))
-out-now s date (At i) h = refl
+out-now s date (Some i) h = refl
 
 out-before : {H : Type 0} (s : Settings) (date at : ℕ) (d : Date) → due_by (earlier date at) (after_date s.timeout_time d) ≡ true
     → timeout_before {B = H} at s.timeout_time d ≡ (instant_of (after_date s.timeout_time d), none) ∷ []
 unfolding timeout_before after_date due_by instant_of
 out-before s date at None h = absurd (true≢false (sym h))
-out-before s date at (At i) h = choose-true _ _ (le-leb _ at (omega (arith, leb-true (after i s.timeout_time) (earlier date at) h)))
+out-before s date at (Some i) h = choose-true _ _ (le-leb _ at (omega (arith, leb-true (after i s.timeout_time) (earlier date at) h)))
 
 -- a byte that starts by the date, and no timeout at or before its start
 none_before : {H : Type 0} (s : Settings) (date at : ℕ) (d : Date) → at ≤ date
     → due_by (earlier date at) (after_date s.timeout_time d) ≡ false → timeout_before {B = H} at s.timeout_time d ≡ []
 unfolding timeout_before after_date due_by
 none_before s date at None le h = refl
-none_before s date at (At i) le h = choose-false _ _
+none_before s date at (Some i) le h = choose-false _ _
     (lt-leb _ at (omega (arith, leb-false (after i s.timeout_time) (earlier date at) h)))
 
 -- a byte that was heard lands with the clock on: the idle line opens, whatever becomes of the byte
 heard-opens : (s : Settings) (held : ℕ) (f : Frame) (l : Line) → f.heard ≡ true → s.rx_sclk_en ≡ true
-    → (land s (fate s held f) f l).idle_since ≡ At l.line_free_at
+    → (land s (fate s held f) f l).idle_since ≡ Some l.line_free_at
 unfolding fate land opened raise_if note_source
 heard-opens s held f l h c =
     choose-ind Opens f.heard
@@ -100,7 +99,7 @@ heard-opens s held f l h c =
     (λ e. absurd (true≢false (sym h ∙ e)))
   where
     Opens : Fate → Type 0
-    Opens x = (land s x f l).idle_since ≡ At l.line_free_at
+    Opens x = (land s x f l).idle_since ≡ Some l.line_free_at
 
 -- ---- what lies after a date
 
@@ -108,13 +107,13 @@ module _ {H : Type 0} (date span : ℕ) where
   idle-later : (d : Date) → After date (after_date span d) → by date (Manual.timeout {B = H} span d) ≡ []
   unfolding Manual.timeout after_date by
   idle-later None a = refl
-  idle-later (At i) a = not_yet date (after i span) none [] a
+  idle-later (Some i) a = not_yet date (after i span) none [] a
 
   start-later : (at lands : ℕ) (d : Date) (b : H) (rest : List (ℕ × Option H)) → After date (after_date span d) → date < lands
       → by date (timeout_before at span d ++ (lands, some b) ∷ rest) ≡ []
   unfolding timeout_before after_date
   start-later at lands None b rest a h = not_yet date lands (some b) rest h
-  start-later at lands (At i) b rest a h =
+  start-later at lands (Some i) b rest a h =
       choose-ind (λ (l : List (ℕ × Option H)). by date (l ++ (lands, some b) ∷ rest) ≡ []) _
       (λ _. not_yet date (after i span) none _ a) (λ _. not_yet date lands (some b) rest h)
 
@@ -205,7 +204,7 @@ module _ {H W : Type 0} (s : Settings) (date : ℕ) (clock : s.rx_sclk_en ≡ tr
 
     abbrev then : List (ℕ × Option H)
     then =
-        (lands, some b) ∷ reception s.byte_time s.timeout_time (At lands) lands (dated_bytes (pop_run (r ∷ rs)) bs)
+        (lands, some b) ∷ reception s.byte_time s.timeout_time (Some lands) lands (dated_bytes (pop_run (r ∷ rs)) bs)
 
     dated : dated_bytes u.host_runs u.host ≡ (r.date, b) ∷ dated_bytes (pop_run (r ∷ rs)) bs
     dated = ap₂ dated_bytes er eh ∙ first-dated r rs b bs one
@@ -213,7 +212,7 @@ module _ {H W : Type 0} (s : Settings) (date : ℕ) (clock : s.rx_sclk_en ≡ tr
     begun-shows : shows s (begun s start_date b bs u) ≡ then
     unfolding shows_in begun to_show start
     begun-shows =
-        ap (λ x. (lands, some b) ∷ reception s.byte_time s.timeout_time (At lands) lands (dated_bytes (pop_run x) bs)) er
+        ap (λ x. (lands, some b) ∷ reception s.byte_time s.timeout_time (Some lands) lands (dated_bytes (pop_run x) bs)) er
 
     begun-heard : Heard (begun s start_date b bs u)
     unfolding begun start frame note_source

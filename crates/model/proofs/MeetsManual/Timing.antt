@@ -23,7 +23,7 @@ use Rattle.model.specs.Run.{answering}
 use Rattle.model.proofs.Laws.Choose.{choose-true}
 use Rattle.model.proofs.Keeps.Rest.{settle_to-words, settle_to-period}
 use Rattle.model.proofs.MeetsManual.Answers.{settled, InTime, fifo-answer, byte-taken}
-use Rattle.model.specs.declared.Write.{Write}
+use Rattle.model.specs.Names.{Write}
 use Rattle.model.specs.declared.Control.{Control}
 
 -- ---- the frame and the bit time

@@ -1,5 +1,5 @@
 -- A call or a row that is carried out answers number 0 and at most 8 notices besides overflows. Assumes nothing.
-use Rattle.std.specs.Prelude.{◌≡◌, Bool, length, take}
+use Rattle.std.specs.Prelude.{◌≡◌, Bool, length, take, Some, None}
 use Rattle.std.proofs.Math.Path.{refl}
 use Prim.Native.Nat.{ℕ, suc, ◌%◌, ◌≤◌}
 use Rattle.std.proofs.Math.Nat.{le_trans}
@@ -25,7 +25,8 @@ use Rattle.model.proofs.Refuses.Conditions.{carried_out}
 use Rattle.model.proofs.Rows.Notices.{made-few}
 use Rattle.model.proofs.Laws.Choose.{choose-ind}
 use Rattle.model.proofs.Laws.AccessCases.{write-ind, write_register-ind}
-use Rattle.model.specs.declared.Source.{Source}
+use Rattle.model.specs.Names.{Source}
+use Rattle.model.specs.declared.Unmodelled.{Unmodelled}
 use Rattle.model.specs.declared.Unsupported.{Unsupported}
 use Rattle.model.specs.declared.Report.{Report}
 
@@ -52,9 +53,9 @@ note-le false n ns le = omega arith
 
 source-le : (notice : ℕ → Unsupported) (s : Source) → length (source_notes notice s) ≤ 1
 unfolding source_notes
-source-le notice Source.None = omega arith
-source-le notice Source.Sel0 = omega arith
-source-le notice Source.Sel2 = omega arith
+source-le notice None = omega arith
+source-le notice (Some Unmodelled.Sel0) = omega arith
+source-le notice (Some Unmodelled.Sel2) = omega arith
 
 conf0-le : (v : ℕ) → length (conf0_notes v) ≤ 8
 unfolding conf0_notes

@@ -1,6 +1,6 @@
 -- Document 01's table of numbers, as propositions on numbers, and the order of its tests. No test of the definition stands
 -- here. Assumes nothing.
-use Rattle.std.specs.Prelude.{◌≡◌, ℕ, ◌+◌, ◌-◌, ◌*◌, ◌^◌, ◌≤◌, ◌<◌, min, max, List, [], ◌∷◌, ◌++◌, length, take}
+use Rattle.std.specs.Prelude.{◌≡◌, ℕ, ◌+◌, ◌-◌, ◌*◌, ◌^◌, ◌≤◌, ◌<◌, min, max, List, [], ◌∷◌, ◌++◌, length, take, Err}
 use Rattle.std.proofs.Math.Option.{some}
 use Rattle.model.specs.State.{Run, Uart}
 use Rattle.model.specs.Replies.{no_report}
@@ -12,7 +12,7 @@ use Rattle.model.specs.Limits.{All}
 use Rattle.model.specs.declared.Refusal.{Refusal}
 use Rattle.model.specs.declared.Refusal.TheVariants.{DatePastEnd, DateWentBack, TransmitFull, HostFull, RunsFull, PeriodTooLong}
 use Rattle.model.specs.declared.Refusal.TheVariants.{BufferTooShort}
-use Rattle.model.specs.declared.Row.{Row}
+
 
 -- the table: when a call or a row meets the condition of a number, in the state before settling
 pub data Condition (u : Uart ℕ ℕ) : Refusal → Ask → Type 0 where
@@ -54,7 +54,7 @@ pub data First (P : Refusal → Type 0) : List Refusal → Refusal → Type 0 wh
 -- what it answers where it is refused
 unfoldable pub refused_with : Ask → Uart ℕ ℕ → Refusal → Reply ℕ ℕ ℕ
 refused_with (Asked.call c) u r = (plan c u).refuses r
-refused_with (Asked.row now bs) u r = rows (Row.Refused r)
+refused_with (Asked.row now bs) u r = rows (Err r)
 
 -- what it does where it is carried out
 unfoldable pub carried_out : Ask → Uart ℕ ℕ → Step ℕ ℕ ℕ

@@ -1,5 +1,5 @@
 -- Every call and every row ends in one of two ways: refused with the first number whose condition holds, or carried out. Assumes nothing.
-use Rattle.std.specs.Prelude.{◌≡◌, ℕ, ◌+◌, ◌^◌, ◌≤◌, ◌<◌, Bool, ◌&&◌, List, [], ◌∷◌, ◌++◌, leb, ltb, take}
+use Rattle.std.specs.Prelude.{◌≡◌, ℕ, ◌+◌, ◌^◌, ◌≤◌, ◌<◌, Bool, ◌&&◌, List, [], ◌∷◌, ◌++◌, leb, ltb, take, Err}
 use Rattle.std.proofs.Math.Path.{refl, ap}
 use Rattle.std.proofs.Common.{sym, ◌∙◌, ltb-true, ltb-false, leb-true, leb-false, lt-ltb, le-leb}
 use native.Mathlib.Omega.{arith}
@@ -27,7 +27,7 @@ use Rattle.model.proofs.Refuses.FifoPlace.{first-is-fifo, fifo-is-first}
 use Rattle.model.specs.declared.Refusal.{Refusal}
 use Rattle.model.specs.declared.Refusal.TheVariants.{DatePastEnd, DateWentBack, TransmitFull, HostFull, RunsFull, PeriodTooLong}
 use Rattle.model.specs.declared.Refusal.TheVariants.{RepeatedOffset, BufferTooShort}
-use Rattle.model.specs.declared.Row.{Row}
+
 
 -- ---- tests one after another
 
@@ -293,7 +293,7 @@ asked-result (Asked.call c) u = ends _ (verdict c u)
 asked-result (Asked.row now bs) u = ends _ (row-verdict now bs u)
   where
     ends : (o : Option Refusal) → Verdict (λ q. Condition u q (Asked.row now bs)) order o
-        → Result (Asked.row now bs) u (answering rows (unless o Row.Refused (λ s. summed s (writes now s (take row_limit bs))) u))
+        → Result (Asked.row now bs) u (answering rows (unless o Err (λ s. summed s (writes now s (take row_limit bs))) u))
     ends none (clear v) = done v
     ends (some r) (stopped v) = refusal v
 

@@ -1,6 +1,6 @@
 -- What a row is, in calls: the state that it leaves, its passes, overflows and notices, and what its settlings find are those of its
 -- writes made one by one, its number is its first write's, and an empty one changes nothing. Assumes nothing.
-use Rattle.std.specs.Prelude.{◌≡◌, Bool, take}
+use Rattle.std.specs.Prelude.{◌≡◌, Bool, take, Ok, Err}
 use Rattle.std.proofs.Math.Path.{refl, sym, ap, ap₂}
 use Rattle.std.proofs.Common.{◌∙◌, arith, length-take-le, le-ltb}
 use Prim.Native.Nat.{ℕ, suc, ◌+◌, ◌%◌, ◌≤◌, ◌<◌, suc-le-suc}
@@ -32,8 +32,8 @@ use Rattle.model.proofs.Refuses.Carried.{send-proper}
 use Rattle.model.proofs.Keeps.MapKept.{step_kept}
 use Rattle.model.specs.declared.Refusal.{Refusal}
 use Rattle.model.specs.declared.Refusal.TheVariants.{DatePastEnd, DateWentBack}
-use Rattle.model.specs.declared.Row.{Row}
-use Rattle.model.specs.declared.Write.{Write}
+use Rattle.model.specs.Names.{Row, Write}
+
 
 -- ---- one write
 
@@ -122,10 +122,10 @@ module _ {H W : Type 0} (now : ℕ) (u : Uart H W) where
   -- an empty row changes nothing, not even the last date, and is not refused with the transmit side full
   pub empty-row : now < date_end → u.control.last ≤ now
       → row now [] u
-      ≡ record { reply = Row.Made (record { count = 0; first = 0; second = 0 }); report = report 0 0 [] u; state = u; events = [] }
+      ≡ record { reply = Ok (record { count = 0; first = 0; second = 0 }); report = report 0 0 [] u; state = u; events = [] }
   unfolding row first_test unless summed writes left_by total times_of counted_all flat_map
   empty-row h g =
-      ap (λ (t : Option Refusal). unless t Row.Refused (λ s. summed s (writes now s (take row_limit []))) u) (dates-pass now u h g none)
+      ap (λ (t : Option Refusal). unless t Err (λ s. summed s (writes now s (take row_limit []))) u) (dates-pass now u h g none)
 
   sends-zero : (b : W) → write_number (carried (some now) (send now b u) u).reply ≡ 0
   unfolding carried after_settling send concluded
@@ -137,8 +137,8 @@ module _ {H W : Type 0} (now : ℕ) (u : Uart H W) where
   row-refused b bs = by-test (refuse_date now u.control (send now b u).test)
     where
       by-test : (t : Option Refusal)
-          → row_number (unless t Row.Refused (λ s. summed s (writes now s (take row_limit (b ∷ bs)))) u).reply
-          ≡ write_number (unless t Write.Refused (carried (some now) (send now b u)) u).reply
+          → row_number (unless t Err (λ s. summed s (writes now s (take row_limit (b ∷ bs)))) u).reply
+          ≡ write_number (unless t Err (carried (some now) (send now b u)) u).reply
       by-test none = sym (sends-zero b)
       by-test (some r) = refl
 
@@ -147,7 +147,7 @@ module _ {H W : Type 0} (now : ℕ) (u : Uart H W) where
   unfolding row unless refusing summed row_number
   refused-row bs = by-test (refuse_date now u.control (first_test now bs u))
     where
-      by-test : (t : Option Refusal) → let x : Outcome Row H W = unless t Row.Refused (λ s. summed s (writes now s (take row_limit bs)))
+      by-test : (t : Option Refusal) → let x : Outcome Row H W = unless t Err (λ s. summed s (writes now s (take row_limit bs)))
           u in
           1 ≤ row_number x.reply → (x.state ≡ u) × (x.report ≡ no_report)
       by-test none h = absurd (omega (arith, h))
@@ -182,12 +182,12 @@ module _ (now offset : ℕ) (bs : List ℕ) (u : Uart ℕ ℕ) (fifo : register_
 
   -- how many were made, the notices as counts, and what was found
   pub row-notices : let counts : List Count = counted_all [] (flat_map (λ a. notes_of a.report) (run made_calls u)) in
-      (made_row.reply ≡ Row.Made (record { count = length made_calls; first = times_of 0 counts; second = times_of 1 counts }))
+      (made_row.reply ≡ Ok (record { count = length made_calls; first = times_of 0 counts; second = times_of 1 counts }))
       × Notes made_row.report (map (λ c. c.what) counts) × (made_row.events ≡ history made_calls u)
   unfolding summed report
   row-notices =
       let ns = ap (counted_all []) same.notices in (
-        ap₂ (λ (n : ℕ) (cs : List Count). Row.Made (record { count = n; first = times_of 0 cs; second = times_of 1 cs })) all_made ns,
+        ap₂ (λ (n : ℕ) (cs : List Count). Ok (record { count = n; first = times_of 0 cs; second = times_of 1 cs })) all_made ns,
         (ap (λ (cs : List Count). notices (map (λ c. c.what) cs)) ns, ap (λ (cs : List Count). length (map (λ c. c.what) cs)) ns),
         same.events,
       )

@@ -1,5 +1,5 @@
 -- A row has at most two different notices: its clock's, and UartOverflow. Assumes nothing.
-use Rattle.std.specs.Prelude.{◌≡◌, refl, ℕ, ◌≤◌, length, take}
+use Rattle.std.specs.Prelude.{◌≡◌, refl, ℕ, ◌≤◌, length, take, Some, None, Err}
 use Rattle.std.proofs.Common.{sym, ap, subst, ◌∙◌, arith, eq-eqb}
 use Rattle.std.proofs.Math.Option.{some}
 use mathlib.Core.List.{List, [], ◌∷◌, ◌++◌, map, flat_map}
@@ -20,12 +20,12 @@ use Rattle.model.proofs.Laws.AccessCases.{unless-ind}
 use Rattle.model.proofs.Keeps.Rest.{settle_to-words}
 use Rattle.model.specs.declared.Notice.{Notice}
 use Rattle.model.specs.declared.Refusal.{Refusal}
-use Rattle.model.specs.declared.Row.{Row}
-use Rattle.model.specs.declared.Source.{Source}
+use Rattle.model.specs.Names.{Row, Source, Write}
+use Rattle.model.specs.declared.Unmodelled.{Unmodelled}
 use Rattle.model.specs.declared.Unsupported.{Unsupported}
 use Rattle.model.specs.declared.Unsupported.TheVariants.{UartOverflow, UartClock}
 use Rattle.model.specs.declared.Words.{Words}
-use Rattle.model.specs.declared.Write.{Write}
+
 
 -- ---- the notices of one write
 
@@ -35,15 +35,15 @@ data Told (sel : ℕ) : Unsupported → Type 0 where
   clock : Told sel (UartClock sel)
 
 sel_of : Source → ℕ
-sel_of Source.None = 0
-sel_of Source.Sel0 = 0
-sel_of Source.Sel2 = 2
+sel_of None = 0
+sel_of (Some Unmodelled.Sel0) = 0
+sel_of (Some Unmodelled.Sel2) = 2
 
 source_told : (s : Source) → All (Told (sel_of s)) (source_notes UartClock s)
 unfolding source_notes sel_of
-source_told Source.None = nil
-source_told Source.Sel0 = cons Told.clock nil
-source_told Source.Sel2 = cons Told.clock nil
+source_told None = nil
+source_told (Some Unmodelled.Sel0) = cons Told.clock nil
+source_told (Some Unmodelled.Sel2) = cons Told.clock nil
 
 -- the notices of a report are those that it was made of
 notes-front : (ns : List Unsupported) (r : List Notice)
@@ -75,7 +75,7 @@ module _ {H W : Type 0} where
   unfolding outcome refusing no_report carried after_settling send concluded levels drive assert_levels arm settle dated
   write-tells now b u = unless-ind (Tells u) _ _ _ u (λ r. refused r) made
     where
-      refused : (r : Refusal) → Tells u (refusing (Write.Refused r) u)
+      refused : (r : Refusal) → Tells u (refusing (Err r) u)
       refused r = record { source = refl; notes = nil }
 
       settled : Uart H W
@@ -154,4 +154,4 @@ pub row-few : {H W : Type 0} (now : ℕ) (bs : List W) (u : Uart H W) → (row n
 unfolding row refusing no_report summed report
 row-few {H} {W} now bs u =
     let none : 0 ≤ 2 = omega arith in
-    unless-ind (λ (o : Outcome Row H W). o.report.noted ≤ 2) _ Row.Refused _ u (λ r. none) (made-few now (take row_limit bs) u)
+    unless-ind (λ (o : Outcome Row H W). o.report.noted ≤ 2) _ Err _ u (λ r. none) (made-few now (take row_limit bs) u)

@@ -1,5 +1,5 @@
 -- A row keeps a state within the limits, and ends where a write would be refused. Assumes nothing.
-use Rattle.std.specs.Prelude.{◌≡◌, ℕ, Bool, length, take}
+use Rattle.std.specs.Prelude.{◌≡◌, ℕ, Bool, length, take, Err}
 use Rattle.std.proofs.Math.Path.{refl}
 use Rattle.std.proofs.Common.{ap, ◌∙◌}
 use Rattle.std.proofs.Math.Bool.{true, false}
@@ -16,8 +16,7 @@ use Rattle.model.proofs.Laws.Choose.{choose-false, choose-ind}
 use Rattle.model.proofs.Keeps.EachCall.{send-within}
 use Rattle.model.specs.declared.Refusal.{Refusal}
 use Rattle.model.specs.declared.Refusal.TheVariants.{DatePastEnd, DateWentBack, TransmitFull}
-use Rattle.model.specs.declared.Row.{Row}
-use Rattle.model.specs.declared.Write.{Write}
+use Rattle.model.specs.Names.{Write}
 
 module _ {H W : Type 0} (now : ℕ) where
   writes-within : (bs : List W) (u : Uart H W) → Within u → Within (left_by u (writes now u bs))
@@ -31,12 +30,12 @@ module _ {H W : Type 0} (now : ℕ) where
   row_within bs u w = by-test (refuse_date now u.control (first_test now bs u))
     where
       by-test : (o : Option Refusal)
-          → Within (unless o Row.Refused (λ s. summed s (writes now s (take row_limit bs))) u).state
+          → Within (unless o Err (λ s. summed s (writes now s (take row_limit bs))) u).state
       by-test none = writes-within (take row_limit bs) u w
       by-test (some r) = w
 
   refused-some : (a b : Bool) (work : Uart H W → Outcome Write H W) (u : Uart H W)
-      → eqb (write_number (unless (refuse_if a DatePastEnd (refuse_if b DateWentBack (some TransmitFull))) Write.Refused work u
+      → eqb (write_number (unless (refuse_if a DatePastEnd (refuse_if b DateWentBack (some TransmitFull))) Err work u
       ).reply) 0 ≡ false
   unfolding unless refusing refuse_if write_number number
   refused-some true b work u = refl
@@ -49,6 +48,6 @@ module _ {H W : Type 0} (now : ℕ) where
   full-writes [] u f = refl
   full-writes (b ∷ bs) u f =
       choose-false _ _
-      (ap (λ (t : Bool). eqb (write_number (unless (refuse_date now u.control (refuse_if t TransmitFull none)) Write.Refused
+      (ap (λ (t : Bool). eqb (write_number (unless (refuse_date now u.control (refuse_if t TransmitFull none)) Err
       (carried (some now) (send now b u)) u).reply) 0) f
       ∙ refused-some (past_end now) (went_back u.control.last now) (carried (some now) (send now b u)) u)

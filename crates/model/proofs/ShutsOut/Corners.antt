@@ -1,6 +1,6 @@
 -- Corners of document 01 that the other laws do not say of `step`: what a reset drops and what it keeps, which calls arm nothing, what
 -- CONF0 with TXFIFO_RST leaves in flight, and a due timeout beside a byte on the line. Assumes nothing.
-use Rattle.std.specs.Prelude.{◌≡◌, Bool, true, false, ◌&&◌, ◌||◌, List, [], take}
+use Rattle.std.specs.Prelude.{◌≡◌, Bool, true, false, ◌&&◌, ◌||◌, List, [], take, None}
 use Rattle.std.proofs.Math.Path.{ap, ap₂}
 use Rattle.std.proofs.Common.{◌∙◌, arith, le-ltb}
 use Prim.Native.Nat.{ℕ, ◌%◌, ◌^◌}
@@ -29,8 +29,6 @@ use Rattle.model.proofs.Refuses.Exactly.{call-carried}
 use Rattle.model.proofs.MeetsManual.Answers.{InTime, settled}
 use Rattle.model.proofs.MeetsManual.Rises.{raw_bit, levels-raise}
 use Rattle.model.proofs.ShutsOut.Notices.{conf0-answer}
-use Rattle.model.specs.declared.Date.{Date}
-use Rattle.model.specs.declared.Source.{Source}
 use Rattle.model.specs.declared.Settings.{Settings}
 
 -- ---- reset
@@ -44,7 +42,7 @@ never-above n threshold = ap (λ (b : Bool). eqb n 0 && b) (le-ltb threshold 0 (
 module _ (now : ℕ) (u : Uart ℕ ℕ) (done : number_of (step (Call.at now (Dated.machine Machine.reset)) u).answer.reply ≡ 0) where
   -- the state that it works on: power-down ended, and settled
   abbrev found : Uart ℕ ℕ
-  found = (settle now (dated now (with_control (with_powered_down_at Date.None u.control) u))).state
+  found = (settle now (dated now (with_control (with_powered_down_at None u.control) u))).state
 
   reset-is : (step (Call.at now (Dated.machine Machine.reset)) u).state ≡ arm (levels (cleared found))
   unfolding stepped carried after_settling dated date_of plan Calls.machine plan_by replying quiet
@@ -57,8 +55,8 @@ module _ (now : ℕ) (u : Uart ℕ ℕ) (done : number_of (step (Call.at now (Da
   -- bytes in flight and received go, the idle line closes, a mistimed reception is forgotten, the words are those of reset, and
   -- power-down has ended
   pub reset-drops : let v : Uart ℕ ℕ = (step (Call.at now (Dated.machine Machine.reset)) u).state in
-      (v.in_flight ≡ []) × (v.rx ≡ []) × ((line_of v).idle_since ≡ Date.None) × ((line_of v).rx_mistimed ≡ Source.None)
-      × (v.control.words ≡ u.map.reset) × (v.control.powered_down_at ≡ Date.None)
+      (v.in_flight ≡ []) × (v.rx ≡ []) × ((line_of v).idle_since ≡ None) × ((line_of v).rx_mistimed ≡ None)
+      × (v.control.words ≡ u.map.reset) × (v.control.powered_down_at ≡ None)
   unfolding arm levels drive assert_levels raise_if cleared cleared_line dated
   reset-drops = (
     ap (λ v. v.in_flight) reset-is,
@@ -71,7 +69,7 @@ module _ (now : ℕ) (u : Uart ℕ ℕ) (done : number_of (step (Call.at now (Da
 
   -- host bytes, the byte on the line, when the line is free, bytes that left and the watch mark stay
   pub reset-keeps : let v : Uart ℕ ℕ = (step (Call.at now (Dated.machine Machine.reset)) u).state in
-      let w : Uart ℕ ℕ = (settle now (dated now (with_control (with_powered_down_at Date.None u.control) u))).state in
+      let w : Uart ℕ ℕ = (settle now (dated now (with_control (with_powered_down_at None u.control) u))).state in
       (v.host ≡ w.host) × (v.host_runs ≡ w.host_runs) × (v.receiving ≡ w.receiving)
       × ((line_of v).line_free_at ≡ (line_of w).line_free_at) × (v.tx ≡ w.tx) × (v.control.watched ≡ w.control.watched)
   unfolding arm levels drive assert_levels raise_if cleared cleared_line dated
@@ -85,7 +83,7 @@ module _ (now : ℕ) (u : Uart ℕ ℕ) (done : number_of (step (Call.at now (Da
   )
 
   -- the wake that was armed stays, and the instants that ask for one are armed
-  pub reset-wake : let w : Uart ℕ ℕ = (settle now (dated now (with_control (with_powered_down_at Date.None u.control) u))).state in
+  pub reset-wake : let w : Uart ℕ ℕ = (settle now (dated now (with_control (with_powered_down_at None u.control) u))).state in
       (step (Call.at now (Dated.machine Machine.reset)) u).state.control.wake ≡ arm_all (instants (levels (cleared w))) u.control.wake
   unfolding arm levels drive assert_levels cleared dated
   reset-wake =

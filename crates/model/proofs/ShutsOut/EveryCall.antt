@@ -1,6 +1,6 @@
 -- How to prove of every call that it leads from one state to a next: from what a settling does, what raising levels does, and
 -- what holds of changes elsewhere. Assumes nothing.
-use Rattle.std.specs.Prelude.{◌≡◌, Bool, take}
+use Rattle.std.specs.Prelude.{◌≡◌, Bool, take, Some, None, Ok, Err}
 use Rattle.std.proofs.Math.Path.{refl}
 use Rattle.std.proofs.Common.{ap, arith}
 use Prim.Native.Nat.{ℕ, ◌%◌, ◌≤◌}
@@ -8,7 +8,6 @@ use Rattle.std.proofs.Math.Bool.{true, false}
 use Rattle.std.proofs.Math.Option.{Option, some}
 use mathlib.Core.List.{List, [], ◌∷◌}
 use Rattle.dates.specs.Dates.{subcycles}
-use Rattle.model.specs.declared.Date.TheVariants.{At}
 use Rattle.model.specs.Numbers.{earliest, instant_of}
 use Rattle.model.specs.State.{OnTheLine, Uart, line_of}
 use Rattle.model.specs.Setters.{with_wake, with_mistimed, with_powered_down_at, with_control, with_tx}
@@ -28,13 +27,10 @@ use Rattle.model.specs.Row.{row_limit, fifo_write, writes, left_by, summed, row}
 use Rattle.model.specs.Run.{stepped, replying, plan_by, writing, plan, step}
 use Rattle.model.proofs.Laws.Choose.{choose-ind}
 use Rattle.model.proofs.Laws.AccessCases.{write-ind, unless-ind, write_register-ind, read_register-ind}
-use Rattle.model.specs.declared.Date.{Date}
+use Rattle.model.specs.Names.{Date, Row, Write, Done}
 use Rattle.model.specs.declared.RegisterMap.{RegisterMap}
-use Rattle.model.specs.declared.Row.{Row}
-use Rattle.model.specs.declared.Source.{Source}
 use Rattle.model.specs.declared.Unsupported.{Unsupported}
-use Rattle.model.specs.declared.Write.{Write}
-use Rattle.model.specs.declared.Done.{Done}
+
 
 -- INT_RAW, the byte on the line, when it lands, and the register map
 abbrev pub watched_parts : Uart ℕ ℕ → ℕ × Option (OnTheLine ℕ) × ℕ × RegisterMap
@@ -47,10 +43,10 @@ pub record Walk (d : Option ℕ) (R : Uart ℕ ℕ → Uart ℕ ℕ → Type 0) 
   pub settling : (now : ℕ) → d ≡ some now → (date : ℕ) → date ≤ subcycles now → (u : Uart ℕ ℕ) → R u (settle_to date u).state
   pub raising : (u : Uart ℕ ℕ) → R u (levels u)
 
-no-later : (d : Date) (n : ℕ) → instant_of (earliest (At n) d) ≤ n
+no-later : (d : Date) (n : ℕ) → instant_of (earliest (Some n) d) ≤ n
 unfolding earliest instant_of
-no-later Date.None n = omega arith
-no-later (Date.At a) n = omega arith
+no-later None n = omega arith
+no-later (Some a) n = omega arith
 
 module _ (now : ℕ) (R : Uart ℕ ℕ → Uart ℕ ℕ → Type 0) (k : Walk (some now) R) where
   walk-settle : (u : Uart ℕ ℕ) → R u (settle now u).state
@@ -79,7 +75,7 @@ module _ (now : ℕ) (R : Uart ℕ ℕ → Uart ℕ ℕ → Type 0) (k : Walk (s
 
   walk-looking : (b : Bool) (p : Register) (u : Uart ℕ ℕ) → R u (read_looking b p u).state
   unfolding read_looking
-  walk-looking true p u = k.on u _ _ (k.alike u (with_line_of (with_mistimed Source.None (line_of u)) u) refl) (walk-register _ p _)
+  walk-looking true p u = k.on u _ _ (k.alike u (with_line_of (with_mistimed None (line_of u)) u) refl) (walk-register _ p _)
   walk-looking false p u = walk-register [] p u
 
   walk-read : (p : Register) (u : Uart ℕ ℕ) → R u (read_at p u).state
@@ -148,7 +144,7 @@ module _ (now : ℕ) (R : Uart ℕ ℕ → Uart ℕ ℕ → Type 0) (k : Walk (s
   walk-reset : (u : Uart ℕ ℕ) → ((s : Uart ℕ ℕ) → R s (cleared s)) → R u (carried (some now) (Calls.machine now Machine.reset u) u).state
   unfolding carried Calls.machine after_settling quiet arm dated
   walk-reset u clr =
-      let v : Uart ℕ ℕ = with_control (with_powered_down_at Date.None u.control) u in
+      let v : Uart ℕ ℕ = with_control (with_powered_down_at None u.control) u in
       let w : Uart ℕ ℕ = (settle_at now v).state in
       k.on u v _ (k.alike u v refl)
       (k.on v w _ (walk-settled v) (k.on w (cleared w) _ (clr w)
@@ -175,7 +171,7 @@ carried-walk (Call.at now (Dated.read r)) u R k clr rst =
     let p : Register = register_of u.map.offsets r in walk_after now R k u (read_at p) (walk-read now R k p)
 carried-walk (Call.at now (Dated.write x)) u R k clr rst = walk-write now R k x u (clr now x refl)
 carried-walk (Call.at now (Dated.receive date bs)) u R k clr rst =
-    walk_after now R k u (λ s. quiet Done.Done (hand_over (host_date now date) bs s)) (walk-hand-over now R k _ bs)
+    let done : Done = Ok tt in walk_after now R k u (λ s. quiet done (hand_over (host_date now date) bs s)) (walk-hand-over now R k _ bs)
 carried-walk (Call.at now (Dated.take_tx lent)) u R k clr rst =
     walk_after now R k u (λ s. quiet (filled s.tx lent) (with_tx [] s)) (λ v. k.alike v _ refl)
 carried-walk (Call.at now (Dated.machine m)) u R k clr rst =
@@ -199,11 +195,11 @@ every_call c u R k clr rst =
 pub every-row : (now : ℕ) (bs : List ℕ) (u : Uart ℕ ℕ) (R : Uart ℕ ℕ → Uart ℕ ℕ → Type 0) → Walk (some now) R → R u (row now bs u).state
 unfolding row refusing summed writes left_by outcome send
 every-row now bs u R k =
-    unless-ind (λ (o : Outcome Row ℕ ℕ). R u o.state) _ Row.Refused _ u (λ r. k.alike u u refl) (made (take row_limit bs) u)
+    unless-ind (λ (o : Outcome Row ℕ ℕ). R u o.state) _ Err _ u (λ r. k.alike u u refl) (made (take row_limit bs) u)
   where
     one : (b : ℕ) (v : Uart ℕ ℕ) → R v (fifo_write now v b).state
     one b v =
-        unless-ind (λ (o : Outcome Write ℕ ℕ). R v o.state) _ Write.Refused _ v (λ r. k.alike v v refl) (walk-fifo now R k b v)
+        unless-ind (λ (o : Outcome Write ℕ ℕ). R v o.state) _ Err _ v (λ r. k.alike v v refl) (walk-fifo now R k b v)
 
     made : (cs : List ℕ) (v : Uart ℕ ℕ) → R v (left_by v (writes now v cs))
     made [] v = k.alike v v refl

@@ -1,6 +1,6 @@
 -- Host bytes that are handed over: their date, the run that they join, and what is left waiting; and what take_tx puts into a lent buffer.
 -- Assumes nothing.
-use Rattle.std.specs.Prelude.{◌≡◌, ℕ, ◌+◌, ◌-◌, ◌*◌, ◌^◌, ◌≤◌, ◌<◌, min, max, Bool, length, drop}
+use Rattle.std.specs.Prelude.{◌≡◌, ℕ, ◌+◌, ◌-◌, ◌*◌, ◌^◌, ◌≤◌, ◌<◌, min, max, Bool, length, drop, Ok, Err}
 use Rattle.std.proofs.Math.Path.{refl, ap}
 use Rattle.std.proofs.Math.Option.{none}
 use mathlib.Core.List.{List, [], ◌∷◌, ◌++◌}
@@ -20,7 +20,7 @@ use Rattle.model.proofs.Refuses.Exactly.{call-carried, call-untouched}
 use Rattle.model.proofs.MeetsManual.Answers.{InTime, settled, carried-answer}
 use Rattle.model.specs.declared.Refusal.{Refusal}
 use Rattle.model.specs.declared.Refusal.TheVariants.{BufferTooShort}
-use Rattle.model.specs.declared.Taken.{Taken}
+
 
 -- ---- runs
 
@@ -60,7 +60,7 @@ handed-over now at u b bs done = ap (λ (s : Step ℕ ℕ ℕ). s.state) (call-c
 -- take_tx settles and puts the bytes that left at the front, answers how many, and writes nothing after them
 pub take-tx : (now : ℕ) (u : Uart ℕ ℕ) (lent : List ℕ) → InTime now u → 1152 ≤ length lent → let out : List ℕ = (settled now u).tx in
     ((step (Call.at now (Dated.take_tx lent)) u).answer.reply
-    ≡ takes (record { taken = Taken.Bytes (length out); front = out; rest = drop (length out) lent }))
+    ≡ takes (record { taken = Ok (length out); front = out; rest = drop (length out) lent }))
     × ((step (Call.at now (Dated.take_tx lent)) u).state ≡ with_tx [] (settled now u))
 unfolding step plan plan_by date_of answering Calls.take_tx carried after_settling quiet filled refuse_if
 take-tx now u lent t long =
@@ -73,7 +73,7 @@ take-tx now u lent t long =
 -- a refused call leaves the buffer as it was lent
 pub refused-take-tx : (now : ℕ) (u : Uart ℕ ℕ) (lent : List ℕ) → 1 ≤ number_of (step (Call.at now (Dated.take_tx lent)) u).answer.reply
     → (r : Refusal)
-    × ((step (Call.at now (Dated.take_tx lent)) u).answer.reply ≡ takes (record { taken = Taken.Refused r; front = []; rest = lent }))
+    × ((step (Call.at now (Dated.take_tx lent)) u).answer.reply ≡ takes (record { taken = Err r; front = []; rest = lent }))
 unfolding plan plan_by replying Calls.take_tx not_taken
 refused-take-tx now u lent h =
     let (r, e) = call-untouched (Call.at now (Dated.take_tx lent)) u h in (r, ap (λ (s : Step ℕ ℕ ℕ). s.answer.reply) e)
@@ -81,7 +81,7 @@ refused-take-tx now u lent h =
 pub refused-take-written : (u : Uart ℕ ℕ) (lent : List ℕ) → 1 ≤ number_of (step (Call.undated (Undated.take_written lent)) u).answer.reply
     → (r : Refusal)
     × ((step (Call.undated (Undated.take_written lent)) u).answer.reply
-    ≡ takes (record { taken = Taken.Refused r; front = []; rest = lent }))
+    ≡ takes (record { taken = Err r; front = []; rest = lent }))
 unfolding plan plan_by replying Calls.take_written not_taken
 refused-take-written u lent h =
     let (r, e) = call-untouched (Call.undated (Undated.take_written lent)) u h in (r, ap (λ (s : Step ℕ ℕ ℕ). s.answer.reply) e)

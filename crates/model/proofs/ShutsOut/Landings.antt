@@ -1,5 +1,5 @@
 -- What becomes of a host byte: a heard byte with room is stored, and the firmware then reads it. Assumes nothing.
-use Rattle.std.specs.Prelude.{◌≡◌, refl, ℕ, suc, ◌*◌, ◌<◌, ◌≤◌, Bool, true, false, length}
+use Rattle.std.specs.Prelude.{◌≡◌, refl, ℕ, suc, ◌*◌, ◌<◌, ◌≤◌, Bool, true, false, length, None}
 use Rattle.std.proofs.Common.{sym, ◌∙◌, arith, le-ltb, lt-ltb}
 use Rattle.std.proofs.Math.Path.{ap, ap₂}
 use Rattle.std.proofs.Math.Numerals.{add-two}
@@ -24,7 +24,7 @@ use Rattle.model.specs.Run.{answering}
 use Rattle.model.specs.Limits.{Within}
 use Rattle.model.proofs.Laws.Cases.{pass-cases, passes_on}
 use Rattle.model.proofs.MeetsManual.Answers.{InTime, read_answer}
-use Rattle.model.specs.declared.Date.{Date}
+use Rattle.model.specs.Names.{Date}
 use Rattle.model.specs.declared.Settings.{Settings}
 use Rattle.model.specs.declared.Fate.{Fate}
 use Rattle.model.specs.declared.Fate.TheVariants.{Stored, Overflowed, Cleared, ClockOff, Unheard}
@@ -40,13 +40,13 @@ module _ {H W : Type 0} (s : Settings) (date : ℕ) (u : Uart H W) (l : OnTheLin
       (λ i. choose (a i) (choose (b i) (choose (c i) Cleared (choose (lt-ltb (length u.rx) fifo_bytes d i) Stored Overflowed))
       ClockOff) Unheard)
 
-  no-timeout : (line_of u).idle_since ≡ Date.None → due_by date (timeout_at s (line_of u)) ≡ false
+  no-timeout : (line_of u).idle_since ≡ None → due_by date (timeout_at s (line_of u)) ≡ false
   unfolding timeout_at after_date due_by
   no-timeout h = ap (λ (d : Date). due_by date (after_date s.timeout_time d)) h
 
   -- a heard byte whose landing date has come, with room, the clock on and RXFIFO_RST clear, is the last in the receive FIFO
   -- after the pass, and the line is free. Within the limits no idle line is open beside it
-  pub byte-lands : (line_of u).idle_since ≡ Date.None → u.receiving ≡ some l → l.frame.heard ≡ true → s.rx_sclk_en ≡ true
+  pub byte-lands : (line_of u).idle_since ≡ None → u.receiving ≡ some l → l.frame.heard ≡ true → s.rx_sclk_en ≡ true
       → s.rxfifo_rst ≡ false
       → length u.rx < 128 → (line_of u).line_free_at ≤ date
       → ((pass s date u).state.rx ≡ u.rx ++ (l.byte ∷ [])) × ((pass s date u).state.receiving ≡ none)
@@ -87,7 +87,7 @@ pass-grows s date =
     (λ u l _. received-grows _ l.byte u.rx) (λ u r rs b bs p _ _ _ h. h)
 
 -- the byte that is due is stored before whatever the later passes store
-landing-settled : {H W : Type 0} (date : ℕ) (u : Uart H W) (l : OnTheLine H) → (line_of u).idle_since ≡ Date.None → u.receiving ≡ some l
+landing-settled : {H W : Type 0} (date : ℕ) (u : Uart H W) (l : OnTheLine H) → (line_of u).idle_since ≡ None → u.receiving ≡ some l
     → l.frame.heard ≡ true
     → bit 25 u.control.words.clk_conf ≡ true → bit 17 u.control.words.conf0 ≡ false → length u.rx < 128
     → (line_of u).line_free_at ≤ date
@@ -121,7 +121,7 @@ pub byte-read : (now offset : ℕ) (u : Uart ℕ ℕ) (l : OnTheLine ℕ) → In
     → (step (Call.at now (Dated.read offset)) u).answer.reply ≡ reads (byte l.byte)
 unfolding answering carried read_placed after_settling read_at looks decide read_looking read_register settle settling_date dated
 byte-read now offset u l t limits e on heard clock rst empty come =
-    let closed : (line_of u).idle_since ≡ Date.None = limits.idle_line l on heard in
+    let closed : (line_of u).idle_since ≡ None = limits.idle_line l on heard in
     let stored = landing-settled (settling_date now u.control) (dated now u) l closed on heard clock rst (rw empty (omega arith)) come in
     ap (λ (x : Step ℕ ℕ ℕ). x.answer.reply) (read_answer t offset Register.fifo e)
     ∙ ap reads (pop-first _ _ _ l.byte stored.0 (stored.1 ∙ ap (λ (r : List ℕ). r ++ (l.byte ∷ []) ++ stored.0) empty))

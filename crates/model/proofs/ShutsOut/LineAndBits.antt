@@ -28,7 +28,7 @@ use Rattle.model.proofs.Refuses.Exactly.{call-carried}
 use Rattle.model.proofs.ShutsOut.EveryCall.{Walk, every_call}
 use Rattle.model.specs.declared.Line.{Line}
 use Rattle.model.specs.declared.Settings.{Settings}
-use Rattle.model.specs.declared.Write.{Write}
+use Rattle.model.specs.Names.{Write}
 
 -- ---- a write leaves the byte on the line
 

@@ -1,6 +1,6 @@
 -- More laws that shut out wrong definitions: 129 bytes may be in flight; bytes land and leave; a new UART takes bytes from both
 -- sides. Assumes nothing.
-use Rattle.std.specs.Prelude.{◌≡◌, Bool, true, false, ltb, take, drop}
+use Rattle.std.specs.Prelude.{◌≡◌, Bool, true, false, ltb, take, drop, Ok}
 use Rattle.std.proofs.Common.{sym, ap₂, ◌∙◌, length-append, le-ltb, le-leb}
 use Rattle.std.proofs.Math.Path.{ap}
 use Prim.Native.Nat.{ℕ, zero, suc, ◌+◌, ◌%◌, ◌<◌, ◌≤◌}
@@ -31,8 +31,8 @@ use Rattle.model.specs.declared.Refusal.TheVariants.{HostFull, RunsFull, BufferT
 use Rattle.model.specs.declared.Report.{Report}
 use Rattle.model.specs.declared.Unsupported.{Unsupported}
 use Rattle.model.specs.declared.Unsupported.TheVariants.{UartOverflow, UartClock}
-use Rattle.model.specs.declared.Write.{Write}
-use Rattle.model.specs.declared.Done.{Done}
+use Rattle.model.specs.Names.{Write}
+
 
 -- ---- a FIFO write
 
@@ -62,7 +62,7 @@ module _ (now : ℕ) (u : Uart ℕ ℕ) (x : Written) (t : InTime now u) (e : re
 
   -- with 128 bytes in flight, and with fewer, the byte joins them, and no notice but the clock's is given
   pub write-taken : length (settled now u).in_flight ≤ 128 → let s : Step ℕ ℕ ℕ = step (Call.at now (Dated.write x)) u in
-      (s.answer.reply ≡ writes Write.Accepted)
+      (s.answer.reply ≡ writes (Ok true))
       × (s.state.in_flight ≡ (settled now u).in_flight ++ (record { gone_at = gone_at now (settled now u); byte = x.value % 256 } ∷ []))
       × (s.answer.report ≡ report (passes_in (settle_at now u).events) (overflows_in (settle_at now u).events)
       (source_notes UartClock (unmodelled_source (settled now u).control.words.clk_conf)) s.state)
@@ -76,7 +76,7 @@ module _ (now : ℕ) (u : Uart ℕ ℕ) (x : Written) (t : InTime now u) (e : re
 
   -- with 129 it is dropped, with UartOverflow
   pub write-dropped : 128 < length (settled now u).in_flight → let s : Step ℕ ℕ ℕ = step (Call.at now (Dated.write x)) u in
-      (s.answer.reply ≡ writes Write.Accepted) × (s.state.in_flight ≡ (settled now u).in_flight)
+      (s.answer.reply ≡ writes (Ok true)) × (s.state.in_flight ≡ (settled now u).in_flight)
       × (s.answer.report
       ≡ report (passes_in (settle_at now u).events) (overflows_in (settle_at now u).events) (UartOverflow ∷ []) s.state)
   unfolding dropped
@@ -130,7 +130,7 @@ module _ (offsets ws : List ℕ) (now : ℕ) (early : now < date_end) where
 
   -- neither 4 nor any other number at a first write to FIFO: the byte is in flight
   pub first-write : (x : Written) → register_of offsets x.offset ≡ Register.fifo
-      → ((step (Call.at now (Dated.write x)) (new offsets ws)).answer.reply ≡ writes Write.Accepted)
+      → ((step (Call.at now (Dated.write x)) (new offsets ws)).answer.reply ≡ writes (Ok true))
       × ((step (Call.at now (Dated.write x)) (new offsets ws)).state.in_flight
       ≡ record { gone_at = gone_at now (settled now (new offsets ws)); byte = x.value % 256 } ∷ [])
   unfolding new map_of
@@ -147,7 +147,7 @@ module _ (offsets ws : List ℕ) (now : ℕ) (early : now < date_end) where
 
   -- neither 5 nor any other number at a first hand-over of up to 1,024 bytes
   pub first-hand-over : (at : ℕ) (bs : List ℕ) → length bs ≤ host_limit
-      → (step (Call.at now (Dated.receive at bs)) (new offsets ws)).answer.reply ≡ does Done.Done
+      → (step (Call.at now (Dated.receive at bs)) (new offsets ws)).answer.reply ≡ does (Ok tt)
   unfolding step plan plan_by date_of answering Calls.receive carried after_settling quiet new refuse_if host_full last_date
   first-hand-over at bs h =
       ap (λ (z : Step ℕ ℕ ℕ). z.answer.reply)

@@ -1,6 +1,6 @@
 -- Register access: what cannot be read, what STATUS, MEM_RX_STATUS and a stored word read as, what a write leaves of the nine, and a write
 -- that is not accepted. Assumes nothing.
-use Rattle.std.specs.Prelude.{◌≡◌, Bool, false, length, take}
+use Rattle.std.specs.Prelude.{◌≡◌, Bool, false, length, take, Ok, true}
 use Rattle.std.proofs.Math.Path.{refl, ap}
 use Rattle.std.proofs.Common.{◌∙◌, true≢false}
 use Prim.Native.Nat.{ℕ, ◌-◌, ◌*◌, ◌^◌}
@@ -27,7 +27,7 @@ use Rattle.model.proofs.ShutsOut.Notices.{conf0-answer}
 use Rattle.model.specs.Unused.{takes_word}
 use Rattle.model.specs.declared.RegisterMap.{RegisterMap}
 use Rattle.model.specs.declared.Words.{Words}
-use Rattle.model.specs.declared.Write.{Write}
+
 
 -- ---- nine words, bit for bit
 
@@ -103,7 +103,7 @@ module _ (now : ℕ) (u : Uart ℕ ℕ) (t : InTime now u) where
   -- a stored word takes the value whole, and the eight others stay
   pub word-stored : (x : Word) (w : Written) → register_of u.map.offsets w.offset ≡ Register.stored x
       → let s : Step ℕ ℕ ℕ = step (Call.at now (Dated.write w)) u in
-      (s.answer.reply ≡ writes Write.Accepted)
+      (s.answer.reply ≡ writes (Ok true))
       × ((y : Word) → value_of s.state.control.words y ≡ choose (same_word x y) w.value (value_of u.control.words y))
   unfolding answering carried write_at write_placed after_settling concluded write_register storing arm levels drive assert_levels choose
       decide
@@ -131,7 +131,7 @@ module _ (now : ℕ) (u : Uart ℕ ℕ) (t : InTime now u) where
   pub write-not-accepted : (w : Written) (r : Register) → register_of u.map.offsets w.offset ≡ r → is_fifo r ≡ false → takes_word r
       ≡ false
       → let s : Step ℕ ℕ ℕ = step (Call.at now (Dated.write w)) u in
-      (s.answer.reply ≡ writes Write.NotAccepted) × (s.state ≡ arm (levels (settled now u))) × (s.answer.report.noted ≡ 0)
+      (s.answer.reply ≡ writes (Ok false)) × (s.state ≡ arm (levels (settled now u))) × (s.answer.report.noted ≡ 0)
   unfolding answering carried write_at write_placed after_settling concluded write_register choose decide report
   write-not-accepted w Register.fifo e f n = absurd (true≢false f)
   write-not-accepted w Register.int_clr e f n = absurd (true≢false n)

@@ -1,6 +1,6 @@
 -- A receive timeout: it comes only when the line has been idle so long, it closes the idle line whatever it raises, and
 -- disabled it raises nothing. Assumes nothing.
-use Rattle.std.specs.Prelude.{◌≡◌, ℕ, suc, ◌*◌, ◌≤◌, Bool, ◌&&◌, ◌||◌, ltb, length}
+use Rattle.std.specs.Prelude.{◌≡◌, ℕ, suc, ◌*◌, ◌≤◌, Bool, ◌&&◌, ◌||◌, ltb, length, Some, None}
 use Rattle.std.proofs.Math.Path.{refl, ap, subst}
 use Rattle.std.proofs.Common.{sym, ◌∙◌}
 use Rattle.std.proofs.Math.Numerals.{add-two}
@@ -28,13 +28,13 @@ use Rattle.model.proofs.MeetsManual.Rises.{raw_bit}
 use Rattle.model.proofs.MeetsManual.FiveBits.{no-timeout, settling-rises}
 use Rattle.model.proofs.Laws.AccessCases.{read_register-ind}
 use Rattle.model.proofs.MeetsManual.Answers.{settled, InTime, read_answer}
-use Rattle.model.specs.declared.Date.{Date}
+use Rattle.model.specs.Names.{Date}
 use Rattle.model.specs.declared.Unsupported.{Unsupported}
 use Rattle.model.specs.declared.Settings.{Settings}
 
 -- a pass takes a timeout only when it is due, and then the idle line is closed, enabled or not, with a byte held or not
 pub pass-closes : {H W : Type 0} (s : Settings) (date at : ℕ) (u : Uart H W) → (pass s date u).event ≡ timeout at
-    → (timeout_at s (line_of u) ≡ Date.At at) × (at ≤ date) × ((line_of (pass s date u).state).idle_since ≡ Date.None)
+    → (timeout_at s (line_of u) ≡ Some at) × (at ≤ date) × ((line_of (pass s date u).state).idle_since ≡ None)
 pass-closes s date at u e =
     let t : TakesTimeout s date u at (pass s date u).state =
     subst (λ x. Takes s date u x (pass s date u).state) e (pass-law s date u).takes in
@@ -48,7 +48,7 @@ record Still {H W : Type 0} (u : Uart H W) : Type 0 where
 
 record Closed {H W : Type 0} (u : Uart H W) : Type 0 where
   still : Still u
-  idle_line : (line_of u).idle_since ≡ Date.None
+  idle_line : (line_of u).idle_since ≡ None
 
 module _ {H W : Type 0} (s : Settings) (date : ℕ) where
   no-host : (rs : List Run) (u : Uart H W) → line_free s date rs [] u ≡ idle s date u
@@ -91,7 +91,7 @@ module _ {H W : Type 0} (s : Settings) (date : ℕ) where
 
 -- a settling at or after the timeout's date closes the idle line
 settling-closes : {H W : Type 0} (date : ℕ) (u : Uart H W) → Still u → due_by date (timeout_at (settings_of u) (line_of u)) ≡ true
-    → (line_of (settle_to date u).state).idle_since ≡ Date.None
+    → (line_of (settle_to date u).state).idle_since ≡ None
 unfolding settle_to leveled levels drive assert_levels raise_if passes depart leave tx_done timeout_at
 settling-closes date u h due =
     ap (λ (k : ℕ). (line_of (passes_from (settings_of u) date k true (depart date u)).state).idle_since)
@@ -121,7 +121,7 @@ module _ {H W : Type 0} where
 -- once its date has come, the timeout has closed the idle line, enabled or not: seen after a read anywhere
 pub timeout-closes-line : (now offset : ℕ) (u : Uart ℕ ℕ) → InTime now u → u.receiving ≡ none → u.host ≡ []
     → due_by (settling_date now u.control) (timeout_at (settings_of u) (line_of u)) ≡ true
-    → (line_of (step (Call.at now (Dated.read offset)) u).state).idle_since ≡ Date.None
+    → (line_of (step (Call.at now (Dated.read offset)) u).state).idle_since ≡ None
 unfolding answering carried read_placed after_settling read_at settle settling_date dated settings_of
 timeout-closes-line now offset u t line waiting due =
     let p : Register = register_of u.map.offsets offset in

@@ -1,6 +1,6 @@
 -- Calls that do not settle, each whole: what take_written, has_left, host_pending, watch and power_down answer and leave; and what a
 -- report holds. Assumes nothing.
-use Rattle.std.specs.Prelude.{◌≡◌, ℕ, ◌≤◌, Bool, List, [], ◌++◌, map, ltb, length, drop}
+use Rattle.std.specs.Prelude.{◌≡◌, ℕ, ◌≤◌, Bool, List, [], ◌++◌, map, ltb, length, drop, Some, Ok}
 use Rattle.std.proofs.Math.Path.{refl, ap}
 use Rattle.std.proofs.Common.{sym, ◌∙◌, subst, le-ltb}
 use Rattle.std.proofs.Math.Option.{Option, none, some}
@@ -18,10 +18,8 @@ use Rattle.model.specs.Call.{Machine, Dated, Undated, Call, date_of, Request, Re
 use Rattle.model.specs.Run.{Step, number_of, stepped, replying, plan_by, plan, step}
 use Rattle.model.proofs.Laws.AccessCases.{unless-ind}
 use Rattle.model.proofs.Refuses.Exactly.{call-carried}
-use Rattle.model.specs.declared.Date.{Date}
 use Rattle.model.specs.declared.Refusal.TheVariants.{BufferTooShort}
-use Rattle.model.specs.declared.Done.{Done}
-use Rattle.model.specs.declared.Taken.{Taken}
+
 
 -- ---- reports
 
@@ -64,7 +62,7 @@ module _ (u : Uart ℕ ℕ) where
   -- nothing is armed
   pub take-written : (lent : List ℕ) → 1152 ≤ length lent → let out : List ℕ = u.tx ++ map (λ s. s.byte) u.in_flight in
       step (Call.undated (Undated.take_written lent)) u
-      ≡ alone (takes (record { taken = Taken.Bytes (length out); front = out; rest = drop (length out) lent }))
+      ≡ alone (takes (record { taken = Ok (length out); front = out; rest = drop (length out) lent }))
       (with_tx [] (with_in_flight [] u))
   unfolding step stepped outcome unless carried date_of plan plan_by replying quiet Calls.take_written filled written refuse_if
   take-written lent long =
@@ -76,7 +74,7 @@ module _ (u : Uart ℕ ℕ) where
 module _ (now : ℕ) (u : Uart ℕ ℕ) where
   -- done, with no pass, overflow or notice; level and wake are those of the state
   abbrev pub unsettled : Uart ℕ ℕ → Step ℕ ℕ ℕ
-  unsettled v = record { answer = record { reply = does Done.Done; report = report 0 0 [] v }; state = v; events = [] }
+  unsettled v = record { answer = record { reply = does (Ok tt); report = report 0 0 [] v }; state = v; events = [] }
 
   -- watching moves the last date, sets the mark and arms
   pub watch-arms : (b : Bool) → number_of (step (Call.at now (Dated.machine (Machine.watch b))) u).answer.reply ≡ 0
@@ -88,6 +86,6 @@ module _ (now : ℕ) (u : Uart ℕ ℕ) where
   -- power-down moves the last date and sets its own to now
   pub power-down-alone : number_of (step (Call.at now (Dated.machine Machine.power_down)) u).answer.reply ≡ 0
       → step (Call.at now (Dated.machine Machine.power_down)) u
-      ≡ unsettled (with_control (with_powered_down_at (Date.At (subcycles now)) (dated now u).control) (dated now u))
+      ≡ unsettled (with_control (with_powered_down_at (Some (subcycles now)) (dated now u).control) (dated now u))
   unfolding stepped carried after_settling date_of plan plan_by replying quiet Calls.machine passes_in overflows_in total
   power-down-alone done = call-carried (Call.at now (Dated.machine Machine.power_down)) u done

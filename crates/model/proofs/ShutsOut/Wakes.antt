@@ -1,6 +1,6 @@
 -- The Deadline keeps the earliest date: after arming, the wake comes no later than the one that was armed and than the cycle of each
 -- instant that asks for one, past or not, and it is one of them; a call at or after it clears it. Assumes nothing.
-use Rattle.std.specs.Prelude.{◌≡◌, refl, ℕ, ◌+◌, ◌/◌, ◌≤◌, ◌<◌, min, Bool, true, false, leb}
+use Rattle.std.specs.Prelude.{◌≡◌, refl, ℕ, ◌+◌, ◌/◌, ◌≤◌, ◌<◌, min, Bool, true, false, leb, Some, None}
 use Rattle.std.proofs.Common.{subst, arith, leb-true, leb-false, le-leb}
 use mathlib.Core.List.{List, [], ◌∷◌, map, Memᴰ}
 use Rattle.std.proofs.lemmas.Bool.{lt-leb}
@@ -9,19 +9,18 @@ use Rattle.model.specs.State.{Uart}
 use Rattle.model.specs.Arm.{called, instants, arm_all, arm}
 use Rattle.model.specs.Limits.{All, nil, cons}
 use Rattle.model.proofs.Laws.Choose.{choose-true, choose-false}
-use Rattle.model.specs.declared.Date.{Date}
-use Rattle.model.specs.declared.Date.TheVariants.{None, At}
+use Rattle.model.specs.Names.{Date}
 
 -- the first cycle that begins at or after a date in subcycles, if there is one
 abbrev pub cycle_of : Date → Date
 cycle_of None = None
-cycle_of (At t) = At ((t + 31) / 32)
+cycle_of (Some t) = Some ((t + 31) / 32)
 
 -- a wake comes no later than a cycle, if there is one
 abbrev pub InTimeFor : Date → Date → Type 0
 InTimeFor wake None = Unit {0}
-InTimeFor None (At c) = ⊥
-InTimeFor (At w) (At c) = w ≤ c
+InTimeFor None (Some c) = ⊥
+InTimeFor (Some w) (Some c) = w ≤ c
 
 -- `w` is the earliest of the wake that was armed and the cycles of the instants
 pub record Earliest (wake : Date) (ds : List Date) (w : Date) : Type 0 where
@@ -32,22 +31,22 @@ pub record Earliest (wake : Date) (ds : List Date) (w : Date) : Type 0 where
 pub in-cycles : (d : Date) → in_cycles d ≡ cycle_of d
 unfolding in_cycles
 in-cycles None = refl
-in-cycles (At t) = refl
+in-cycles (Some t) = refl
 
 no-later-left : (w a b : Date) → InTimeFor w (earliest a b) → InTimeFor w a
 unfolding earliest
 no-later-left w None b h = tt
-no-later-left None (At x) None h = absurd h
-no-later-left None (At x) (At y) h = absurd h
-no-later-left (At v) (At x) None h = h
-no-later-left (At v) (At x) (At y) h = omega (arith, h)
+no-later-left None (Some x) None h = absurd h
+no-later-left None (Some x) (Some y) h = absurd h
+no-later-left (Some v) (Some x) None h = h
+no-later-left (Some v) (Some x) (Some y) h = omega (arith, h)
 
 no-later-right : (w a b : Date) → InTimeFor w (earliest a b) → InTimeFor w b
 unfolding earliest
 no-later-right w None b h = h
-no-later-right w (At x) None h = tt
-no-later-right None (At x) (At y) h = absurd h
-no-later-right (At v) (At x) (At y) h = omega (arith, h)
+no-later-right w (Some x) None h = tt
+no-later-right None (Some x) (Some y) h = absurd h
+no-later-right (Some v) (Some x) (Some y) h = omega (arith, h)
 
 least : (P : ℕ → Type 0) (x y : ℕ) → P x → P y → P (min x y)
 least P x y p q = by-test (leb x y) refl
@@ -59,8 +58,8 @@ least P x y p q = by-test (leb x y) refl
 one_of_two : (a b : Date) (P : Date → Type 0) → P a → P b → P (earliest a b)
 unfolding earliest
 one_of_two None b P p q = q
-one_of_two (At x) None P p q = p
-one_of_two (At x) (At y) P p q = least (λ n. P (At n)) x y p q
+one_of_two (Some x) None P p q = p
+one_of_two (Some x) (Some y) P p q = least (λ n. P (Some n)) x y p q
 
 both : (w a b : Date) (ds : List Date) → Memᴰ w (earliest a b ∷ ds) → Memᴰ w (a ∷ b ∷ ds)
 both w a b ds (Memᴰ.head e) =
@@ -73,7 +72,7 @@ arm_all-earliest [] wake = record { kept = itself wake; each = nil; one = Memᴰ
   where
     itself : (d : Date) → InTimeFor d d
     itself None = tt
-    itself (At c) = omega arith
+    itself (Some c) = omega arith
 arm_all-earliest (d ∷ ds) wake =
     let e : Earliest (earliest wake (in_cycles d)) ds (arm_all (d ∷ ds) wake) = arm_all-earliest ds (earliest wake (in_cycles d)) in
     let w : Date = arm_all (d ∷ ds) wake in
@@ -92,10 +91,10 @@ arm-earliest u = let e = arm_all-earliest (instants u) u.control.wake in (e.kept
 
 -- ---- a call
 
-pub called-due : (now cycle : ℕ) → cycle ≤ now → called now (At cycle) ≡ None
+pub called-due : (now cycle : ℕ) → cycle ≤ now → called now (Some cycle) ≡ None
 unfolding called due_by
 called-due now cycle h = choose-true _ _ (le-leb cycle now h)
 
-pub called-before : (now cycle : ℕ) → now < cycle → called now (At cycle) ≡ At cycle
+pub called-before : (now cycle : ℕ) → now < cycle → called now (Some cycle) ≡ Some cycle
 unfolding called due_by
 called-before now cycle h = choose-false _ _ (lt-leb cycle now h)

@@ -1,5 +1,5 @@
 -- A caller's list is carried out as one over states: the bytes of a save load as the state that was saved. Assumes nothing.
-use Rattle.std.specs.Prelude.{◌≡◌, refl, ℕ, zero, suc, List, [], ◌∷◌, map, get_or}
+use Rattle.std.specs.Prelude.{◌≡◌, refl, ℕ, zero, suc, List, [], ◌∷◌, map, get_or, Ok, Err}
 use Rattle.std.proofs.Common.{sym, ap, subst, ◌∙◌}
 use Rattle.std.proofs.lemmas.List.{map-append}
 use Rattle.model.specs.State.{Uart}
@@ -18,7 +18,7 @@ use Rattle.form.specs.Examples.{no_bytes}
 use Rattle.form.proofs.Parked.{saved-loads, loaded-is-form}
 use Rattle.theorems.specs.Orders.Renamed.{nth_save, find_state, Saves, placed_step}
 use Rattle.theorems.proofs.Orders.Numbering.{placed_order}
-use Rattle.model.specs.declared.Taken.{Taken}
+use Rattle.model.specs.Names.{Taken}
 
 -- ---- what a caller gives fits its types
 
@@ -61,8 +61,8 @@ loading-as (refused r) q = refl
 
 kept-as : (t : Taken) (u : Uart ℕ ℕ) (us : List (Uart ℕ ℕ)) → kept_by t (form_bytes u) (map form_bytes us) ≡ map form_bytes (kept_by t u us)
 unfolding kept_by
-kept-as (Taken.Bytes n) u us = sym (map-append form_bytes us (u ∷ []))
-kept-as (Taken.Refused r) u us = refl
+kept-as (Ok n) u us = sym (map-append form_bytes us (u ∷ []))
+kept-as (Err r) u us = refl
 
 pub order-as : (o : CallersOrder) (q : Saves ℕ ℕ) → SoundSaves q
     → order_step o (parked_as q) ≡ step_as (placed_step (placed_order q.uart.map.offsets o) q)
@@ -102,8 +102,8 @@ loading-sound (refused r) q f s = s
 
 kept-sound : (t : Taken) (u : Uart ℕ ℕ) (us : List (Uart ℕ ℕ)) → Sound u → All Sound us → All Sound (kept_by t u us)
 unfolding kept_by
-kept-sound (Taken.Bytes n) u us s a = all_snoc u us s a
-kept-sound (Taken.Refused r) u us s a = a
+kept-sound (Ok n) u us s a = all_snoc u us s a
+kept-sound (Err r) u us s a = a
 
 pub order-sound : (o : CallersOrder) (q : Saves ℕ ℕ) → OrderFits o → SoundSaves q
     → SoundSaves (placed_step (placed_order q.uart.map.offsets o) q).next

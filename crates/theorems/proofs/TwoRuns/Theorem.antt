@@ -28,7 +28,7 @@ use Rattle.theorems.proofs.TwoRuns.Bounds.{run-below}
 use Rattle.theorems.proofs.TwoRuns.Shapes.{run-shape}
 use Rattle.model.proofs.Ends.Passes.{apart}
 use Rattle.model.specs.declared.Report.{Report}
-use Rattle.model.specs.declared.Row.{Row}
+use Rattle.model.specs.Names.{Row}
 
 -- the answers of a list with numbers in the place of its bytes
 unfoldable pub numbered_answers : List ℕ → List ℕ → List Ask → List Bare

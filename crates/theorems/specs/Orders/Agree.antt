@@ -10,8 +10,7 @@ use Rattle.theorems.specs.TwoRuns.AgreeBy.{AgreeBy}
 use Rattle.theorems.specs.Orders.Renamed.{map_cell}
 use Rattle.theorems.specs.Orders.Alike.{order_host, order_written}
 use Rattle.model.specs.declared.Report.{Report}
-use Rattle.model.specs.declared.Row.{Row}
-use Rattle.model.specs.declared.Taken.{Taken}
+use Rattle.model.specs.Names.{Row, Taken}
 use Rattle.form.specs.declared.NotLoaded.{NotLoaded}
 
 -- a cell of a form with numbers for bytes: the number of a host byte is below h, and that of a written one below w

@@ -1,5 +1,5 @@
 -- An order looks into no byte: the form of a state, a save and a load commute with a change of bytes. Assumes nothing.
-use Rattle.std.specs.Prelude.{◌≡◌, Bool, ltb, length}
+use Rattle.std.specs.Prelude.{◌≡◌, Bool, ltb, length, Ok, Err}
 use Rattle.std.proofs.Math.Path.{refl, sym, ap, ap₂}
 use Rattle.std.proofs.Common.{◌∙◌}
 use Prim.Native.Nat.{ℕ, zero, suc}
@@ -24,7 +24,7 @@ use Rattle.theorems.specs.TwoRuns.NaturalRuns.{asked-nat}
 use Rattle.theorems.specs.Orders.Renamed.{map_cell, map_loading, LoadFrom, nth_save, find_state, PlacedOrder, Saves, placed_step, map_from}
 use Rattle.theorems.specs.Orders.Renamed.{map_saves, map_order, map_answered, map_order_step}
 use Rattle.model.specs.declared.Refusal.TheVariants.{BufferTooShort}
-use Rattle.model.specs.declared.Taken.{Taken}
+use Rattle.model.specs.Names.{Taken}
 
 module _ {H H' W W' : Type 0} (f : H → H') (g : W → W') where
   -- ---- the form
@@ -110,8 +110,8 @@ module _ {H H' W W' : Type 0} (f : H → H') (g : W → W') where
   kept-nat : (t : Taken) (u : Uart H W) (us : List (Uart H W))
       → kept_by t (map_uart f g u) (map (map_uart f g) us) ≡ map (map_uart f g) (kept_by t u us)
   unfolding kept_by
-  kept-nat (Taken.Bytes n) u us = sym (map-append (map_uart f g) us (u ∷ []))
-  kept-nat (Taken.Refused r) u us = refl
+  kept-nat (Ok n) u us = sym (map-append (map_uart f g) us (u ∷ []))
+  kept-nat (Err r) u us = refl
 
   nth-nat : (k : ℕ) (us : List (Uart H W)) → nth_save k (map (map_uart f g) us) ≡ map_loading f g (nth_save k us)
   unfolding nth_save map_loading

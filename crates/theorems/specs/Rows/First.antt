@@ -1,5 +1,5 @@
 -- A write that is carried out leaves a still state, unless the last byte in flight is due at once. Assumes nothing.
-use Rattle.std.specs.Prelude.{◌≡◌, refl, ℕ, ◌≤◌, ◌<◌, Bool, false, ltb, length}
+use Rattle.std.specs.Prelude.{◌≡◌, refl, ℕ, ◌≤◌, ◌<◌, Bool, false, ltb, length, Some}
 use Rattle.std.proofs.Common.{sym, ◌∙◌, le_refl}
 use Rattle.std.proofs.Math.Path.{ap, subst}
 use mathlib.Core.List.{List, map-append}
@@ -21,13 +21,12 @@ use Rattle.model.proofs.Ends.NothingDue.{NothingLeft, settle-nothing-left}
 use Rattle.theorems.specs.TwoSteps.Levels.{levels-dressed, levels-again}
 use Rattle.theorems.specs.Rows.Still.{Still}
 use Rattle.theorems.specs.Rows.Next.{joined, last_gone-joined, arm-again}
-use Rattle.model.specs.declared.Date.{Date}
-use Rattle.model.specs.declared.Date.TheVariants.{At}
-use Rattle.model.specs.declared.Write.{Write}
+use Rattle.model.specs.Names.{Date, Write}
+
 
 -- the last byte in flight goes after a date
 abbrev pub LastAfter : {W : Type 0} → ℕ → List (Sent W) → Type 0
-LastAfter date l = (t : ℕ) → last_gone l ≡ At t → date < t
+LastAfter date l = (t : ℕ) → last_gone l ≡ Some t → date < t
 
 module _ {H W : Type 0} where
   levels-twice : (u : Uart H W) → levels (levels u) ≡ levels u
@@ -51,7 +50,7 @@ module _ {H W : Type 0} where
     nothing_left : NothingLeft (settling_date now settled.control) settled
     unfolding settling_date dated
     nothing_left =
-        subst (λ (d : Date). NothingLeft (instant_of (earliest (At (subcycles now)) d)) settled)
+        subst (λ (d : Date). NothingLeft (instant_of (earliest (Some (subcycles now)) d)) settled)
         (sym (settle-keeps now (dated now u)).powered_down_at) (settle-nothing-left now (dated now u) order)
 
     last-now : settled.control.last ≡ now

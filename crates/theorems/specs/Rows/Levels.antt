@@ -1,6 +1,6 @@
 -- Levels and wake where one byte more is in flight: no level rises that had not, and of the instants that ask for a wake only the one at
 -- which the transmit FIFO falls below its threshold can be new. Assumes nothing.
-use Rattle.std.specs.Prelude.{◌≡◌, refl, ℕ, ◌≤◌, Bool, true, false, List, [], ◌∷◌, eqb, length}
+use Rattle.std.specs.Prelude.{◌≡◌, refl, ℕ, ◌≤◌, Bool, true, false, List, [], ◌∷◌, eqb, length, Some, None}
 use Rattle.std.proofs.Common.{sym, subst, ◌∙◌, arith}
 use Rattle.std.proofs.Math.Path.{ap}
 use Rattle.std.proofs.lemmas.Bool.{false≢true}
@@ -16,8 +16,7 @@ use Rattle.model.specs.Limits.{All, nil, cons}
 use Rattle.theorems.specs.TwoSteps.Raises.{raises, raises-swap, raises-within}
 use Rattle.theorems.specs.TwoSteps.Levels.{empty-less}
 use Rattle.model.proofs.ShutsOut.Wakes.{cycle_of, InTimeFor, arm_all-earliest}
-use Rattle.model.specs.declared.Date.{Date}
-use Rattle.model.specs.declared.Date.TheVariants.{None, At}
+use Rattle.model.specs.Names.{Date}
 
 -- ---- levels
 
@@ -58,17 +57,17 @@ module _ {H W : Type 0} where
 in-time-armed : (w d : Date) → InTimeFor w (cycle_of d) → earliest w (in_cycles d) ≡ w
 unfolding earliest in_cycles
 in-time-armed None None h = refl
-in-time-armed (At w) None h = refl
-in-time-armed None (At d) h = absurd h
-in-time-armed (At w) (At d) h = ap At (omega (arith, h))
+in-time-armed (Some w) None h = refl
+in-time-armed None (Some d) h = absurd h
+in-time-armed (Some w) (Some d) h = ap Some (omega (arith, h))
 
 -- an earlier one is in time too
 still-in-time : (w d e : Date) → InTimeFor w (cycle_of e) → InTimeFor (earliest w (in_cycles d)) (cycle_of e)
 unfolding earliest in_cycles
 still-in-time w d None h = tt
-still-in-time None d (At e) h = absurd h
-still-in-time (At w) None (At e) h = h
-still-in-time (At w) (At d) (At e) h = omega (arith, h)
+still-in-time None d (Some e) h = absurd h
+still-in-time (Some w) None (Some e) h = h
+still-in-time (Some w) (Some d) (Some e) h = omega (arith, h)
 
 pub arm_all-still : (ds : List Date) (w : Date) → All (λ d. InTimeFor w (cycle_of d)) ds → arm_all ds w ≡ w
 unfolding arm_all
@@ -81,9 +80,9 @@ arm_all-again ds w = arm_all-still ds (arm_all ds w) (arm_all-earliest ds w).eac
 pub arm_all-in-time : (ds : List Date) (w : Date) → arm_all ds w ≡ w → All (λ d. InTimeFor w (cycle_of d)) ds
 arm_all-in-time ds w e = subst (λ v. All (λ d. InTimeFor v (cycle_of d)) ds) e (arm_all-earliest ds w).each
 
-pub later-in-time : (w : Date) (a b : ℕ) → a ≤ b → InTimeFor w (cycle_of (At a)) → InTimeFor w (cycle_of (At b))
+pub later-in-time : (w : Date) (a b : ℕ) → a ≤ b → InTimeFor w (cycle_of (Some a)) → InTimeFor w (cycle_of (Some b))
 later-in-time None a b le h = absurd h
-later-in-time (At w) a b le h = omega (arith, h)
+later-in-time (Some w) a b le h = omega (arith, h)
 
 -- armed for five instants, all of which but the fourth it is in time for
 pub fourth-armed : (w a b c d e : Date) → InTimeFor w (cycle_of a) → InTimeFor w (cycle_of b) → InTimeFor w (cycle_of c) → InTimeFor w

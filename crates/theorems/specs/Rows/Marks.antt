@@ -1,5 +1,5 @@
 -- Rows on the bench, with the answers that N1's sentences give, as rows of one list, and one claim over the list. Assumes nothing.
-use Rattle.std.specs.Prelude.{◌≡◌, refl, ℕ, length, replicate}
+use Rattle.std.specs.Prelude.{◌≡◌, refl, ℕ, length, replicate, Some, Ok}
 use Rattle.std.proofs.Math.Bool.{decide}
 use mathlib.Core.List.{List, [], ◌∷◌, map, flat_map}
 use Rattle.model.specs.Numbers.{choose, due_by, instant_of, only_if, earliest, in_cycles}
@@ -32,12 +32,11 @@ use Rattle.model.specs.Row.{left_by, summed, first_test, row, counted, counted_a
 use Rattle.model.specs.SetUp.{words_among, map_of, new_control, new}
 use Rattle.model.specs.Call.{receive, at, date_of}
 use Rattle.model.specs.Run.{number_of, stepped, replying, plan_by, writing, plan, step}
-use Rattle.model.specs.declared.Date.{Date}
-use Rattle.model.specs.declared.Date.TheVariants.{At}
+use Rattle.model.specs.Names.{Date}
 use Rattle.model.specs.declared.Unsupported.{Unsupported}
 use Rattle.model.specs.declared.Unsupported.TheVariants.{UartOverflow, UartClock}
 use Rattle.model.specs.Marks.{bench_words, offset, bench, Hold}
-use Rattle.model.specs.declared.Row as Declared
+use Rattle.model.specs.Names as Declared
 
 -- a source without a frequency, and a divider of 0
 unfoldable pub sourceless : Uart ℕ ℕ
@@ -58,18 +57,18 @@ abbrev pub sides : Uart ℕ ℕ → ℕ × ℕ
 sides u = (length u.tx, length u.in_flight)
 
 abbrev pub made : ℕ → ℕ → ℕ → Declared.Row
-made n first second = Declared.Row.Made (record { count = n; first = first; second = second })
+made n first second = Ok (record { count = n; first = first; second = second })
 
 unfoldable pub row_marks : List (Type 0)
 row_marks =
     -- three bytes at 100: each makes its pass, and the wake is the first departure's
-    (told 100 (0x41 ∷ 0x42 ∷ 0x43 ∷ []) bench ≡ (made 3 0 0, 3, 0, At 520, []))
+    (told 100 (0x41 ∷ 0x42 ∷ 0x43 ∷ []) bench ≡ (made 3 0 0, 3, 0, Some 520, []))
     -- the 130th is dropped, and made
-    ∷ (told 100 (replicate 130 7) bench ≡ (made 130 1 0, 130, 0, At 520, UartOverflow ∷ []))
+    ∷ (told 100 (replicate 130 7) bench ≡ (made 130 1 0, 130, 0, Some 520, UartOverflow ∷ []))
     -- a clock's notice for each byte that is sent, and then those that are dropped
-    ∷ (told 0 (replicate 131 7) sourceless ≡ (made 131 129 2, 131, 0, At 420, UartClock 0 ∷ UartOverflow ∷ []))
+    ∷ (told 0 (replicate 131 7) sourceless ≡ (made 131 129 2, 131, 0, Some 420, UartClock 0 ∷ UartOverflow ∷ []))
     -- the first write settles: 130 host bytes land, two are lost; the second makes one pass
-    ∷ (told 55000 (1 ∷ 2 ∷ []) (step (at 0 (receive 0 (replicate 130 7))) bench).state ≡ (made 2 0 0, 132, 2, At 420, []))
+    ∷ (told 55000 (1 ∷ 2 ∷ []) (step (at 0 (receive 0 (replicate 130 7))) bench).state ≡ (made 2 0 0, 132, 2, Some 420, []))
     -- with a divider of 0 each byte leaves as the next is written
     ∷ (sides (row 0 (1 ∷ 2 ∷ 3 ∷ []) undivided).state ≡ (2, 1))
     ∷ []

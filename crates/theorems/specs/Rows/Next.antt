@@ -1,6 +1,6 @@
 -- The next write at the same cycle, on a still state: it settles nothing, and the byte joins those in flight or is dropped. Of levels and
 -- wake only the wake can change, and the state is still again. Assumes nothing.
-use Rattle.std.specs.Prelude.{◌≡◌, ℕ, ◌≤◌, ◌<◌, Bool, false, length}
+use Rattle.std.specs.Prelude.{◌≡◌, ℕ, ◌≤◌, ◌<◌, Bool, false, length, Some, Ok, Err, true}
 use Rattle.std.proofs.Math.Path.{refl, ap, ap₂, subst}
 use Rattle.std.proofs.Common.{sym, ◌∙◌, arith, length-append, le-ltb, lt-ltb}
 use Rattle.std.proofs.Math.Option.{Option, none, some}
@@ -27,11 +27,10 @@ use Rattle.model.proofs.Keeps.Access.{last_gone-last_of, sends-behind}
 use Rattle.model.proofs.ShutsOut.Wakes.{cycle_of, InTimeFor}
 use Rattle.theorems.specs.Rows.Still.{Still, still-settles}
 use Rattle.theorems.specs.Rows.Levels.{more-flying, arm_all-again, arm_all-in-time, later-in-time, fourth-armed}
-use Rattle.model.specs.declared.Date.{Date}
-use Rattle.model.specs.declared.Date.TheVariants.{At}
+use Rattle.model.specs.Names.{Date, Write}
 use Rattle.model.specs.declared.Refusal.TheVariants.{DatePastEnd, DateWentBack, TransmitFull}
 use Rattle.model.specs.declared.Unsupported.TheVariants.{UartOverflow, UartClock}
-use Rattle.model.specs.declared.Write.{Write}
+
 
 -- ---- the byte joins
 
@@ -75,11 +74,11 @@ last_of_snoc [] s = refl
 last_of_snoc (r ∷ []) s = refl
 last_of_snoc (r ∷ q ∷ l) s = last_of_snoc (q ∷ l) s
 
-last_gone-snoc : {W : Type 0} (l : List (Sent W)) (s : Sent W) → last_gone (l ++ (s ∷ [])) ≡ At s.gone_at
-last_gone-snoc [] s = last_gone-last_of s [] ∙ ap At (last_of_snoc [] s)
-last_gone-snoc (r ∷ l) s = last_gone-last_of r (l ++ (s ∷ [])) ∙ ap At (last_of_snoc (r ∷ l) s)
+last_gone-snoc : {W : Type 0} (l : List (Sent W)) (s : Sent W) → last_gone (l ++ (s ∷ [])) ≡ Some s.gone_at
+last_gone-snoc [] s = last_gone-last_of s [] ∙ ap Some (last_of_snoc [] s)
+last_gone-snoc (r ∷ l) s = last_gone-last_of r (l ++ (s ∷ [])) ∙ ap Some (last_of_snoc (r ∷ l) s)
 
-pub last_gone-joined : {H W : Type 0} (now : ℕ) (b : W) (u : Uart H W) → last_gone (joined now b u) ≡ At (gone_at now u)
+pub last_gone-joined : {H W : Type 0} (now : ℕ) (b : W) (u : Uart H W) → last_gone (joined now b u) ≡ Some (gone_at now u)
 last_gone-joined now b u = last_gone-snoc u.in_flight _
 
 all-last_of : {P : ℕ → Type 0} (n : ℕ) (ns : List ℕ) → All P (n ∷ ns) → P (last_of (n ∷ ns))
@@ -95,10 +94,10 @@ module _ {H W : Type 0} (now : ℕ) (b : W) (u : Uart H W) (in-time : now < date
   pub written-carried : fifo_write now u b ≡ carried (some now) (send now b u) u
   unfolding outcome unless send refuse_date refuse_if
   written-carried =
-      ap₂ (λ (p q : Bool). unless (refuse_if p DatePastEnd (refuse_if q DateWentBack (send now b u).test)) Write.Refused
+      ap₂ (λ (p q : Bool). unless (refuse_if p DatePastEnd (refuse_if q DateWentBack (send now b u).test)) Err
       (carried (some now) (send now b u)) u)
       (lt-leb date_end now in-time) (le-ltb now u.control.last in_order)
-      ∙ ap (λ (t : Bool). unless (refuse_if t TransmitFull none) Write.Refused (carried (some now) (send now b u)) u) room
+      ∙ ap (λ (t : Bool). unless (refuse_if t TransmitFull none) Err (carried (some now) (send now b u)) u) room
 
 module _ {H W : Type 0} (now : ℕ) (b : W) (u : Uart H W) (still : Still now u) (in-time : now < date_end)
     (room : transmit_full (length u.tx) (length u.in_flight) ≡ false) where
@@ -119,7 +118,7 @@ module _ {H W : Type 0} (now : ℕ) (b : W) (u : Uart H W) (still : Still now u)
 
   pub written-dropped : fifo_bytes < length u.in_flight
       → fifo_write now u b ≡ record {
-        reply = Write.Accepted;
+        reply = Ok true;
         report = report 1 0 (UartOverflow ∷ []) u;
         state = u;
         events = nothing (settling_date now u.control) ∷ [];
@@ -127,7 +126,7 @@ module _ {H W : Type 0} (now : ℕ) (b : W) (u : Uart H W) (still : Still now u)
   unfolding concluded dropped send_byte
   written-dropped h =
       written-still ∙ ap (λ a. concluding (concluded a)) (choose-true (dropped u) (sent now b u) (lt-ltb fifo_bytes _ h))
-      ∙ ap (λ v. concluding (record { reply = Write.Accepted; notes = UartOverflow ∷ []; state = v }))
+      ∙ ap (λ v. concluding (record { reply = Ok true; notes = UartOverflow ∷ []; state = v }))
       (ap arm still.leveled ∙ still.armed)
 
   module _ (s : Sent W) (ss : List (Sent W)) (flying : u.in_flight ≡ s ∷ ss) (fit : All Fits (flight_dates u.in_flight)) where
@@ -164,7 +163,7 @@ module _ {H W : Type 0} (now : ℕ) (b : W) (u : Uart H W) (still : Still now u)
 
     pub written_next : length u.in_flight ≤ fifo_bytes
         → fifo_write now u b ≡ record {
-          reply = Write.Accepted;
+          reply = Ok true;
           report = report 1 0 (source_notes UartClock (unmodelled_source u.control.words.clk_conf)) (next now b u);
           state = next now b u;
           events = nothing (settling_date now u.control) ∷ [];
@@ -173,7 +172,7 @@ module _ {H W : Type 0} (now : ℕ) (b : W) (u : Uart H W) (still : Still now u)
     written_next h =
         written-still ∙ ap (λ a. concluding (concluded a)) (choose-false (dropped u) (sent now b u) (le-ltb fifo_bytes _ h))
         ∙ ap (λ v. concluding (record {
-          reply = Write.Accepted;
+          reply = Ok true;
           notes = source_notes UartClock (unmodelled_source u.control.words.clk_conf);
           state = v;
         }))

@@ -1,6 +1,6 @@
 -- Demand 1 of the settlings of a row, one for each write that is made: each is bounded and leaves nothing due, and they find all that
 -- the row reports. Assumes a state within the limits.
-use Rattle.std.specs.Prelude.{◌≡◌, take}
+use Rattle.std.specs.Prelude.{◌≡◌, take, Err}
 use Rattle.std.proofs.Math.Path.{refl, ap₂}
 use Prim.Native.Nat.{ℕ}
 use Rattle.std.proofs.Common.{arith}
@@ -23,7 +23,7 @@ use Rattle.model.proofs.Ends.NothingDue.{settle-passes, settle-nothing-left}
 use Rattle.model.proofs.Ends.Settlings.{Settling, settles, settlings, Settles, call-settles}
 use Rattle.model.proofs.Refuses.Exactly.{number-positive}
 use Rattle.model.specs.declared.Refusal.{Refusal}
-use Rattle.model.specs.declared.Write.{Write}
+use Rattle.model.specs.Names.{Write}
 
 -- those of writes to FIFO that are made
 unfoldable pub write_settlings : ℕ → Uart ℕ ℕ → List (Outcome Write ℕ ℕ) → List Settling
@@ -51,8 +51,8 @@ module _ (now : ℕ) where
   unfolding outcome unless refusing carried after_settling send write_number
   write-found b u = by-test (refuse_date now u.control (send now b u).test)
     where
-      by-test : (o : Option Refusal) → eqb (write_number (unless o Write.Refused (carried (some now) (send now b u)) u).reply) 0 ≡ true
-          → (unless o Write.Refused (carried (some now) (send now b u)) u).events ≡ (settle now (dated now u)).events
+      by-test : (o : Option Refusal) → eqb (write_number (unless o Err (carried (some now) (send now b u)) u).reply) 0 ≡ true
+          → (unless o Err (carried (some now) (send now b u)) u).events ≡ (settle now (dated now u)).events
       by-test none e = refl
       by-test (some r) e = absurd (omega (arith, eqb-true (number r) 0 e, number-positive r))
 

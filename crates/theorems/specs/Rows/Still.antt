@@ -1,6 +1,6 @@
 -- A still state: nothing is due, levels are raised and the wake is armed. Settling it at the same cycle again changes nothing, in one
 -- pass. Assumes nothing.
-use Rattle.std.specs.Prelude.{◌≡◌, Bool, false, ◌&&◌, ltb, eqb, length, take}
+use Rattle.std.specs.Prelude.{◌≡◌, Bool, false, ◌&&◌, ltb, eqb, length, take, Some, None}
 use Rattle.std.proofs.Math.Path.{refl, ap, ap₂}
 use Rattle.std.proofs.Common.{sym, ◌∙◌, lt-ltb, ne_eqb}
 use Prim.Native.Nat.{ℕ, zero, suc, ◌+◌, ◌-◌, ◌*◌, ◌<◌}
@@ -26,8 +26,7 @@ use Rattle.model.proofs.Laws.Choose.{choose-true, choose-false}
 use Rattle.model.specs.Limits.{All, cons, flight_dates}
 use Rattle.model.proofs.Ends.Passes.{After, LineQuiet}
 use Rattle.model.proofs.Ends.NothingDue.{NothingLeft}
-use Rattle.model.specs.declared.Date.{Date}
-use Rattle.model.specs.declared.Date.TheVariants.{None, At}
+use Rattle.model.specs.Names.{Date}
 use Rattle.model.specs.declared.Settings.{Settings}
 
 -- ---- a pass that finds nothing
@@ -35,12 +34,12 @@ use Rattle.model.specs.declared.Settings.{Settings}
 after-not-due : (date : ℕ) (d : Date) → After date d → due_by date d ≡ false
 unfolding due_by
 after-not-due date None h = refl
-after-not-due date (At t) h = lt-leb t date h
+after-not-due date (Some t) h = lt-leb t date h
 
 earlier-not-due : (date at : ℕ) (d : Date) → After date d → due_by (earlier date at) d ≡ false
 unfolding due_by
 earlier-not-due date at None h = refl
-earlier-not-due date at (At t) h = lt-leb t _ (omega (arith, h))
+earlier-not-due date at (Some t) h = lt-leb t _ (omega (arith, h))
 
 module _ {H W : Type 0} (s : Settings) (date : ℕ) (u : Uart H W) (q : LineQuiet s date u) where
   no-timeout : {P : Type 0} (out rest : P) → choose (due_by date (timeout_at s (line_of u))) out rest ≡ rest

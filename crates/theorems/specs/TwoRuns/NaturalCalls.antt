@@ -1,5 +1,5 @@
 -- Each call looks into no byte: it commutes with a change of bytes. Assumes nothing.
-use Rattle.std.specs.Prelude.{◌≡◌, ℕ, Bool, ltb, length}
+use Rattle.std.specs.Prelude.{◌≡◌, ℕ, Bool, ltb, length, Ok}
 use Rattle.std.proofs.Math.Path.{refl, ap, ap₂}
 use Rattle.std.proofs.Common.{sym, ◌∙◌}
 use Rattle.std.proofs.Math.Bool.{true, false}
@@ -29,8 +29,7 @@ use Rattle.model.proofs.Laws.Placed.{Put, Placed, changed_dated, changed_undated
 use Rattle.theorems.specs.TwoRuns.Renamed.{map_read_of, map_take, map_reply, map_answer, itself}
 use Rattle.model.specs.declared.Refusal.{Refusal}
 use Rattle.model.specs.declared.Unsupported.{Unsupported}
-use Rattle.model.specs.declared.Write.{Write}
-use Rattle.model.specs.declared.Done.{Done}
+use Rattle.model.specs.Names.{Write, Done}
 use Rattle.model.proofs.Laws.Choose.{choose-nat}
 use Rattle.model.proofs.Laws.Lists.{map-take, map-drop}
 
@@ -227,7 +226,7 @@ module _ {H H' W W' : Type 0} (f : H → H') (g : W → W') where
     test = rw (length-map u.host f, length-map bs f);
     refuses = λ r. refl;
     changes = Each.cons (λ v. refl) Each.nil;
-    work = λ v. quiet-nat itself f g Done.Done _ refl (hand_over-nat _ bs v);
+    work = λ v. quiet-nat itself f g (Ok tt) _ refl (hand_over-nat _ bs v);
   }
 
   host_pending-nat : (u : Uart H W) → Natural itself f g (Calls.host_pending u) (Calls.host_pending (map_uart f g u))
@@ -241,8 +240,8 @@ module _ {H H' W W' : Type 0} (f : H → H') (g : W → W') where
 
   -- ---- wake, watch, clock, power-down, reset
 
-  armed-nat : (v : Uart H W) → quiet Done.Done (arm (map_uart f g v)) ≡ map_access itself f g (quiet Done.Done (arm v))
-  armed-nat v = quiet-nat itself f g Done.Done (arm v) refl (arm-nat f g v)
+  armed-nat : (v : Uart H W) → quiet {R = Done} (Ok tt) (arm (map_uart f g v)) ≡ map_access itself f g (quiet (Ok tt) (arm v))
+  armed-nat v = quiet-nat itself f g (Ok tt) (arm v) refl (arm-nat f g v)
 
   wake-nat : (now : ℕ) (u : Uart H W)
       → Natural itself f g (Calls.machine now Machine.wake u) (Calls.machine now Machine.wake (map_uart f g u))
@@ -258,7 +257,7 @@ module _ {H H' W W' : Type 0} (f : H → H') (g : W → W') where
       → Natural itself f g (Calls.machine now Machine.power_down u) (Calls.machine now Machine.power_down (map_uart f g u))
   unfolding Calls.machine
   power_down-nat now u =
-      record { test = refl; refuses = λ r. refl; changes = Each.nil; work = λ v. quiet-nat itself f g Done.Done _ refl refl }
+      record { test = refl; refuses = λ r. refl; changes = Each.nil; work = λ v. quiet-nat itself f g (Ok tt) _ refl refl }
 
   clock_change-nat : (now period : ℕ) (u : Uart H W)
       → Natural itself f g (Calls.machine now (Machine.clock_change period) u)
@@ -278,7 +277,7 @@ module _ {H H' W W' : Type 0} (f : H → H') (g : W → W') where
     test = refl;
     refuses = λ r. refl;
     changes = Each.cons (λ v. refl) Each.nil;
-    work = λ v. ap (λ w. quiet Done.Done (arm w)) (levels-nat f g (cleared v)) ∙ armed-nat (levels (cleared v));
+    work = λ v. ap (λ w. quiet (Ok tt) (arm w)) (levels-nat f g (cleared v)) ∙ armed-nat (levels (cleared v));
   }
 
   machine-nat : (now : ℕ) (m : Machine) (u : Uart H W) → Natural itself f g (Calls.machine now m u) (Calls.machine now m (map_uart f g u))

@@ -1,5 +1,5 @@
 -- A row and a whole list look into no byte: they commute with a change of bytes. Assumes nothing.
-use Rattle.std.specs.Prelude.{◌≡◌, eqb, take}
+use Rattle.std.specs.Prelude.{◌≡◌, eqb, take, Err}
 use Rattle.std.proofs.Math.Path.{refl, sym, ap, ap₂}
 use Rattle.std.proofs.Common.{◌∙◌}
 use Prim.Native.Nat.{ℕ, ◌+◌}
@@ -23,8 +23,7 @@ use Rattle.model.proofs.Laws.Placed.{Put, Placed, putting, changed_asked, step_p
 use Rattle.theorems.specs.TwoRuns.NaturalCalls.{map_put, map_placed, map_step, map_outcome, unless-nat, outcome-nat, putting-nat}
 use Rattle.theorems.specs.TwoRuns.NaturalCalls.{step_placed-nat}
 use Rattle.model.specs.declared.Refusal.{Refusal}
-use Rattle.model.specs.declared.Row.{Row}
-use Rattle.model.specs.declared.Write.{Write}
+use Rattle.model.specs.Names.{Write}
 
 -- a list's element changed
 abbrev pub map_asked : {H H' W W' L L' : Type 0} → (H → H') → (W → W') → (L → L') → Asked (Placed H W L) W → Asked (Placed H' W' L') W'
@@ -89,9 +88,9 @@ module _ {H H' W W' : Type 0} (f : H → H') (g : W → W') where
   pub row-nat : (now : ℕ) (bs : List W) (u : Uart H W) → row now (map g bs) (map_uart f g u) ≡ map_outcome itself f g (row now bs u)
   unfolding row
   row-nat now bs u =
-      ap (λ (t : Option Refusal). unless (refuse_date now u.control t) Row.Refused
+      ap (λ (t : Option Refusal). unless (refuse_date now u.control t) Err
       (λ s. summed s (writes now s (take row_limit (map g bs)))) (map_uart f g u)) (first-nat now bs u)
-      ∙ unless-nat itself f g _ Row.Refused Row.Refused _ _ u (λ r. refl)
+      ∙ unless-nat itself f g _ Err Err _ _ u (λ r. refl)
       (ap (λ l. summed (map_uart f g u) (writes now (map_uart f g u) l)) (sym (map-take g row_limit bs))
       ∙ ap (summed (map_uart f g u)) (writes-nat now (take row_limit bs) u)
       ∙ summed-nat u (writes now u (take row_limit bs)))

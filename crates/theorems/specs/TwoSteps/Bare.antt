@@ -1,6 +1,6 @@
 -- Bytes land, start and wait whatever the timeouts do: of the line's marks a landing and a start need none but the date when the
 -- line is free. Each pass takes a timeout, or does what it does with the other marks wiped. Assumes nothing.
-use Rattle.std.specs.Prelude.{◌≡◌, ℕ, ltb, length}
+use Rattle.std.specs.Prelude.{◌≡◌, ℕ, ltb, length, Some, None}
 use Rattle.std.proofs.Math.Path.{refl, sym, ap}
 use Rattle.std.proofs.Common.{subst, ◌∙◌}
 use Rattle.std.proofs.Math.Option.{Option, none, some}
@@ -14,8 +14,6 @@ use Rattle.model.specs.Settle.{Pass, nothing_due, timed_out, landed, in_frame, b
 use Rattle.model.proofs.Laws.Choose.{choose-ind, choose-true, choose-false, choose-nat}
 use Rattle.model.proofs.Ends.Passes.{apart, Takes, pass-law, time_out-free, land-free}
 use Rattle.theorems.specs.TwoSteps.Later.{Closed, closed-due, start-closed}
-use Rattle.model.specs.declared.Date.TheVariants.{None, At}
-use Rattle.model.specs.declared.Source.{Source}
 use Rattle.model.specs.declared.Line.{Line}
 use Rattle.model.specs.declared.Settings.{Settings}
 use Rattle.model.specs.declared.Fate.{Fate}
@@ -24,7 +22,7 @@ use Rattle.model.specs.declared.Fate.{Fate}
 
 -- no bit is up, no source is noted and no idle line is open
 abbrev pub wiped : ℕ → Line
-wiped free = record { int_raw = 0; rx_mistimed = Source.None; idle_since = None; line_free_at = free }
+wiped free = record { int_raw = 0; rx_mistimed = None; idle_since = None; line_free_at = free }
 
 abbrev pub bare : {H W : Type 0} → Uart H W → Uart H W
 bare u = with_line_of (wiped (line_of u).line_free_at) u
@@ -125,7 +123,7 @@ module _ {H W : Type 0} (s : Settings) (date : ℕ) where
   unfolding timeout_at after_date
   untimed u c (departure at b) v i t m = absurd t
   untimed u c (timeout at) v i t m =
-      let z : None ≡ At at = sym (ap (after_date s.timeout_time) i) ∙ t.comes in
+      let z : None ≡ Some at = sym (ap (after_date s.timeout_time) i) ∙ t.comes in
       apart (cc)
   untimed u c (landing at b f) v i t m = m
   untimed u c (nothing at) v i t m = m

@@ -1,7 +1,7 @@
 -- With the receiver's clock off the passes raise nothing and note no source, and the idle line closes where its timeout is due:
 -- so passes to an earlier date and then to a later one leave what passes to the later leave, though a timeout and a landing may
 -- change places. Assumes nothing.
-use Rattle.std.specs.Prelude.{◌≡◌, refl, ℕ, ◌≤◌, Bool, true, false, ◌&&◌, List}
+use Rattle.std.specs.Prelude.{◌≡◌, refl, ℕ, ◌≤◌, Bool, true, false, ◌&&◌, List, Some, None}
 use Rattle.std.proofs.Math.Path.{sym, ap, subst}
 use Rattle.std.proofs.Common.{◌∙◌}
 use Rattle.std.proofs.lemmas.Bool.{lt-leb}
@@ -18,8 +18,7 @@ use Rattle.model.proofs.Ends.Through.{Through, ends, goes, through, through-quie
 use Rattle.theorems.specs.TwoSteps.Later.{due-later}
 use Rattle.theorems.specs.TwoSteps.Bare.{bare}
 use Rattle.theorems.specs.TwoSteps.Moves.{passes-bare}
-use Rattle.model.specs.declared.Date.{Date}
-use Rattle.model.specs.declared.Date.TheVariants.{None, At}
+use Rattle.model.specs.Names.{Date}
 use Rattle.model.specs.declared.Line.{Line}
 use Rattle.model.specs.declared.Frame.{Frame}
 use Rattle.model.specs.declared.Settings.{Settings}
@@ -33,7 +32,7 @@ idle_after s date d = choose (due_by date (after_date s.timeout_time d)) None d
 idle-stays : (s : Settings) (date : ℕ) (d : Date) → After date (after_date s.timeout_time d) → d ≡ idle_after s date d
 unfolding idle_after after_date due_by choose
 idle-stays s date None h = refl
-idle-stays s date (At t) h = sym (choose-false None (At t) (lt-leb _ date h))
+idle-stays s date (Some t) h = sym (choose-false None (Some t) (lt-leb _ date h))
 
 idle-twice : (s : Settings) (a b : ℕ) (d : Date) → a ≤ b → idle_after s b (idle_after s a d) ≡ idle_after s b d
 unfolding idle_after due_by after_date choose

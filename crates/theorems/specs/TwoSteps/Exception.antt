@@ -1,5 +1,5 @@
 -- The one case in which an earlier look may tell, and that everywhere else, within the limits, the passes agree. Assumes nothing.
-use Rattle.std.specs.Prelude.{◌≡◌, refl, ℕ, ◌≤◌, Bool}
+use Rattle.std.specs.Prelude.{◌≡◌, refl, ℕ, ◌≤◌, Bool, Some, None}
 use Rattle.std.proofs.Math.Bool.{true, false}
 use Rattle.std.proofs.Math.Option.{some}
 use Rattle.model.specs.State.{OnTheLine, Uart, line_of}
@@ -8,21 +8,20 @@ use Rattle.model.specs.Line.{raise_if}
 use Rattle.model.specs.Limits.{Within}
 use Rattle.theorems.specs.TwoSteps.Later.{passes-later}
 use Rattle.theorems.specs.TwoSteps.ClockOff.{passes-off}
-use Rattle.model.specs.declared.Date.{Date}
-use Rattle.model.specs.declared.Date.TheVariants.{None, At}
+use Rattle.model.specs.Names.{Date}
 
 -- a byte that is not heard is on the line, an idle line is open, and the receiver's clock is on
 abbrev pub Exception : {H W : Type 0} → Uart H W → Type 0
 Exception {H} u =
     (l : OnTheLine H) × (u.receiving ≡ some l) × (l.frame.heard ≡ false)
-    × (since : ℕ) × ((line_of u).idle_since ≡ At since) × ((settings_of u).rx_sclk_en ≡ true)
+    × (since : ℕ) × ((line_of u).idle_since ≡ Some since) × ((settings_of u).rx_sclk_en ≡ true)
 
 module _ {H W : Type 0} (u : Uart H W) (w : Within u) (n : ¬ Exception u) where
   -- with the clock on no idle line is open beside a byte on the line: a heard one closes it
   module _ (on : (settings_of u).rx_sclk_en ≡ true) (l : OnTheLine H) (e : u.receiving ≡ some l) where
     by-idle : l.frame.heard ≡ false → (d : Date) → (line_of u).idle_since ≡ d → (line_of u).idle_since ≡ None
     by-idle h None i = i
-    by-idle h (At t) i = absurd (n (l, e, h, t, i, on))
+    by-idle h (Some t) i = absurd (n (l, e, h, t, i, on))
 
     by-heard : (t : Bool) → l.frame.heard ≡ t → (line_of u).idle_since ≡ None
     by-heard true h = w.idle_line l e h

@@ -1,7 +1,7 @@
 -- With no idle line open beside a byte on the line, a pass that finds something at a date finds the same at any later date. So
 -- with the receiver's clock on, passes to an earlier date and then to a later one leave what passes to the later leave.
 -- Assumes nothing.
-use Rattle.std.specs.Prelude.{◌≡◌, ℕ, ◌≤◌, Bool, true, false}
+use Rattle.std.specs.Prelude.{◌≡◌, ℕ, ◌≤◌, Bool, true, false, Some, None}
 use Rattle.std.proofs.Math.Path.{refl, sym}
 use Rattle.std.proofs.Common.{ap, subst, ◌∙◌}
 use native.Mathlib.Omega.{arith}
@@ -19,8 +19,7 @@ use Rattle.model.proofs.Laws.Choose.{choose-ind, choose-true, choose-false}
 use Rattle.model.proofs.Laws.Cases.{KeptOnLine, pass-ind}
 use Rattle.model.proofs.Ends.Passes.{apart, time_out-closes}
 use Rattle.model.proofs.Ends.Through.{Through, ends, goes, through, passes-are, passes_go}
-use Rattle.model.specs.declared.Date.{Date}
-use Rattle.model.specs.declared.Date.TheVariants.{None, At}
+use Rattle.model.specs.Names.{Date}
 use Rattle.model.specs.declared.Line.{Line}
 use Rattle.model.specs.declared.Settings.{Settings}
 
@@ -29,7 +28,7 @@ use Rattle.model.specs.declared.Settings.{Settings}
 pub due-later : {x y : ℕ} (d : Date) → x ≤ y → due_by x d ≡ true → due_by y d ≡ true
 unfolding due_by
 due-later None le h = h
-due-later {x} {y} (At t) le h = le-leb t y (omega (arith, leb-true t x h))
+due-later {x} {y} (Some t) le h = le-leb t y (omega (arith, leb-true t x h))
 
 abbrev pub Closed : Line → Type 0
 Closed l = l.idle_since ≡ None

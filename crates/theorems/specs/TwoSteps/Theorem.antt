@@ -4,7 +4,7 @@
 -- 3. the whole state is the same, within the limits and outside `Exception`;
 -- 4. in `Exception` it can differ.
 -- Each to the subcycle (`settle_to`) and at cycles, after power-down no later than that (`settle`). Assumes nothing.
-use Rattle.std.specs.Prelude.{◌≡◌, ℕ, ◌+◌, ◌≤◌, ◌++◌}
+use Rattle.std.specs.Prelude.{◌≡◌, ℕ, ◌+◌, ◌≤◌, ◌++◌, Some, None}
 use Rattle.std.proofs.Math.Path.{sym, ap, ap₂, subst}
 use Rattle.std.proofs.Common.{◌∙◌, arith}
 use Rattle.dates.specs.Dates.{subcycles}
@@ -23,8 +23,7 @@ use Rattle.theorems.specs.TwoSteps.Moves.{passes-bare}
 use Rattle.theorems.specs.TwoSteps.Exception.{Exception, passes-agree}
 use Rattle.theorems.specs.TwoSteps.Together.{settled-state, first-events, second-departures, second-events}
 use Rattle.theorems.specs.TwoSteps.Differs.{looked, looked-within, looked-exception, looked-differs}
-use Rattle.model.specs.declared.Date.{Date}
-use Rattle.model.specs.declared.Date.TheVariants.{None, At}
+use Rattle.model.specs.Names.{Date}
 
 -- the queues, what is in flight and sent, the byte on the line with its frame, and when the line is free
 abbrev SameQueues : {H W : Type 0} → Uart H W → Uart H W → Type 0
@@ -89,10 +88,10 @@ module _ {H W : Type 0} (a b : ℕ) (u : Uart H W) (le : a ≤ b) where
 -- ---- at cycles
 
 -- a later cycle settles no earlier
-no-later : (m n : ℕ) (d : Date) → m ≤ n → instant_of (earliest (At (subcycles m)) d) ≤ instant_of (earliest (At (subcycles n)) d)
+no-later : (m n : ℕ) (d : Date) → m ≤ n → instant_of (earliest (Some (subcycles m)) d) ≤ instant_of (earliest (Some (subcycles n)) d)
 unfolding earliest instant_of
 no-later m n None le = omega arith
-no-later m n (At t) le = omega arith
+no-later m n (Some t) le = omega arith
 
 module _ {H W : Type 0} (m n : ℕ) (u : Uart H W) (le : m ≤ n) where
   abbrev date_of : ℕ → ℕ
@@ -105,7 +104,7 @@ module _ {H W : Type 0} (m n : ℕ) (u : Uart H W) (le : m ≤ n) where
   -- a settling does not move the date of power-down
   again : settle n (settle m u).state ≡ settle_to (date_of n) (settle_to (date_of m) u).state
   unfolding settle settling_date
-  again = ap (λ d. settle_to (instant_of (earliest (At (subcycles n)) d)) (settle m u).state) (settle-keeps m u).powered_down_at
+  again = ap (λ d. settle_to (instant_of (earliest (Some (subcycles n)) d)) (settle m u).state) (settle-keeps m u).powered_down_at
 
   pub settle-landings : landings_in ((settle m u).events ++ (settle n (settle m u).state).events) ≡ landings_in (settle n u).events
   unfolding settle
@@ -116,7 +115,7 @@ module _ {H W : Type 0} (m n : ℕ) (u : Uart H W) (le : m ≤ n) where
       ≡ departures (settling_date n u.control) u
   unfolding settle settling_date
   settle-departures =
-      ap (λ d. departures (date_of m) u ++ departures (instant_of (earliest (At (subcycles n)) d)) (settle m u).state)
+      ap (λ d. departures (date_of m) u ++ departures (instant_of (earliest (Some (subcycles n)) d)) (settle m u).state)
       (settle-keeps m u).powered_down_at
       ∙ settle_to-departures (date_of m) (date_of n) u dates
 

@@ -8,8 +8,8 @@ pub returns-in-None : goal.returns-in-None
 unfolding due_by settling_date
 returns-in-None c = λ bytes. sym (ap (due_by _) (sym (c.last_gone-last.ensures bytes) ∙ c.in-None.is))
 
-pub returns-in-At : goal.returns-in-At
+pub returns-in-Some : goal.returns-in-Some
 unfolding due_by settling_date
-returns-in-At c = λ bytes.
+returns-in-Some c = λ bytes.
     ap₂ due_by c.settling_date-date.ensures
-    (sym c.in-At.is ∙ c.last_gone-last.ensures bytes)
+    (sym c.in-Some.is ∙ c.last_gone-last.ensures bytes)

@@ -9,18 +9,18 @@ carry_out-requires c =
     let start = c in
     row-passed c.args.cycle c.args.bytes.now c.requires
     (passes c.tests_at-tests.ensures
-    c.in-Passed.is)
+    c.in-Ok.is)
 
-pub returns-in-Refused : goal.returns-in-Refused
-returns-in-Refused c =
+pub returns-in-Err : goal.returns-in-Err
+returns-in-Err c =
     let start = c in
     row-refused c.args.cycle c.args.bytes.now c.requires
-    (refuses c.tests_at-tests.ensures c.in-Refused.is) c.refuse.ensures
+    (refuses c.tests_at-tests.ensures c.in-Err.is) c.refuse.ensures
 
-pub returns-in-Passed : goal.returns-in-Passed
-returns-in-Passed c =
+pub returns-in-Ok : goal.returns-in-Ok
+returns-in-Ok c =
     let start = c in
     row_carried c.args.cycle c.args.bytes.now c.requires
     (passes c.tests_at-tests.ensures
-    c.in-Passed.is)
+    c.in-Ok.is)
     c.carry_out.ensures

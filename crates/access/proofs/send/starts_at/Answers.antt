@@ -6,6 +6,6 @@ pub returns-in-None : goal.returns-in-None
 unfolding starts_at
 returns-in-None c = rw c.in-None.is
 
-pub returns-in-At : goal.returns-in-At
+pub returns-in-Some : goal.returns-in-Some
 unfolding starts_at
-returns-in-At c = rw c.in-At.is c.later.ensures
+returns-in-Some c = rw c.in-Some.is c.later.ensures

@@ -5,30 +5,30 @@ use Rattle.access.specs.ByPlace.{tests-in-time, write-carried, write-refused}
 use Rattle.access.proofs.write.write.Goals as goal
 
 pub enum_known-tests : goal.enum_known-tests
-enum_known-tests c = c.in-Refused.in-Refused-own.keys1
+enum_known-tests c = c.in-Err.in-Err-own.keys1
 
 pub enum_told-1 : goal.enum_told-1
-enum_told-1 c = c.in-Passed.in-Passed-own.keys2
+enum_told-1 c = c.in-Ok.in-Ok-own.keys2
 
 pub carry_out-requires : goal.carry_out-requires
 carry_out-requires c =
     let start = c in
     let tests =
     passes c.tests_at-tests.ensures
-    c.in-Passed.is in
+    c.in-Ok.is in
     (c.requires, tests-in-time _ c.args.cycle _ _ _ tests)
 
-pub returns-in-Refused : goal.returns-in-Refused
-returns-in-Refused c =
+pub returns-in-Err : goal.returns-in-Err
+returns-in-Err c =
     let start = c in
     let o = c.args in
     write-refused o.cycle o.offset o.value c.requires
     c.place_of-place.ensures
     c.is_fifo-fifo.ensures refl
-    (refuses c.tests_at-tests.ensures c.in-Refused.is) c.refuse.ensures
+    (refuses c.tests_at-tests.ensures c.in-Err.is) c.refuse.ensures
 
-pub returns-in-Passed : goal.returns-in-Passed
-returns-in-Passed c =
+pub returns-in-Ok : goal.returns-in-Ok
+returns-in-Ok c =
     let start = c in
     let o = c.args in
     write-carried o.cycle o.offset o.value c.requires
@@ -36,5 +36,5 @@ returns-in-Passed c =
     c.is_fifo-fifo.ensures
     c.low_byte.ensures
     (passes c.tests_at-tests.ensures
-    c.in-Passed.is)
+    c.in-Ok.is)
     c.carry_out.ensures

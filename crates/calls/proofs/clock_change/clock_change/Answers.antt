@@ -12,31 +12,31 @@ use Rattle.model.proofs.Keeps.Dated.{not-refused}
 use Rattle.calls.proofs.clock_change.clock_change.Goals as goal
 
 pub enum_known-tests : goal.enum_known-tests
-enum_known-tests c = c.in-Refused.in-Refused-own.keys1
+enum_known-tests c = c.in-Err.in-Err-own.keys1
 
 pub enum_told-1 : goal.enum_told-1
-enum_told-1 c = c.in-Passed.in-Passed-own.keys2
+enum_told-1 c = c.in-Ok.in-Ok-own.keys2
 
 pub carry_out-requires : goal.carry_out-requires
 unfolding clocking
 carry_out-requires c =
     let tests =
     in-time _ _ _ (passes c.clock_refusal-tests.ensures
-    c.in-Passed.is) in
+    c.in-Ok.is) in
     (c.requires, tests.0, ltb-false _ _ (not-refused _ _ none tests.1).0)
 
-pub returns-in-Refused : goal.returns-in-Refused
-returns-in-Refused c =
+pub returns-in-Err : goal.returns-in-Err
+returns-in-Err c =
     let start = c in
     let o = c.args in
     done_refused o.cycle (machine o.cycle (Machine.clock_change o.period)) c.requires (clock-tests o.cycle _ o.period)
-    (refuses c.clock_refusal-tests.ensures c.in-Refused.is) c.refuse.ensures
+    (refuses c.clock_refusal-tests.ensures c.in-Err.is) c.refuse.ensures
 
-pub returns-in-Passed : goal.returns-in-Passed
-returns-in-Passed c =
+pub returns-in-Ok : goal.returns-in-Ok
+returns-in-Ok c =
     let start = c in
     let o = c.args in
     done-carried o.cycle (machine o.cycle (Machine.clock_change o.period)) c.requires (clock-tests o.cycle _ o.period)
     (passes c.clock_refusal-tests.ensures
-    c.in-Passed.is)
+    c.in-Ok.is)
     (clock_change-within o.cycle o.period _ c.requires.within) (clock-zero o.cycle _ o.period) c.carry_out.ensures

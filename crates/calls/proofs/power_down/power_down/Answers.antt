@@ -10,21 +10,21 @@ use Rattle.calls.specs.Done.{done_refused, done-unsettled}
 use Rattle.calls.proofs.power_down.power_down.Goals as goal
 
 pub enum_known-tests : goal.enum_known-tests
-enum_known-tests c = c.in-Refused.in-Refused-own.keys1
+enum_known-tests c = c.in-Err.in-Err-own.keys1
 
 pub enum_told-1 : goal.enum_told-1
-enum_told-1 c = c.in-Passed.in-Passed-own.keys2
+enum_told-1 c = c.in-Ok.in-Ok-own.keys2
 
-pub returns-in-Refused : goal.returns-in-Refused
-returns-in-Refused c =
+pub returns-in-Err : goal.returns-in-Err
+returns-in-Err c =
     let start = c in
     let o = c.args in
     done_refused o.cycle (machine o.cycle Machine.power_down) c.requires (power-down-tests o.cycle _)
-    (refuses c.date_refusal-tests.ensures c.in-Refused.is) c.refuse.ensures
+    (refuses c.date_refusal-tests.ensures c.in-Err.is) c.refuse.ensures
 
-pub returns-in-Passed : goal.returns-in-Passed
+pub returns-in-Ok : goal.returns-in-Ok
 unfolding machine dated
-returns-in-Passed c =
+returns-in-Ok c =
     let start = c in
     let o = c.args in
     let down =
@@ -35,5 +35,5 @@ returns-in-Passed c =
     ) at c.done.ensures in
     done-unsettled o.cycle (machine o.cycle Machine.power_down) c.requires (power-down-tests o.cycle _) _ refl
     (passes c.date_refusal-tests.ensures
-    c.in-Passed.is) (power_down-within o.cycle _ c.requires.within)
+    c.in-Ok.is) (power_down-within o.cycle _ c.requires.within)
     (shape_of _ _ _ c.requires.shape) refl down

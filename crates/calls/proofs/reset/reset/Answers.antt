@@ -10,31 +10,31 @@ use Rattle.calls.specs.Done.{done-carried, done_refused, reset-zero}
 use Rattle.calls.proofs.reset.reset.Goals as goal
 
 pub enum_known-tests : goal.enum_known-tests
-enum_known-tests c = c.in-Refused.in-Refused-own.keys1
+enum_known-tests c = c.in-Err.in-Err-own.keys1
 
 pub enum_told-1 : goal.enum_told-1
-enum_told-1 c = c.in-Passed.in-Passed-own.keys2
+enum_told-1 c = c.in-Ok.in-Ok-own.keys2
 
 pub carry_out-requires : goal.carry_out-requires
 unfolding dates_only
 carry_out-requires c = (
   c.requires,
   (in-time _ _ none (passes c.date_refusal-tests.ensures
-      c.in-Passed.is)).0,
+      c.in-Ok.is)).0,
 )
 
-pub returns-in-Refused : goal.returns-in-Refused
-returns-in-Refused c =
+pub returns-in-Err : goal.returns-in-Err
+returns-in-Err c =
     let start = c in
     let o = c.args in
     done_refused o.cycle (machine o.cycle Machine.reset) c.requires (reset-tests o.cycle _)
-    (refuses c.date_refusal-tests.ensures c.in-Refused.is) c.refuse.ensures
+    (refuses c.date_refusal-tests.ensures c.in-Err.is) c.refuse.ensures
 
-pub returns-in-Passed : goal.returns-in-Passed
-returns-in-Passed c =
+pub returns-in-Ok : goal.returns-in-Ok
+returns-in-Ok c =
     let start = c in
     let o = c.args in
     done-carried o.cycle (machine o.cycle Machine.reset) c.requires (reset-tests o.cycle _)
     (passes c.date_refusal-tests.ensures
-    c.in-Passed.is)
+    c.in-Ok.is)
     (reset-within o.cycle _ c.requires.within) (reset-zero o.cycle _) c.carry_out.ensures

@@ -1,6 +1,6 @@
 -- `set_up::set_up` meets its contract. Assumes nothing.
 use mathlib.Core.Path.{ap₂}
-use Rattle.model.specs.declared.SetUp.{SetUp}
+use Rattle.model.specs.Names.{SetUp}
 use Rattle.device.specs.declared.Core.{Core}
 use Rattle.calls.specs.declared.set_up.NewParts.{NewParts}
 use Rattle.calls.proofs.set_up.set_up.Goals as goal

@@ -1,7 +1,8 @@
 -- `Deadline::earliest` meets its contract, by cases on the date. Assumes nothing.
+use Rattle.std.specs.Prelude.{Some}
 use mathlib.Core.Path.{ap, sym, ◌∙◌}
 use Rattle.model.specs.Numbers.{earliest}
-use Rattle.model.specs.declared.Date.{Date}
+use Rattle.model.specs.Names.{Date}
 use Rattle.deadline.specs.declared.Deadline.{Deadline}
 use Rattle.deadline.proofs.Deadline.earliest.Goals as goal
 
@@ -10,10 +11,10 @@ dated d = record { due = d }
 
 pub returns-in-None : goal.returns-in-None
 unfolding earliest
-returns-in-None c = ap (λ d. dated (earliest d (Date.At c.args.at))) (sym c.in-None.is)
+returns-in-None c = ap (λ d. dated (earliest d (Some c.args.at))) (sym c.in-None.is)
 
-pub returns-in-At : goal.returns-in-At
+pub returns-in-Some : goal.returns-in-Some
 unfolding earliest
-returns-in-At c =
-    ap (λ n. dated (Date.At n)) c.earlier.ensures
-    ∙ ap (λ d. dated (earliest d (Date.At c.args.at))) (sym c.in-At.is)
+returns-in-Some c =
+    ap (λ n. dated (Some n)) c.earlier.ensures
+    ∙ ap (λ d. dated (earliest d (Some c.args.at))) (sym c.in-Some.is)

@@ -6,6 +6,6 @@ pub returns-in-None : goal.returns-in-None
 unfolding comes_later
 returns-in-None c = rw c.in-None.is c.starts_later.ensures
 
-pub returns-in-OnTheLine : goal.returns-in-OnTheLine
+pub returns-in-Some : goal.returns-in-Some
 unfolding comes_later
-returns-in-OnTheLine c = rw c.in-OnTheLine.is
+returns-in-Some c = rw c.in-Some.is

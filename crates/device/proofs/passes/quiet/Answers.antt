@@ -6,6 +6,6 @@ pub returns-in-None : goal.returns-in-None
 unfolding quiet
 returns-in-None c = rw c.in-None.is c.comes_later.ensures
 
-pub returns-in-At : goal.returns-in-At
+pub returns-in-Some : goal.returns-in-Some
 unfolding quiet
-returns-in-At c = rw c.in-At.is
+returns-in-Some c = rw c.in-Some.is

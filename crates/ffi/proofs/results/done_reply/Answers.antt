@@ -3,10 +3,10 @@ use mathlib.Core.Path.{ap, sym, ◌∙◌}
 use Rattle.ffi.specs.Replies.{plain_done}
 use Rattle.ffi.proofs.results.done_reply.Goals as goal
 
-pub returns-in-Done : goal.returns-in-Done
+pub returns-in-Ok : goal.returns-in-Ok
 unfolding plain_done
-returns-in-Done c = c.carried_out.ensures ∙ sym (ap plain_done c.in-Done.is)
+returns-in-Ok c = c.carried_out.ensures ∙ sym (ap plain_done c.in-Ok.is)
 
-pub returns-in-Refused : goal.returns-in-Refused
+pub returns-in-Err : goal.returns-in-Err
 unfolding plain_done
-returns-in-Refused c = c.refusal_reply.ensures ∙ sym (ap plain_done c.in-Refused.is)
+returns-in-Err c = c.refusal_reply.ensures ∙ sym (ap plain_done c.in-Err.is)

@@ -11,6 +11,6 @@ pub returns-in-NoValue : goal.returns-in-NoValue
 unfolding plain_read
 returns-in-NoValue c = c.carried_out-in-NoValue.ensures ∙ sym (ap plain_read c.in-NoValue.is)
 
-pub returns-in-Refused : goal.returns-in-Refused
+pub returns-in-Err : goal.returns-in-Err
 unfolding plain_read
-returns-in-Refused c = c.refusal_reply.ensures ∙ sym (ap plain_read c.in-Refused.is)
+returns-in-Err c = c.refusal_reply.ensures ∙ sym (ap plain_read c.in-Err.is)

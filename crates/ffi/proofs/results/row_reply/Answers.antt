@@ -8,10 +8,10 @@ use Rattle.ffi.proofs.results.row_reply.Goals as goal
 abbrev refused : ℕ → PlainRow
 refused n = record { number = n; made = 0; first = 0; second = 0 }
 
-pub returns-in-Made : goal.returns-in-Made
+pub returns-in-Ok : goal.returns-in-Ok
 unfolding plain_row
-returns-in-Made c = sym (ap plain_row c.in-Made.is)
+returns-in-Ok c = sym (ap plain_row c.in-Ok.is)
 
-pub returns-in-Refused : goal.returns-in-Refused
+pub returns-in-Err : goal.returns-in-Err
 unfolding plain_row
-returns-in-Refused c = ap refused c.number_of.ensures ∙ sym (ap plain_row c.in-Refused.is)
+returns-in-Err c = ap refused c.number_of.ensures ∙ sym (ap plain_row c.in-Err.is)

@@ -3,10 +3,10 @@ use mathlib.Core.Path.{ap, sym, ◌∙◌}
 use Rattle.ffi.specs.Replies.{plain_taken}
 use Rattle.ffi.proofs.results.taken_reply.Goals as goal
 
-pub returns-in-Bytes : goal.returns-in-Bytes
+pub returns-in-Ok : goal.returns-in-Ok
 unfolding plain_taken
-returns-in-Bytes c = c.carried_out.ensures ∙ sym (ap plain_taken c.in-Bytes.is)
+returns-in-Ok c = c.carried_out.ensures ∙ sym (ap plain_taken c.in-Ok.is)
 
-pub returns-in-Refused : goal.returns-in-Refused
+pub returns-in-Err : goal.returns-in-Err
 unfolding plain_taken
-returns-in-Refused c = c.refusal_reply.ensures ∙ sym (ap plain_taken c.in-Refused.is)
+returns-in-Err c = c.refusal_reply.ensures ∙ sym (ap plain_taken c.in-Err.is)

@@ -11,6 +11,6 @@ pub returns-in-NotAccepted : goal.returns-in-NotAccepted
 unfolding plain_write
 returns-in-NotAccepted c = c.carried_out-in-NotAccepted.ensures ∙ sym (ap plain_write c.in-NotAccepted.is)
 
-pub returns-in-Refused : goal.returns-in-Refused
+pub returns-in-Err : goal.returns-in-Err
 unfolding plain_write
-returns-in-Refused c = c.refusal_reply.ensures ∙ sym (ap plain_write c.in-Refused.is)
+returns-in-Err c = c.refusal_reply.ensures ∙ sym (ap plain_write c.in-Err.is)

@@ -10,10 +10,10 @@ pub last_date-requires : goal.last_date-requires
 last_date-requires c = let k = c.requires.shape in (k.runs, k.run_date_slots)
 
 pub enum_known-tests : goal.enum_known-tests
-enum_known-tests c = c.in-Refused.in-Refused-own.keys1
+enum_known-tests c = c.in-Err.in-Err-own.keys1
 
 pub enum_told-1 : goal.enum_told-1
-enum_told-1 c = c.in-Passed.in-Passed-own.keys2
+enum_told-1 c = c.in-Ok.in-Ok-own.keys2
 
 pub carry_out-requires : goal.carry_out-requires
 carry_out-requires c =
@@ -23,20 +23,20 @@ carry_out-requires c =
     (c.last_date.ensures o.run_len.now)
     c.host_date-date.ensures
     (passes c.receive_refusal-tests.ensures
-    c.in-Passed.is)
+    c.in-Ok.is)
 
-pub returns-in-Refused : goal.returns-in-Refused
-returns-in-Refused c =
+pub returns-in-Err : goal.returns-in-Err
+returns-in-Err c =
     let start = c in
     let o = c.args in
     done_refused o.cycle (receive o.cycle o.at o.bytes.now) c.requires
     (receive-checks o.cycle o.at o.bytes.now c.requires
     (c.last_date.ensures o.run_len.now)
     c.host_date-date.ensures)
-    (refuses c.receive_refusal-tests.ensures c.in-Refused.is) c.refuse.ensures
+    (refuses c.receive_refusal-tests.ensures c.in-Err.is) c.refuse.ensures
 
-pub returns-in-Passed : goal.returns-in-Passed
-returns-in-Passed c =
+pub returns-in-Ok : goal.returns-in-Ok
+returns-in-Ok c =
     let start = c in
     let o = c.args in
     done-carried o.cycle (receive o.cycle o.at o.bytes.now) c.requires
@@ -44,6 +44,6 @@ returns-in-Passed c =
     (c.last_date.ensures o.run_len.now)
     c.host_date-date.ensures)
     (passes c.receive_refusal-tests.ensures
-    c.in-Passed.is)
+    c.in-Ok.is)
     (receive-within o.cycle o.at o.bytes.now _ c.requires.within)
     (receive-zero o.cycle _ o.at o.bytes.now) c.carry_out.ensures

@@ -11,33 +11,33 @@ use Rattle.host.specs.TakesTx.{take-tx-zero}
 use Rattle.host.proofs.take_tx.take_tx.Goals as goal
 
 pub enum_known-tests : goal.enum_known-tests
-enum_known-tests c = c.in-Refused.in-Refused-own.keys1
+enum_known-tests c = c.in-Err.in-Err-own.keys1
 
 pub enum_told-1 : goal.enum_told-1
-enum_told-1 c = c.in-Passed.in-Passed-own.keys2
+enum_told-1 c = c.in-Ok.in-Ok-own.keys2
 
 pub carry_out-requires : goal.carry_out-requires
 unfolding taking_tx taking_written
 carry_out-requires c =
     let tests =
     in-time _ _ _ (passes c.take_refusal-tests.ensures
-    c.in-Passed.is) in (
+    c.in-Ok.is) in (
       c.requires,
       tests.0,
       ltb-false _ _ (not-refused _ _ none tests.1).0,
     )
 
-pub returns-in-Refused : goal.returns-in-Refused
-returns-in-Refused c =
+pub returns-in-Err : goal.returns-in-Err
+returns-in-Err c =
     let o = c.args in
     take-refused o.out.now _ _ _ (take-tests o.cycle _ o.out.now)
-    (refuses c.take_refusal-tests.ensures c.in-Refused.is)
+    (refuses c.take_refusal-tests.ensures c.in-Err.is)
     c.requires c.refuse.ensures
 
-pub returns-in-Passed : goal.returns-in-Passed
-returns-in-Passed c =
+pub returns-in-Ok : goal.returns-in-Ok
+returns-in-Ok c =
     let o = c.args in
     take-carried o.out.now _ _ _ (take-tests o.cycle _ o.out.now)
     (passes c.take_refusal-tests.ensures
-    c.in-Passed.is)
+    c.in-Ok.is)
     (take_tx-within o.cycle o.out.now _ c.requires.within) (take-tx-zero o.cycle o.out.now _) c.carry_out.ensures

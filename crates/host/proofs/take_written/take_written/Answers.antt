@@ -14,10 +14,10 @@ use Rattle.host.specs.TakesWritten.{sent-few, took-written}
 use Rattle.host.proofs.take_written.take_written.Goals as goal
 
 pub enum_known-tests : goal.enum_known-tests
-enum_known-tests c = c.in-Refused.in-Refused-own.keys1
+enum_known-tests c = c.in-Err.in-Err-own.keys1
 
 pub enum_told-1 : goal.enum_told-1
-enum_told-1 c = c.in-Passed.in-Passed-own.keys2
+enum_told-1 c = c.in-Ok.in-Ok-own.keys2
 
 pub fill-count-requires : goal.fill-count-requires
 unfolding taking_written
@@ -29,25 +29,25 @@ fill-count-requires c =
       ok.shape.tx_slots,
       sent-few _ _ ok,
       ltb-false _ _ (not-refused _ _ none
-          (passes c.written_refusal-tests.ensures c.in-Passed.is)).0,
+          (passes c.written_refusal-tests.ensures c.in-Ok.is)).0,
     )
 
-pub returns-in-Refused : goal.returns-in-Refused
-returns-in-Refused c =
+pub returns-in-Err : goal.returns-in-Err
+returns-in-Err c =
     let start = c in
     let o = c.args in
     take-refused o.out.now _ _ _ (written-tests o.out.now _)
-    (refuses c.written_refusal-tests.ensures c.in-Refused.is) c.requires
+    (refuses c.written_refusal-tests.ensures c.in-Err.is) c.requires
     c.refuse.ensures
 
-pub returns-in-Passed : goal.returns-in-Passed
+pub returns-in-Ok : goal.returns-in-Ok
 unfolding carried take_written quiet filled taken_number
-returns-in-Passed c =
+returns-in-Ok c =
     let start = c in
     let o = c.args in
-    rw (c.undated.ensures, c.new-rest.ensures, c.new-rest-in-Passed.ensures)
+    rw (c.undated.ensures, c.new-rest.ensures, c.new-rest-in-Ok.ensures)
     (take-carried o.out.now _ _ _ (written-tests o.out.now _)
     (passes c.written_refusal-tests.ensures
-    c.in-Passed.is)
+    c.in-Ok.is)
     (take_written-within o.out.now _ c.requires.within) refl
     (took-written o.out.now o.core _ c.requires.shape c.fill-count.ensures))

@@ -6,12 +6,12 @@ pub enum_told-1 : goal.enum_told-1
 enum_told-1 c = c.in-None.in-None-own.keys1
 
 pub enum_known-at : goal.enum_known-at
-enum_known-at c = c.in-At.in-At-own.keys2
+enum_known-at c = c.in-Some.in-Some-own.keys2
 
 pub returns-in-None : goal.returns-in-None
 unfolding due_by
 returns-in-None c = rw c.in-None.is
 
-pub returns-in-At : goal.returns-in-At
+pub returns-in-Some : goal.returns-in-Some
 unfolding due_by
-returns-in-At c = rw c.in-At.is
+returns-in-Some c = rw c.in-Some.is

@@ -6,13 +6,13 @@ pub enum_told-1 : goal.enum_told-1
 enum_told-1 c = c.in-None.in-None-own.keys1
 
 pub enum_known-powered_down_at : goal.enum_known-powered_down_at
-enum_known-powered_down_at c = c.in-At.in-At-own.keys2
+enum_known-powered_down_at c = c.in-Some.in-Some-own.keys2
 
 pub returns-in-None : goal.returns-in-None
 unfolding earliest instant_of
 returns-in-None c = rw c.in-None.is c.subcycles-date.ensures
 
-pub returns-in-At : goal.returns-in-At
+pub returns-in-Some : goal.returns-in-Some
 unfolding earliest instant_of
-returns-in-At c =
-    rw (c.in-At.is, ← c.subcycles-date.ensures) c.earlier.ensures
+returns-in-Some c =
+    rw (c.in-Some.is, ← c.subcycles-date.ensures) c.earlier.ensures

@@ -6,6 +6,6 @@ pub returns-in-None : goal.returns-in-None
 unfolding begun
 returns-in-None c = rw c.in-None.is c.line_free.ensures
 
-pub returns-in-OnTheLine : goal.returns-in-OnTheLine
+pub returns-in-Some : goal.returns-in-Some
 unfolding begun
-returns-in-OnTheLine c = rw c.in-OnTheLine.is c.keep.ensures
+returns-in-Some c = rw c.in-Some.is c.keep.ensures

@@ -6,6 +6,6 @@ pub returns-in-None : goal.returns-in-None
 unfolding line_free
 returns-in-None c = rw c.in-None.is c.keep.ensures
 
-pub returns-in-At : goal.returns-in-At
+pub returns-in-Some : goal.returns-in-Some
 unfolding line_free
-returns-in-At c = rw (c.in-At.is, ← c.later.ensures) c.start.ensures
+returns-in-Some c = rw (c.in-Some.is, ← c.later.ensures) c.start.ensures

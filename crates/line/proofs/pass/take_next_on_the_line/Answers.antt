@@ -10,11 +10,11 @@ returns-in-None c =
     c.args.receiving c.args.line
     c.begin-b.ensures c.in-None.is c.idle.ensures
 
-pub returns-in-OnTheLine : goal.returns-in-OnTheLine
+pub returns-in-Some : goal.returns-in-Some
 unfolding move_on
-returns-in-OnTheLine c =
+returns-in-Some c =
     moved c.args.settings
     c.args.date c.args.held
     c.args.waiting c.args.receiving
     c.args.line c.begin-b.ensures
-    c.in-OnTheLine.is c.in_frame.ensures
+    c.in-Some.is c.in_frame.ensures

@@ -7,6 +7,6 @@ pub returns-in-None : goal.returns-in-None
 unfolding on_the_line
 returns-in-None c = search rules
 
-pub returns-in-OnTheLine : goal.returns-in-OnTheLine
+pub returns-in-Some : goal.returns-in-Some
 unfolding on_the_line
-returns-in-OnTheLine c = search rules
+returns-in-Some c = search rules

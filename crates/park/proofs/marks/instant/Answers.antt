@@ -7,6 +7,6 @@ pub returns-in-None : goal.returns-in-None
 unfolding instant_of
 returns-in-None c = search rules
 
-pub returns-in-At : goal.returns-in-At
+pub returns-in-Some : goal.returns-in-Some
 unfolding instant_of
-returns-in-At c = search rules
+returns-in-Some c = search rules

@@ -8,13 +8,13 @@ use Rattle.park.proofs.rings.put_on_the_line.Goals as goal
 
 pub bounds-out-at : goal.bounds-out-at
 bounds-out-at c =
-    let one : line_count c.args.receiving ≡ 1 = ap line_count c.in-OnTheLine.is in
+    let one : line_count c.args.receiving ≡ 1 = ap line_count c.in-Some.is in
     omega (arith, one, c.requires)
 
 pub returns-in-None : goal.returns-in-None
 unfolding on_the_line
 returns-in-None c = rw c.in-None.is (put-nothing _ _)
 
-pub returns-in-OnTheLine : goal.returns-in-OnTheLine
+pub returns-in-Some : goal.returns-in-Some
 unfolding on_the_line
-returns-in-OnTheLine c = rw c.in-OnTheLine.is (put_one _ _ _)
+returns-in-Some c = rw c.in-Some.is (put_one _ _ _)

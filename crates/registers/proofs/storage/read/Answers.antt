@@ -1,9 +1,9 @@
 -- `storage::read` meets its contract, place by place. Assumes nothing.
+use Rattle.std.specs.Prelude.{None, Ok}
 use mathlib.Core.Path.{◌≡◌, refl}
 use mathlib.Core.List.{[], ◌∷◌}
 use Rattle.model.specs.Replies.{as_read}
 use Rattle.model.specs.Map.{value_of}
-use Rattle.model.specs.declared.Read.{Read}
 use Rattle.registers.specs.Places.{register_at}
 use Rattle.registers.specs.Storage.{held, held_at, loaded}
 use Rattle.registers.proofs.Tags.{place-keys}
@@ -48,5 +48,5 @@ returns-in-MemConf c = rw c.in-MemConf.is
 pub returns-in_default : goal.returns-in_default
 unfolding as_read loaded held register_at value_of
 returns-in_default c =
-    place-keys (λ p. Read.NoValue ≡ as_read (loaded c.args.words (held_at p))) 0 (1 ∷ 2 ∷ 4 ∷ 6 ∷ 7 ∷ 15 ∷ 16 ∷ [])
+    place-keys (λ p. (Ok None) ≡ as_read (loaded c.args.words (held_at p))) 0 (1 ∷ 2 ∷ 4 ∷ 6 ∷ 7 ∷ 15 ∷ 16 ∷ [])
     c.args.place (refl, (refl, (refl, (refl, (refl, (refl, (refl, (refl, tt)))))))) c.in_default.in_default-own.keys10

@@ -1,4 +1,6 @@
 -- `notices::source_notices` meets its contract, by cases on the source. Assumes nothing.
+use Rattle.std.specs.Prelude.{Some}
+use Rattle.model.specs.declared.Unmodelled.{Unmodelled}
 use mathlib.Core.Path.{sym, ap, ◌∙◌}
 use mathlib.Core.List.{[], ◌∷◌}
 use Rattle.model.specs.Registers.{source_notes}
@@ -12,9 +14,9 @@ returns-in-None c = λ notice e f. c.none.ensures ∙ ap (λ s. noted (source_no
 pub returns-in-Sel0 : goal.returns-in-Sel0
 unfolding source_notes
 returns-in-Sel0 c = λ notice e f.
-    c.one.ensures ∙ ap (λ n. noted (n ∷ [])) e ∙ ap (λ s. noted (source_notes notice s)) (sym c.in-Sel0.is)
+    rw (c.in-Some.is, c.in-Sel0.is) (c.one.ensures ∙ ap (λ n. noted (n ∷ [])) e)
 
 pub returns-in-Sel2 : goal.returns-in-Sel2
 unfolding source_notes
 returns-in-Sel2 c = λ notice e f.
-    c.one-in-Sel2.ensures ∙ ap (λ n. noted (n ∷ [])) f ∙ ap (λ s. noted (source_notes notice s)) (sym c.in-Sel2.is)
+    rw (c.in-Some.is, c.in-Sel2.is) (c.one-in-Sel2.ensures ∙ ap (λ n. noted (n ∷ [])) f)

@@ -13,21 +13,21 @@ pub put_set_up-at-requires : goal.put_set_up-at-requires
 put_set_up-at-requires c =
     record { fits = omega (arith, c.requires.wide, set-up-short c.new-new.result.reply) }
 
-pub returns-in-Ready : goal.returns-in-Ready
-returns-in-Ready c =
+pub returns-in-Ok : goal.returns-in-Ok
+returns-in-Ok c =
     let far = c in
     let d = stands_for c.args.session in
     gives_as (ap₂ (λ (o : List ℕ) (w : List ℕ). sets_up o w d) c.sixteen.ensures c.sixteen-2.ensures)
     (set-up-ready c.new-new.ensures
-    c.put_set_up-at.ensures d c.in-Ready.is
+    c.put_set_up-at.ensures d c.in-Ok.is
     c.in_use.ensures)
 
-pub returns-in-Refused : goal.returns-in-Refused
-returns-in-Refused c =
+pub returns-in-Err : goal.returns-in-Err
+returns-in-Err c =
     let far = c in
     let d = stands_for c.args.session in
     gives_as (ap₂ (λ (o : List ℕ) (w : List ℕ). sets_up o w d) c.sixteen.ensures c.sixteen-2.ensures)
     (set-up-refused c.new-new.ensures
     c.put_set_up-at.ensures c.args.session _
-    c.in-Refused.is c.requires.good
+    c.in-Err.is c.requires.good
     c.with_output.ensures)

@@ -15,7 +15,7 @@ use Rattle.session.proofs.take.after_written.Goals as goal
 pub put_refusal-requires : goal.put_refusal-requires
 put_refusal-requires c =
     let far = c in
-    record { fits = omega (arith, c.requires.wide, refusal-short c.in-Refused.refusal) }
+    record { fits = omega (arith, c.requires.wide, refusal-short c.in-Err.refusal) }
 
 pub put_written-requires : goal.put_written-requires
 put_written-requires c =
@@ -31,21 +31,21 @@ put_written-requires c =
       );
     }
 
-pub returns-in-Refused : goal.returns-in-Refused
-returns-in-Refused c =
+pub returns-in-Err : goal.returns-in-Err
+returns-in-Err c =
     let far = c in
     used (put_of (written_line c.args.lent.now)
-    c.in-Refused.is c.put_refusal.ensures)
+    c.in-Err.is c.put_refusal.ensures)
     c.in_use.ensures
 
-pub returns-in-Bytes : goal.returns-in-Bytes
-returns-in-Bytes c =
+pub returns-in-Ok : goal.returns-in-Ok
+returns-in-Ok c =
     let far = c in
     let a = c.args in
     let n = c.within-n.result in
     let end = ascii "\n" in
-    used (put_of (written_line a.lent.now) c.in-Bytes.is
+    used (put_of (written_line a.lent.now) c.in-Ok.is
     (put_of (hand_out_of end a.lent.now) (sym c.within-n.ensures.value)
     (put_of (λ (kept : Bool). hand_out_text (take n a.lent.now) kept ++ end)
     (sym c.same_marks-kept.ensures) c.put_written.ensures)))
-    c.in_use-in-Bytes.ensures
+    c.in_use-in-Ok.ensures
