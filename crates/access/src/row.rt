@@ -70,8 +70,7 @@ fn first_times(source: Source, sent: usize, dropped: usize) -> u64
     let told = told(source, sent);
     match told {
         None => dropped as u64,
-        Some(Unmodelled::Sel0) => sent as u64,
-        Some(Unmodelled::Sel2) => sent as u64,
+        Some(_) => sent as u64,
     }
 }
 
@@ -82,8 +81,7 @@ fn second_times(source: Source, sent: usize, dropped: usize) -> u64
     let told = told(source, sent);
     match told {
         None => 0,
-        Some(Unmodelled::Sel0) => dropped as u64,
-        Some(Unmodelled::Sel2) => dropped as u64,
+        Some(_) => dropped as u64,
     }
 }
 

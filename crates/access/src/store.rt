@@ -1,5 +1,5 @@
 // What a write at a place other than FIFO does once the UART is settled.
-ghost use Rattle.std.specs.Prelude.{◌≡◌, Ok};
+ghost use Rattle.std.specs.Prelude.{◌≡◌, Ok, true, false};
 ghost use Rattle.model.specs.Numbers.{choose};
 ghost use Rattle.model.specs.Registers.{write_register};
 ghost use Rattle.model.specs.Names.{Write};
