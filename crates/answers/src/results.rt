@@ -26,15 +26,17 @@ pub fn put_read(out: &mut [u8], at: usize, reply: Read, report: Report) -> usize
 {
     match reply {
         Err(refusal) => put_refusal(out, at, refusal),
-        Ok(Some(value)) => {
-            let named = put(out, at, b"0 value=");
-            let result = put_word(out, named, value);
-            put_report(out, result, report)
-        }
-        Ok(None) => {
-            let result = put(out, at, b"0 value=none");
-            put_report(out, result, report)
-        }
+        Ok(read) => match read {
+            Some(value) => {
+                let named = put(out, at, b"0 value=");
+                let result = put_word(out, named, value);
+                put_report(out, result, report)
+            }
+            None => {
+                let result = put(out, at, b"0 value=none");
+                put_report(out, result, report)
+            }
+        },
     }
 }
 
@@ -44,13 +46,14 @@ pub fn put_write(out: &mut [u8], at: usize, reply: Write, report: Report) -> usi
 {
     match reply {
         Err(refusal) => put_refusal(out, at, refusal),
-        Ok(true) => {
-            let result = put(out, at, b"0 accepted=1");
-            put_report(out, result, report)
-        }
-        Ok(false) => {
-            let result = put(out, at, b"0 accepted=0");
-            put_report(out, result, report)
+        Ok(accepted) => {
+            if accepted {
+                let result = put(out, at, b"0 accepted=1");
+                put_report(out, result, report)
+            } else {
+                let result = put(out, at, b"0 accepted=0");
+                put_report(out, result, report)
+            }
         }
     }
 }

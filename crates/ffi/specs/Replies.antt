@@ -18,23 +18,21 @@ refused_reply r = record { number = number r; holds = false; value = 0 }
 abbrev pub carried_out : Bool → ℕ → PlainReply
 carried_out holds value = record { number = 0; holds = holds; value = value }
 
-unfoldable pub plain_set_up : SetUp → PlainReply
-plain_set_up (Ok _) = carried_out true 0
-plain_set_up (Err r) = refused_reply r
-
 unfoldable pub plain_read : Read → PlainReply
 plain_read (Ok (Some n)) = carried_out true n
 plain_read (Ok None) = carried_out false 0
 plain_read (Err r) = refused_reply r
 
 unfoldable pub plain_write : Write → PlainReply
-plain_write (Ok true) = carried_out true 0
-plain_write (Ok false) = carried_out false 0
+plain_write (Ok accepted) = carried_out accepted 0
 plain_write (Err r) = refused_reply r
 
 unfoldable pub plain_done : Done → PlainReply
 plain_done (Ok _) = carried_out true 0
 plain_done (Err r) = refused_reply r
+
+abbrev pub plain_set_up : SetUp → PlainReply
+plain_set_up = plain_done
 
 unfoldable pub plain_taken : Taken → PlainReply
 plain_taken (Ok n) = carried_out true n

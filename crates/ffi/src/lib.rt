@@ -12,7 +12,7 @@ ghost use Rattle.ffi.specs.Plain.{receiving_of, line_of, control_of, core_of, pl
 
 use device::Core;
 use line::Receiving;
-use model::{Control, Date, Frame, Line, RegisterMap, Source, Words};
+use model::{Control, Date, Frame, Line, RegisterMap, Source, Unmodelled, Words};
 use queue::Cursor;
 
 // A date, or none: `at` is 0 while `set` is false.

@@ -71,18 +71,17 @@ fn carried_out(holds: bool, value: u64) -> PlainReply
 pub fn set_up_reply(reply: SetUp) -> PlainReply
     ensures { result ≡ plain_set_up reply }
 {
-    match reply {
-        Ok(()) => carried_out(true, 0),
-        Err(refusal) => refusal_reply(refusal),
-    }
+    done_reply(reply)
 }
 
 pub fn read_reply(reply: Read) -> PlainReply
     ensures { result ≡ plain_read reply }
 {
     match reply {
-        Ok(Some(value)) => carried_out(true, value as u64),
-        Ok(None) => carried_out(false, 0),
+        Ok(read) => match read {
+            Some(value) => carried_out(true, value as u64),
+            None => carried_out(false, 0),
+        },
         Err(refusal) => refusal_reply(refusal),
     }
 }
@@ -91,8 +90,7 @@ pub fn write_reply(reply: Write) -> PlainReply
     ensures { result ≡ plain_write reply }
 {
     match reply {
-        Ok(true) => carried_out(true, 0),
-        Ok(false) => carried_out(false, 0),
+        Ok(accepted) => carried_out(accepted, 0),
         Err(refusal) => refusal_reply(refusal),
     }
 }

@@ -3,13 +3,13 @@ use mathlib.Core.Path.{ap, sym, ◌∙◌}
 use Rattle.ffi.specs.Replies.{plain_read}
 use Rattle.ffi.proofs.results.read_reply.Goals as goal
 
-pub returns-in-Value : goal.returns-in-Value
+pub returns-in-Some : goal.returns-in-Some
 unfolding plain_read
-returns-in-Value c = c.carried_out.ensures ∙ sym (ap plain_read c.in-Value.is)
+returns-in-Some c = rw (c.in-Ok.is, c.in-Some.is) c.carried_out.ensures
 
-pub returns-in-NoValue : goal.returns-in-NoValue
+pub returns-in-None : goal.returns-in-None
 unfolding plain_read
-returns-in-NoValue c = c.carried_out-in-NoValue.ensures ∙ sym (ap plain_read c.in-NoValue.is)
+returns-in-None c = rw (c.in-Ok.is, c.in-None.is) c.carried_out-in-None.ensures
 
 pub returns-in-Err : goal.returns-in-Err
 unfolding plain_read
