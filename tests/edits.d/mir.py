@@ -1,8 +1,8 @@
 """Runs a function as rattle lowers it, to find an input at which two bodies of it do not do the same.
 
 Numbers, arrays, structs, enums and references, as a built library's mir.json holds them (`library`) and as rattle check --generated prints
-them (`printed`). A function that takes types, numbers and impls is run at those that a call gives it. std's and core's functions are run
-as their own libraries hold them. A run that goes out of what Rattle allows, a sum that wraps, an index past the end, ends there: of such an
+them (`printed`). A function that takes types, numbers and impls is run at those that a call gives it. The kit's functions are run as
+their own libraries hold them. A run that goes out of what Rattle allows, a sum that wraps, an index past the end, ends there: of such an
 input nothing is said. What a function requires is not read. What the kit's functions do with bytes of another type, floats and the like, is
 not run, nor is a function that is called at no known types: Generic.
 """
@@ -15,7 +15,7 @@ from glob import glob
 
 SEED, TRIES, STEPS, ALL_STEPS = 20, 20_000, 20_000, 12_000_000
 UNRUN, USES = 400, 4  # tries that are not run before a function is given up, and the types at which it is tried
-KIT = ('core', 'std')  # the libraries of the kit whose functions are run
+KIT = ('core', 'std_io', 'std')  # the libraries of the kit whose functions are run
 
 
 class Stuck(Exception):
@@ -228,7 +228,7 @@ class Held(Function):
 
 # ---- the kit's libraries
 
-TAILS = {}  # the functions of core, by the last two words of the names at which std hands them on
+TAILS = {}  # the functions of core and std_io, by the last two words of the names at which std hands them on
 
 
 def tail(name):
@@ -237,9 +237,9 @@ def tail(name):
 
 @cache
 def kit(folder):
-    """The functions of core and std, in the folder of the kit's libraries."""
+    """The functions of these libraries, in their folder."""
     found = {name: function for of in KIT for name, function in library(f'{folder}/{of}.rlib/toolchain/mir.json').items()}
-    names = [name for name in found if name.split('::')[0] == 'core']
+    names = [name for name in found if name.split('::')[0] != 'std']
     count = Counter(map(tail, names))
     TAILS.update({tail(name): name for name in names if count[tail(name)] == 1})
     impls = {}  # the impls of core, by what std calls them
