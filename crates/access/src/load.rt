@@ -83,12 +83,6 @@ fn word_at(core: Core, place: Place) -> Read
     }
 }
 
-fn wide(x: u8) -> u32
-    ensures { result ≡ x }
-{
-    x as u32
-}
-
 // uart.rs's pop: the oldest byte received; from an empty FIFO 0, with a notice.
 // ASSUMPTION: a read of an empty receive FIFO gives 0 and changes nothing. Only firmware that does not look at RXFIFO_CNT makes
 // it; a chip settles it.
@@ -98,7 +92,7 @@ fn pop(mut core: Core, rx: &[u8; 128], notices: Notices) -> PlaceRead
 {
     if 0 < core.rx.count {
         let first = core.rx.start;
-        let byte = wide(rx[first]);
+        let byte = u32::from(rx[first]);
         let rest = core.rx.popped(128);
         core.rx = rest;
         PlaceRead {

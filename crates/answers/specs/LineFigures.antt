@@ -1,18 +1,16 @@
 -- The answer line of `figures`. Assumes nothing.
-use Rattle.std.specs.Prelude.{List, ◌++◌, ℕ, ◌≤◌, length}
+use Rattle.std.specs.Prelude.{Option, Some, None, Ok, Err, List, ◌++◌, ℕ, ◌≤◌, length}
 use Rattle.std.proofs.Common.{arith, length-append}
 use Rattle.text.specs.Ascii.{ascii}
 use Rattle.text.specs.Decimal.{decimal}
-use Rattle.figures.specs.Figures.{number}
-use Rattle.figures.specs.declared.report.Place.{Place}
+use Rattle.figures.specs.Figures.{LineFigures, number}
 use Rattle.figures.specs.declared.report.Figures.{Figures}
-use Rattle.figures.specs.declared.report.LineFigures.{LineFigures}
 use Rattle.answers.specs.Lengths.{decimal-short}
 
 -- the place of the frame before the longest quiet stretch, or `-`
-abbrev pub place_text : Place → List ℕ
-place_text Place.None = ascii " at=-"
-place_text (Place.At place) = ascii " at=" ++ decimal place
+abbrev pub place_text : Option ℕ → List ℕ
+place_text None = ascii " at=-"
+place_text (Some place) = ascii " at=" ++ decimal place
 
 abbrev pub stretch_text : Figures → List ℕ
 stretch_text f =
@@ -21,19 +19,19 @@ stretch_text f =
 
 -- a refusal is its number alone
 abbrev pub figures_text : LineFigures → List ℕ
-figures_text (LineFigures.Figures f) =
+figures_text (Ok f) =
     stretch_text f ++ (ascii " mean=" ++ decimal f.mean) ++ (ascii " remainder=" ++ decimal f.remainder) ++ ascii "\n"
-figures_text LineFigures.Refused = decimal (number LineFigures.Refused) ++ ascii "\n"
+figures_text (Err e) = decimal (number (Err e)) ++ ascii "\n"
 
 -- ---- laws
 
 -- however large the numbers, it is short
-place_short : (place : Place) → length (place_text place) ≤ 24
-place_short Place.None = omega arith
-place_short (Place.At place) = simp length-append (omega (arith, decimal-short place))
+place_short : (place : Option ℕ) → length (place_text place) ≤ 24
+place_short None = omega arith
+place_short (Some place) = simp length-append (omega (arith, decimal-short place))
 
 pub figures-short : (answer : LineFigures) → length (figures_text answer) ≤ 1024
-figures-short (LineFigures.Figures f) =
+figures-short (Ok f) =
     simp length-append (omega (
       arith,
       decimal-short f.busy,
@@ -44,4 +42,4 @@ figures-short (LineFigures.Figures f) =
       decimal-short f.mean,
       decimal-short f.remainder,
     ))
-figures-short LineFigures.Refused = simp length-append (omega (arith, decimal-short (number LineFigures.Refused)))
+figures-short (Err e) = simp length-append (omega (arith, decimal-short (number (Err e))))

@@ -4,15 +4,15 @@ ghost use Rattle.text.specs.Chains.{Room, Puts};
 ghost use Rattle.answers.specs.LineFigures.{place_text, stretch_text, figures_text};
 
 use crate::reports::put_field;
-use figures::report::{Figures, LineFigures, Place};
+use figures::report::{Figures, UnfitFrames};
 use text::output::put;
 
-fn put_place(out: &mut [u8], at: usize, place: Place) -> usize
+fn put_place(out: &mut [u8], at: usize, place: Option<usize>) -> usize
     ensures { Puts (place_text place) out.old at out.new result }
 {
     match place {
-        Place::None => put(out, at, b" at=-"),
-        Place::At(frame) => put_field(out, at, b" at=", frame as u64),
+        None => put(out, at, b" at=-"),
+        Some(frame) => put_field(out, at, b" at=", frame as u64),
     }
 }
 
@@ -24,17 +24,16 @@ fn put_stretch(out: &mut [u8], at: usize, figures: Figures) -> usize
     let shortest = put_field(out, busy, b" shortest=", figures.shortest);
     let longest = put_field(out, shortest, b" longest=", figures.longest);
     let quiet = put_field(out, longest, b" quiet=", figures.quiet);
-    let place = figures.at;
-    put_place(out, quiet, place)
+    put_place(out, quiet, figures.at)
 }
 
-pub fn put_figures(out: &mut [u8], at: usize, answer: LineFigures) -> usize
+pub fn put_figures(out: &mut [u8], at: usize, answer: Result<Figures, UnfitFrames>) -> usize
     requires { Room (figures_text answer) out.old at }
     ensures { Put (figures_text answer) out.old at out.new result }
 {
     match answer {
-        LineFigures::Refused => put(out, at, b"9\n"),
-        LineFigures::Figures(figures) => {
+        Err(UnfitFrames) => put(out, at, b"9\n"),
+        Ok(figures) => {
             let stretch = put_stretch(out, at, figures);
             let mean = put_field(out, stretch, b" mean=", figures.mean);
             let remainder = put_field(out, mean, b" remainder=", figures.remainder);

@@ -1,5 +1,5 @@
 -- A line that is a call or a row, as what it asks for, and the one text of it. Assumes nothing.
-use Rattle.std.specs.Prelude.{ℕ, Bool, true, false, List, [], ◌∷◌, ◌++◌, map, ltb, length, get_or, take, drop, replicate}
+use Rattle.std.specs.Prelude.{ℕ, Bool, true, false, Ok, Err, List, [], ◌∷◌, ◌++◌, map, ltb, length, get_or, take, drop, replicate}
 use Rattle.text.specs.Decimal.{decimal}
 use Rattle.text.specs.HexText.{hex_text}
 use Rattle.trace.specs.Low.{low_of}
@@ -9,8 +9,7 @@ use Rattle.trace.specs.declared.names.Name.TheVariants.{Setup, Read, Write, Writ
 use Rattle.trace.specs.declared.names.Name.TheVariants.{TakeTx, TakeWritten, HasLeft, HostPending, Figures}
 use Rattle.model.specs.Call.{Machine, Dated, Undated, Call, Request, Asked, Ask}
 use Rattle.trace.specs.Pairs.{firsts_in, seconds_in}
-use Rattle.figures.specs.Figures.{figures_of}
-use Rattle.figures.specs.declared.report.LineFigures.{LineFigures}
+use Rattle.figures.specs.Figures.{LineFigures, figures_of}
 use Rattle.theorems.specs.Blanked.{blank_resets, blanked_asked}
 
 -- a set-up by its offsets and reset words, what is asked of the UART that is set up, or frames
@@ -44,12 +43,12 @@ entry_of Figures ns last bs s = Entry.figures (firsts_in s) (seconds_in s)
 
 -- frames are dates, which are kept; of frames that are refused nothing is: one frame that ends before it starts stands for them
 unfoldable pub blank_starts : LineFigures → List ℕ → List ℕ
-blank_starts (LineFigures.Figures f) starts = starts
-blank_starts LineFigures.Refused starts = 1 ∷ []
+blank_starts (Ok f) starts = starts
+blank_starts (Err e) starts = 1 ∷ []
 
 unfoldable pub blank_ends : LineFigures → List ℕ → List ℕ
-blank_ends (LineFigures.Figures f) ends = ends
-blank_ends LineFigures.Refused ends = 0 ∷ []
+blank_ends (Ok f) ends = ends
+blank_ends (Err e) ends = 0 ∷ []
 
 -- the same without a client's bytes, for the register map that is set up
 unfoldable pub blanked_entry : List ℕ → Entry → Entry

@@ -15,9 +15,8 @@ use Rattle.trace.specs.declared.names.Name.{Name}
 use Rattle.trace.specs.declared.names.Name.TheVariants.{Setup, Read, Write, WriteRow, Receive, Wake, Watch, Reset, PowerDown, Clock}
 use Rattle.trace.specs.declared.names.Name.TheVariants.{TakeTx, TakeWritten, HasLeft, HostPending, Figures}
 use Rattle.trace.specs.Pairs.{firsts_in, seconds_in}
-use Rattle.figures.specs.Figures.{figures_of}
+use Rattle.figures.specs.Figures.{LineFigures, figures_of}
 use Rattle.figures.proofs.Exactly.{Result, result}
-use Rattle.figures.specs.declared.report.LineFigures.{LineFigures}
 use Rattle.theorems.specs.Blanked.{blank_byte, blank_word, blank_written, blank_resets, blanked, blanked_asked}
 use Rattle.blanking.specs.Entries.{entry_of, blanked_entry, number, numbers, pairs, bit_number, machine_words, call_words, entry_words}
 use Rattle.blanking.specs.Entries.{machine_name, call_name}

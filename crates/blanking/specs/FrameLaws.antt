@@ -1,14 +1,13 @@
 -- The frames that are kept of a line are put out as all of them are. Assumes nothing.
-use Rattle.std.specs.Prelude.{◌≡◌, refl, List, [], ◌∷◌, ◌++◌, ℕ, ◌-◌, ◌≤◌, take, drop}
+use Rattle.std.specs.Prelude.{◌≡◌, refl, Ok, Err, List, [], ◌∷◌, ◌++◌, ℕ, ◌-◌, ◌≤◌, take, drop}
 use Rattle.std.proofs.Math.Path.{ap, ap₂, sym}
 use Rattle.std.proofs.Common.{◌∙◌, append-nil, arith}
 use Rattle.std.proofs.Math.ListN.{length}
 use Rattle.std.proofs.Math.Seq.{take_all}
 use Rattle.trace.specs.Pairs.{firsts_in, seconds_in, Kept}
-use Rattle.figures.specs.Figures.{figures_of}
+use Rattle.figures.specs.Figures.{LineFigures, refused, figures_of}
 use Rattle.figures.proofs.Exactly.{Unfit, refused-exactly, first-decide, Result, result}
 use Rattle.figures.specs.declared.report.Figures.{Figures}
-use Rattle.figures.specs.declared.report.LineFigures.{LineFigures}
 use Rattle.blanking.specs.Entries.{number, pairs, blank_starts, blank_ends}
 
 -- what is put out of the frames of a line
@@ -17,8 +16,8 @@ frames s = let r = figures_of (firsts_in s) (seconds_in s) in pairs (blank_start
 
 -- frames that are not refused are as many starts as ends, at most 1,024
 Fitting : List ℕ → List ℕ → LineFigures → Type 0
-Fitting ss es (LineFigures.Figures f) = (length ss ≡ length es) × (length ss ≤ 1024)
-Fitting ss es LineFigures.Refused = Unit {0}
+Fitting ss es (Ok f) = (length ss ≡ length es) × (length ss ≤ 1024)
+Fitting ss es (Err e) = Unit {0}
 
 fits : (ss es : List ℕ) {r : LineFigures} → Result ss es r → Fitting ss es r
 unfolding Fitting
@@ -36,14 +35,14 @@ module _ {s starts ends : List ℕ} {n : ℕ} (k : Kept s starts ends n) where
     decided : r ≡ figures_of (firsts_in s) (seconds_in s)
     decided = e ∙ ap₂ figures_of kept-starts kept-ends ∙ first-decide 1025 (omega arith) (firsts_in s) (seconds_in s)
 
-    pub refused-frames : r ≡ LineFigures.Refused → number 1 ++ number 0 ≡ frames s
+    pub refused-frames : r ≡ refused → number 1 ++ number 0 ≡ frames s
     unfolding blank_starts blank_ends pairs
     refused-frames q =
         sym (append-nil (number 1 ++ number 0))
         ∙ ap (λ (x : LineFigures). pairs (blank_starts x (firsts_in s)) (blank_ends x (seconds_in s))) (sym q ∙ decided)
 
-    module _ (f : Figures) (q : r ≡ LineFigures.Figures f) where
-      whole : Fitting (firsts_in s) (seconds_in s) (LineFigures.Figures f)
+    module _ (f : Figures) (q : r ≡ Ok f) where
+      whole : Fitting (firsts_in s) (seconds_in s) (Ok f)
       whole = rw (sym decided ∙ q) at (fits (firsts_in s) (seconds_in s) (result (firsts_in s) (seconds_in s)))
 
       pub same-frames : length (take (n - 0) (drop 0 starts)) ≡ length (take (n - 0) (drop 0 ends))
@@ -66,5 +65,5 @@ unfolding blank_starts blank_ends
 frames-answer ss es = by_answer (figures_of ss es) refl
   where
     by_answer : (r : LineFigures) → figures_of ss es ≡ r → figures_of (blank_starts r ss) (blank_ends r es) ≡ r
-    by_answer (LineFigures.Figures f) e = e
-    by_answer LineFigures.Refused e = (refused-exactly (1 ∷ []) (0 ∷ [])).1 (Unfit.ends-early 0 (omega arith) (omega arith) (omega arith))
+    by_answer (Ok f) e = e
+    by_answer (Err x) e = (refused-exactly (1 ∷ []) (0 ∷ [])).1 (Unfit.ends-early 0 (omega arith) (omega arith) (omega arith))

@@ -6,7 +6,7 @@ ghost use Rattle.blanking.specs.Puts.{Puts};
 
 use crate::call::put_two;
 use figures::frames::figures;
-use figures::report::LineFigures;
+use figures::report::UnfitFrames;
 use trace::pairs::pairs_of;
 
 // A start and an end, one pair after another.
@@ -32,7 +32,7 @@ pub fn put_frames(out: &mut [u8], at: usize, s: &[u8]) -> usize
     let n = pairs_of(s, &mut starts, &mut ends);
     let answer = figures(&starts[0..n], &ends[0..n]);
     match answer {
-        LineFigures::Refused => put_two(out, at, 1, 0),
-        LineFigures::Figures(_) => put_pairs(out, at, &starts[0..n], &ends[0..n]),
+        Err(UnfitFrames) => put_two(out, at, 1, 0),
+        Ok(_) => put_pairs(out, at, &starts[0..n], &ends[0..n]),
     }
 }

@@ -8,53 +8,37 @@ ghost use Rattle.dates.specs.Dates as Dates;
 // Subcycles in a cycle: a bit lasts a whole number of sixteenths, and a frame may end on half a bit.
 pub const SUBCYCLES: u64 = 32;
 
-pub const LAST: u64 = 18446744073709551615;
-
-// The last cycle whose first subcycle is not past the last date.
-const LAST_CYCLE: u64 = 576460752303423487;
+pub const LAST: u64 = u64::MAX;
 
 // The date `span` after `date`, both in one unit.
 pub fn after(date: u64, span: u64) -> u64
     ensures { result ≡ Dates.after date span }
 {
-    if span <= LAST - date {
-        date + span
-    } else {
-        LAST
-    }
+    date.saturating_add(span)
 }
 
 // The subcycle at which `cycle` begins.
 pub fn subcycles(cycle: u64) -> u64
     ensures { result ≡ Dates.subcycles cycle }
 {
-    if cycle <= LAST_CYCLE {
-        cycle * SUBCYCLES
-    } else {
-        LAST
-    }
+    cycle.saturating_mul(SUBCYCLES)
 }
 
 // The first cycle that begins at or after the subcycle `date`.
 pub fn cycles(date: u64) -> u64
     ensures { result ≡ Dates.cycles date }
 {
-    let whole = date / SUBCYCLES;
-    if date % SUBCYCLES == 0 {
-        whole
-    } else {
-        whole + 1
-    }
+    date.div_ceil(SUBCYCLES)
 }
 
 pub fn later(a: u64, b: u64) -> u64
     ensures { result ≡ Dates.later a b }
 {
-    if a < b { b } else { a }
+    a.max(b)
 }
 
 pub fn earlier(a: u64, b: u64) -> u64
     ensures { result ≡ Dates.earlier a b }
 {
-    if a < b { a } else { b }
+    a.min(b)
 }

@@ -2,7 +2,7 @@
 ghost use Rattle.std.specs.Prelude.{◌≡◌};
 ghost use Rattle.ffi.specs.Figures.{plain_place, plain_figures};
 
-use figures::report::{LineFigures, Place};
+use figures::report::{Figures, UnfitFrames};
 
 // The number of a list of frames that is refused.
 const UNFIT_LIST: u32 = 9;
@@ -31,28 +31,27 @@ struct PlainPlace {
     at: u64,
 }
 
-fn plain_place(place: Place) -> PlainPlace
+fn plain_place(place: Option<usize>) -> PlainPlace
     ensures { result ≡ plain_place place }
 {
     match place {
-        Place::None => PlainPlace {
+        None => PlainPlace {
             placed: false,
             at: 0,
         },
-        Place::At(at) => PlainPlace {
+        Some(at) => PlainPlace {
             placed: true,
             at: at as u64,
         },
     }
 }
 
-pub fn plain_figures(answer: LineFigures) -> PlainFigures
+pub fn plain_figures(answer: Result<Figures, UnfitFrames>) -> PlainFigures
     ensures { result ≡ plain_figures answer }
 {
     match answer {
-        LineFigures::Figures(given) => {
-            let at = given.at;
-            let place = plain_place(at);
+        Ok(given) => {
+            let place = plain_place(given.at);
             PlainFigures {
                 number: 0,
                 placed: place.placed,
@@ -65,7 +64,7 @@ pub fn plain_figures(answer: LineFigures) -> PlainFigures
                 remainder: given.remainder,
             }
         }
-        LineFigures::Refused => PlainFigures {
+        Err(UnfitFrames) => PlainFigures {
             number: UNFIT_LIST,
             placed: false,
             busy: 0,

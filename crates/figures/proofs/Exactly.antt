@@ -1,14 +1,13 @@
 -- Exactly which frames are refused, said of the numbers in the two lists and of no test, and that the first frames of a longer list
 -- decide. Assumes nothing.
-use Rattle.std.specs.Prelude.{◌≡◌, ◌↔◌, Bool, List, [], ◌∷◌, ℕ, zero, suc, ◌<◌, ◌≤◌, ltb, eqb, length, get_or, take}
+use Rattle.std.specs.Prelude.{◌≡◌, ◌↔◌, Bool, Ok, List, [], ◌∷◌, ℕ, zero, suc, ◌<◌, ◌≤◌, ltb, eqb, length, get_or, take}
 use Rattle.std.proofs.Math.Path.{refl}
 use Rattle.std.proofs.Common.{sym, ap, ◌∙◌, true≢false, arith, length-take, take_all}
 use Rattle.std.proofs.Math.Bool.{true, false}
 use borrow.Author.Tests.{ltb-true, ltb-false, eqb-true, eqb-false}
 use Rattle.figures.specs.declared.report.Figures.{Figures}
-use Rattle.figures.specs.declared.report.LineFigures.{LineFigures}
 use Rattle.figures.specs.Lists.{choose}
-use Rattle.figures.specs.Figures.{frames_of, reported, ordered, fit, figures_of}
+use Rattle.figures.specs.Figures.{frames_of, reported, ordered, fit, LineFigures, refused, figures_of}
 
 -- when frames are refused, by the places of their starts and ends
 pub data Unfit (starts ends : List ℕ) : Type 0 where
@@ -67,9 +66,9 @@ unordered-exactly free (s ∷ starts) (e ∷ ends) l =
 
 -- the answer with what was tested: refused, or frames in order with the figures of all
 pub data Result (starts ends : List ℕ) : LineFigures → Type 0 where
-  refusal : Unfit starts ends → Result starts ends LineFigures.Refused
+  refusal : Unfit starts ends → Result starts ends refused
   done : length starts ≡ length ends → length starts ≤ 1024 → ordered 0 (frames_of starts ends) ≡ true
-      → Result starts ends (LineFigures.Figures (reported (frames_of starts ends)))
+      → Result starts ends (Ok (reported (frames_of starts ends)))
 
 module _ (starts ends : List ℕ) where
   clash-unfit : length starts ≡ length ends → Clash 0 starts ends → Unfit starts ends
@@ -85,7 +84,7 @@ module _ (starts ends : List ℕ) where
 
   tested : (t u v : Bool) → eqb (length starts) (length ends) ≡ t → ltb 1024 (length starts) ≡ u → ordered 0 (frames_of starts ends) ≡ v
       → Result starts ends (choose (choose t (choose u false v) false)
-      (LineFigures.Figures (reported (frames_of starts ends))) LineFigures.Refused)
+      (Ok (reported (frames_of starts ends))) refused)
   unfolding choose
   tested false u v a b o = refusal (other-lengths (eqb-false (length starts) (length ends) a))
   tested true true v a b o = refusal (too_many (ltb-true 1024 (length starts) b))
@@ -102,22 +101,22 @@ module _ (starts ends : List ℕ) where
   not-unfit l few o x = true≢false (sym o ∙ (unordered-exactly 0 starts ends l).1 (unfit-clash l few x))
 
   -- refused exactly where the frames are unfit
-  pub refused-exactly : figures_of starts ends ≡ LineFigures.Refused ↔ Unfit starts ends
+  pub refused-exactly : figures_of starts ends ≡ refused ↔ Unfit starts ends
   refused-exactly = go result
     where
-      go : {r : LineFigures} → Result starts ends r → r ≡ LineFigures.Refused ↔ Unfit starts ends
+      go : {r : LineFigures} → Result starts ends r → r ≡ refused ↔ Unfit starts ends
       go (refusal x) = (λ h. x, λ x. refl)
       go (done l few o) = (λ h. let z : ◌≡◌ {A = ℕ} 0 1 = cc in absurd (omega arith), λ x. absurd (not-unfit l few o x))
 
   -- figures exactly where they are not, and they are those of the frames
   pub done-exactly : (f : Figures)
-      → figures_of starts ends ≡ LineFigures.Figures f ↔ (¬ Unfit starts ends) × (f ≡ reported (frames_of starts ends))
+      → figures_of starts ends ≡ Ok f ↔ (¬ Unfit starts ends) × (f ≡ reported (frames_of starts ends))
   done-exactly f = go result
     where
       go : {r : LineFigures} → Result starts ends r
-          → r ≡ LineFigures.Figures f ↔ (¬ Unfit starts ends) × (f ≡ reported (frames_of starts ends))
+          → r ≡ Ok f ↔ (¬ Unfit starts ends) × (f ≡ reported (frames_of starts ends))
       go (refusal x) = (λ h. let z : ◌≡◌ {A = ℕ} 0 1 = cc in absurd (omega arith), λ d. absurd (d.0 x))
-      go (done l few o) = (λ h. (not-unfit l few o, cc), λ d. ap LineFigures.Figures (sym d.1))
+      go (done l few o) = (λ h. (not-unfit l few o, cc), λ d. ap Ok (sym d.1))
 
 -- ---- a longer list
 

@@ -1,16 +1,14 @@
 -- What the figures are, said of each frame and each quiet stretch of every list of frames: by its place, from 0. Assumes nothing.
 use Rattle.std.proofs.Math.Path.{◌≡◌, ap}
 use Rattle.std.specs.Prelude.{refl, ◌⊎◌, Bool, true, false, List, [], ◌∷◌, map, ℕ, zero, suc, ◌+◌, ◌-◌, ◌*◌, ◌^◌, ◌<◌, ◌≤◌, ltb, eqb}
-use Rattle.std.specs.Prelude.{length}
+use Rattle.std.specs.Prelude.{Some, None, Ok, length}
 use Rattle.std.proofs.Common.{sym, subst, ◌∙◌, inl, inr, true≢false, div-add-mod', mod-lt, arith, ltb-true, ltb-false, eqb-true, ne_eqb}
 use Rattle.std.proofs.lemmas.Bool.{eqb-false}
 use Rattle.std.proofs.Math.ListN.{get_or, get_or-map}
-use Rattle.figures.specs.declared.report.Place.{Place}
 use Rattle.figures.specs.declared.report.Figures.{Figures}
-use Rattle.figures.specs.declared.report.LineFigures.{LineFigures}
 use Rattle.figures.specs.Lists.{choose, total, least, greatest, first_place}
 use Rattle.figures.specs.Figures.{Frame, frame, frames_of, lasts, quiets_after, quiets, longest_place, mean_of, remainder_of, reported}
-use Rattle.figures.specs.Figures.{ordered, figures_of}
+use Rattle.figures.specs.Figures.{ordered, LineFigures, figures_of}
 use Rattle.figures.proofs.Exactly.{Result, result}
 
 -- ---- frames by their places
@@ -154,24 +152,24 @@ longest-first qs h =
       first = λ i k. omega (arith, greatest-bounds qs i (omega (arith, r.inside)), r.before i k);
     }
 
-longest-at : (qs : List ℕ) (p : ℕ) → longest_place qs ≡ Place.At p → Longest qs (greatest qs) p
+longest-at : (qs : List ℕ) (p : ℕ) → longest_place qs ≡ Some p → Longest qs (greatest qs) p
 unfolding longest_place
 longest-at [] p e = let z : ◌≡◌ {A = ℕ} 0 1 = cc in absurd (omega arith)
 longest-at (q ∷ qs) p e = subst (Longest (q ∷ qs) (greatest (q ∷ qs))) (cc) (longest-first (q ∷ qs) (omega arith))
 
-pub quiet-longest : (fs : List Frame) (p : ℕ) → (reported fs).at ≡ Place.At p → Longest (quiets fs) (reported fs).quiet p
+pub quiet-longest : (fs : List Frame) (p : ℕ) → (reported fs).at ≡ Some p → Longest (quiets fs) (reported fs).quiet p
 unfolding reported
 quiet-longest fs p e = longest-at (quiets fs) p e
 
 -- with fewer than two frames there is none
-pub quiet_none : (fs : List Frame) → length fs < 2 → ((reported fs).quiet ≡ 0) × ((reported fs).at ≡ Place.None)
+pub quiet_none : (fs : List Frame) → length fs < 2 → ((reported fs).quiet ≡ 0) × ((reported fs).at ≡ None)
 unfolding reported quiets quiets_after longest_place greatest
 quiet_none [] h = (refl, refl)
 quiet_none (f ∷ []) h = (refl, refl)
 quiet_none (f ∷ g ∷ fs) h = absurd (omega arith)
 
 -- with two or more there is one
-pub quiet-some : (fs : List Frame) → 2 ≤ length fs → (p : ℕ) × ((reported fs).at ≡ Place.At p)
+pub quiet-some : (fs : List Frame) → 2 ≤ length fs → (p : ℕ) × ((reported fs).at ≡ Some p)
 unfolding reported quiets quiets_after longest_place
 quiet-some [] h = absurd (omega arith)
 quiet-some (f ∷ []) h = absurd (omega arith)
@@ -211,13 +209,13 @@ last_end (e ∷ ends) =
     let before : length ends ≡ length (e ∷ ends) - 1 = omega arith in
     ap (λ (k : ℕ). get_or (e ∷ ends) k 0) before
 
-module _ (starts ends : List ℕ) (f : Figures) (answer : figures_of starts ends ≡ LineFigures.Figures f) where
+module _ (starts ends : List ℕ) (f : Figures) (answer : figures_of starts ends ≡ Ok f) where
   -- the line is busy no longer than from 0 to where the last frame ends
   pub busy-ends : f.busy ≤ get_or ends (length ends - 1) 0
   unfolding reported
   busy-ends = go (result starts ends) answer
     where
-      go : {r : LineFigures} → Result starts ends r → r ≡ LineFigures.Figures f → f.busy ≤ get_or ends (length ends - 1) 0
+      go : {r : LineFigures} → Result starts ends r → r ≡ Ok f → f.busy ≤ get_or ends (length ends - 1) 0
       go (Result.refusal x) e = let z : ◌≡◌ {A = ℕ} 0 1 = cc in absurd (omega arith)
       go (Result.done l few o) e =
           let same : f ≡ reported (frames_of starts ends) = cc in
@@ -235,6 +233,6 @@ module _ (starts ends : List ℕ) (f : Figures) (answer : figures_of starts ends
 -- ---- no frame
 
 pub no_frames : reported []
-    ≡ record { busy = 0; shortest = 0; longest = 0; quiet = 0; at = Place.None; mean = 0; remainder = 0 }
+    ≡ record { busy = 0; shortest = 0; longest = 0; quiet = 0; at = None; mean = 0; remainder = 0 }
 unfolding reported total least greatest quiets longest_place mean_of remainder_of choose
 no_frames = refl

@@ -1,5 +1,5 @@
 -- That one pass over the frames gives the figures. Assumes nothing.
-use Rattle.std.specs.Prelude.{◌≡◌, Bool, ltb, eqb, get_or}
+use Rattle.std.specs.Prelude.{◌≡◌, Bool, Some, Ok, ltb, eqb, get_or}
 use Rattle.std.proofs.Math.Path.{refl, ap, sym}
 use Rattle.std.proofs.Common.{ap₂, subst, ◌∙◌, add-one}
 use Rattle.std.proofs.Math.Bool.{true, false}
@@ -9,12 +9,10 @@ use native.Mathlib.Omega.{arith}
 use borrow.Author.Tests.{ltb-true, ltb-false, lt-ltb, le-ltb, eq-eqb, ne_eqb}
 use Rattle.std.proofs.Math.ListN.{length, drop, drop_of_length-le}
 use Rattle.std.proofs.Math.Seq.{drop-cons}
-use Rattle.figures.specs.declared.report.Place.{Place}
-use Rattle.figures.specs.declared.report.LineFigures.{LineFigures}
 use Rattle.figures.specs.declared.pass.SoFar.{SoFar}
 use Rattle.figures.specs.Lists.{choose, total, least, greatest, first_place}
 use Rattle.figures.specs.Figures.{Frame, frame, frames_of, lasts, quiets_after, quiets, longest_place, mean_of, remainder_of, reported}
-use Rattle.figures.specs.Figures.{limit, ordered, fit, figures_of}
+use Rattle.figures.specs.Figures.{limit, ordered, fit, refused, figures_of}
 use Rattle.figures.specs.Pass.{begun, shorter_of, gap_to, next_place, next, place_in, finished, Follows, passed}
 
 -- ---- the pass gives the figures
@@ -147,7 +145,7 @@ whole-place f [] = refl
 whole-place f (g ∷ fs) =
     let all = passed-frames (next begun f) (g ∷ fs) in
     let place = passed-place (next begun f) 0 refl (g ∷ fs) ∙ none-moved (quiets_after f.end (g ∷ fs)) in
-    rw (le-ltb (passed begun (f ∷ g ∷ fs)).frames 2 (omega (arith, all))) (ap Place.At place)
+    rw (le-ltb (passed begun (f ∷ g ∷ fs)).frames 2 (omega (arith, all))) (ap Some place)
 
 -- the report of a pass, field by field
 by-fields : (s : SoFar) (fs : List Frame) → s.busy ≡ total (map lasts fs) → s.shortest ≡ least (map lasts fs)
@@ -182,30 +180,30 @@ module _ (starts ends : List ℕ) where
   pub part-begins : Part starts ends begun 0
   part-begins = record { count = refl; sum = omega arith; figures = pass-reports (frames_of starts ends); order = refl }
 
-  pub other-lengths : (length starts ≡ length ends → ⊥) → LineFigures.Refused ≡ figures_of starts ends
+  pub other-lengths : (length starts ≡ length ends → ⊥) → refused ≡ figures_of starts ends
   unfolding figures_of fit choose
   other-lengths h = rw (ne_eqb (length starts) (length ends) h)
 
   module _ (same : length starts ≡ length ends) where
-    pub too_many : limit < length starts → LineFigures.Refused ≡ figures_of starts ends
+    pub too_many : limit < length starts → refused ≡ figures_of starts ends
     unfolding figures_of fit choose
     too_many h = rw (eq-eqb (length starts) (length ends) same, lt-ltb limit (length starts) h)
 
     module _ (few : length starts ≤ limit) where
       by_order : (t : Bool) → ordered 0 (frames_of starts ends) ≡ t
-          → choose t (LineFigures.Figures (reported (frames_of starts ends))) LineFigures.Refused ≡ figures_of starts ends
+          → choose t (Ok (reported (frames_of starts ends))) refused ≡ figures_of starts ends
       unfolding figures_of fit choose
       by_order t e = rw (eq-eqb (length starts) (length ends) same, le-ltb limit (length starts) few, e)
 
       module _ (s : SoFar) (i : ℕ) (p : Part starts ends s i) where
-        pub part-ends : length starts ≤ i → LineFigures.Figures (finished s) ≡ figures_of starts ends
+        pub part-ends : length starts ≤ i → Ok (finished s) ≡ figures_of starts ends
         unfolding frames_of passed ordered choose
         part-ends h =
             let none : drop i starts ≡ [] = drop_of_length-le starts h in
             let left : frames_of (drop i starts) (drop i ends) ≡ [] = ap (λ (l : List ℕ). frames_of l (drop i ends)) none in
             let all : finished s ≡ reported (frames_of starts ends) = rw left at p.figures in
             let right : true ≡ ordered 0 (frames_of starts ends) = rw left at p.order in
-            ap LineFigures.Figures all ∙ by_order true (sym right)
+            ap Ok all ∙ by_order true (sym right)
 
         module _ (here : i < length starts) where
           frames-on : frames_of (drop i starts) (drop i ends)
@@ -215,7 +213,7 @@ module _ (starts ends : List ℕ) where
               let there : i < length ends = omega arith in
               rw (add-one, drop-cons starts i 0, drop-cons ends i 0)
 
-          pub starts-early : get_or starts i 0 < s.end → LineFigures.Refused ≡ figures_of starts ends
+          pub starts-early : get_or starts i 0 < s.end → refused ≡ figures_of starts ends
           unfolding ordered choose
           starts-early h =
               let early : ordered s.end (frames_of (drop i starts) (drop i ends)) ≡ false
@@ -223,7 +221,7 @@ module _ (starts ends : List ℕ) where
               by_order false (sym p.order ∙ early)
 
           module _ (after : s.end ≤ get_or starts i 0) where
-            pub ends-early : get_or ends i 0 < get_or starts i 0 → LineFigures.Refused ≡ figures_of starts ends
+            pub ends-early : get_or ends i 0 < get_or starts i 0 → refused ≡ figures_of starts ends
             unfolding ordered choose
             ends-early h =
                 let early : ordered s.end (frames_of (drop i starts) (drop i ends)) ≡ false

@@ -1,8 +1,8 @@
 -- The figures of a line's frames, in subcycles, and which frames are refused. Assumes nothing.
-use Rattle.std.specs.Prelude.{Bool, true, false, List, [], ◌∷◌, map, ℕ, ◌-◌, ◌/◌, ◌%◌, ltb, eqb, length}
-use Rattle.figures.specs.declared.report.Place.{Place}
+use Rattle.std.specs.Prelude.{Bool, true, false, Option, Some, None, Result, Ok, Err, ℕ, ◌-◌, ◌/◌, ◌%◌, ltb, eqb, length}
+use mathlib.Core.List.{List, [], ◌∷◌, map}
 use Rattle.figures.specs.declared.report.Figures.{Figures}
-use Rattle.figures.specs.declared.report.LineFigures.{LineFigures}
+use Rattle.figures.specs.declared.report.UnfitFrames.{UnfitFrames}
 use Rattle.figures.specs.Lists.{choose, total, least, greatest, first_place}
 
 pub record Frame : Type 0 where
@@ -32,9 +32,9 @@ quiets [] = []
 quiets (f ∷ fs) = quiets_after f.end fs
 
 -- the place of a stretch is that of the frame before it; the earliest of the longest
-unfoldable pub longest_place : List ℕ → Place
-longest_place [] = Place.None
-longest_place (q ∷ qs) = Place.At (first_place (greatest (q ∷ qs)) (q ∷ qs))
+unfoldable pub longest_place : List ℕ → Option ℕ
+longest_place [] = None
+longest_place (q ∷ qs) = Some (first_place (greatest (q ∷ qs)) (q ∷ qs))
 
 -- the mean of so many frames; no frame gives zeros
 unfoldable pub mean_of : ℕ → ℕ → ℕ
@@ -67,10 +67,17 @@ unfoldable pub fit : List ℕ → List ℕ → Bool
 fit starts ends =
     choose (eqb (length starts) (length ends)) (choose (ltb limit (length starts)) false (ordered 0 (frames_of starts ends))) false
 
+-- the figures, or that the frames are refused
+abbrev pub LineFigures : Type 0
+LineFigures = Result Figures UnfitFrames
+
+abbrev pub refused : LineFigures
+refused = Err (record {})
+
 unfoldable pub figures_of : List ℕ → List ℕ → LineFigures
-figures_of starts ends = choose (fit starts ends) (LineFigures.Figures (reported (frames_of starts ends))) LineFigures.Refused
+figures_of starts ends = choose (fit starts ends) (Ok (reported (frames_of starts ends))) refused
 
 -- the paper's number: 0 is done
 unfoldable pub number : LineFigures → ℕ
-number (LineFigures.Figures f) = 0
-number LineFigures.Refused = 9
+number (Ok f) = 0
+number (Err e) = 9

@@ -1,8 +1,7 @@
 -- The figures in one pass over the frames. Assumes nothing.
-use Rattle.std.specs.Prelude.{ltb, eqb}
+use Rattle.std.specs.Prelude.{Option, Some, None, ltb, eqb}
 use mathlib.Core.List.{List, [], ◌∷◌}
 use Prim.Native.Nat.{ℕ, ◌+◌, ◌-◌, ◌<◌, ◌≤◌, min, max}
-use Rattle.figures.specs.declared.report.Place.{Place}
 use Rattle.figures.specs.declared.report.Figures.{Figures}
 use Rattle.figures.specs.declared.pass.SoFar.{SoFar}
 use Rattle.figures.specs.Lists.{choose}
@@ -34,8 +33,8 @@ next s f = record {
   place = next_place s.frames s.quiet s.place (gap_to s.frames s.end f.start);
 }
 
-unfoldable pub place_in : ℕ → ℕ → Place
-place_in frames place = choose (ltb frames 2) Place.None (Place.At place)
+unfoldable pub place_in : ℕ → ℕ → Option ℕ
+place_in frames place = choose (ltb frames 2) None (Some place)
 
 abbrev pub finished : SoFar → Figures
 finished s = record {

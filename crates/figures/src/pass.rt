@@ -3,7 +3,7 @@ ghost use Rattle.std.specs.Prelude.{◌≡◌, max};
 ghost use Rattle.figures.specs.Figures.{frame, mean_of, remainder_of};
 ghost use Rattle.figures.specs.Pass.{Follows, begun, shorter_of, gap_to, next_place, next as Pass·next, place_in, finished};
 
-use crate::report::{Figures, Place};
+use crate::report::Figures;
 
 // `end` is where the last of them ended, and `place` that of the frame before the longest quiet stretch; both are 0 at first.
 #[derive(Clone, Copy)]
@@ -17,85 +17,102 @@ pub struct SoFar {
     pub place: usize,
 }
 
-// No frame yet.
-pub fn begin() -> SoFar
-    ensures { result ≡ begun }
-{
-    SoFar {
-        frames: 0,
-        end: 0,
-        busy: 0,
-        shortest: 0,
-        longest: 0,
-        quiet: 0,
-        place: 0,
+impl SoFar {
+    // No frame yet.
+    pub fn begin() -> SoFar
+        ensures { result ≡ begun }
+    {
+        SoFar {
+            frames: 0,
+            end: 0,
+            busy: 0,
+            shortest: 0,
+            longest: 0,
+            quiet: 0,
+            place: 0,
+        }
     }
-}
 
-// The shorter one; the first frame is the shortest.
-fn shorter(frames: usize, shortest: u64, length: u64) -> u64
-    ensures { result ≡ shorter_of frames shortest length }
-{
-    if frames == 0 {
-        return length;
+    // The shortest with a frame of this length; the first frame is the shortest.
+    fn shorter(self, length: u64) -> u64
+        ensures { result ≡ shorter_of self.frames self.shortest length }
+    {
+        if self.frames == 0 {
+            return length;
+        }
+        self.shortest.min(length)
     }
-    if shortest < length { shortest } else { length }
-}
 
-fn longer(a: u64, b: u64) -> u64
-    ensures { result ≡ max a b }
-{
-    if a < b { b } else { a }
-}
-
-// The quiet stretch before a frame; before the first there is none.
-fn gap_to(frames: usize, end: u64, start: u64) -> u64
-    ensures { result ≡ gap_to frames end start }
-{
-    if frames == 0 {
-        return 0;
+    // The longest with it.
+    fn longer(self, length: u64) -> u64
+        ensures { result ≡ max self.longest length }
+    {
+        self.longest.max(length)
     }
-    if start < end {
-        return 0;
-    }
-    start - end
-}
 
-// A stretch takes the place only where it is longer, so that the earliest of the longest keeps it.
-fn place_after(frames: usize, quiet: u64, place: usize, gap: u64) -> usize
-    ensures { result ≡ next_place frames quiet place gap }
-{
-    if frames == 0 {
-        return place;
+    // The quiet stretch before a frame; before the first there is none.
+    fn gap_to(self, start: u64) -> u64
+        ensures { result ≡ gap_to self.frames self.end start }
+    {
+        if self.frames == 0 {
+            return 0;
+        }
+        start.saturating_sub(self.end)
     }
-    if quiet < gap { frames - 1 } else { place }
-}
 
-// One frame more.
-pub fn next(so_far: SoFar, start: u64, end: u64) -> SoFar
-    requires { Follows so_far start end }
-    ensures { result ≡ Pass·next so_far (frame start end) }
-{
-    let length = end - start;
-    let gap = gap_to(so_far.frames, so_far.end, start);
-    SoFar {
-        frames: so_far.frames + 1,
-        end,
-        busy: so_far.busy + length,
-        shortest: shorter(so_far.frames, so_far.shortest, length),
-        longest: longer(so_far.longest, length),
-        quiet: longer(so_far.quiet, gap),
-        place: place_after(so_far.frames, so_far.quiet, so_far.place, gap),
+    // A stretch takes the place only where it is longer, so that the earliest of the longest keeps it.
+    fn place_after(self, gap: u64) -> usize
+        ensures { result ≡ next_place self.frames self.quiet self.place gap }
+    {
+        if self.frames != 0 && self.quiet < gap {
+            self.frames - 1
+        } else {
+            self.place
+        }
     }
-}
 
-fn place_in(frames: usize, place: usize) -> Place
-    ensures { result ≡ place_in frames place }
-{
-    if frames < 2 {
-        Place::None
-    } else {
-        Place::At(place)
+    // One frame more.
+    pub fn next(self, start: u64, end: u64) -> SoFar
+        requires { Follows self start end }
+        ensures { result ≡ Pass·next self (frame start end) }
+    {
+        let length = end - start;
+        let gap = self.gap_to(start);
+        SoFar {
+            frames: self.frames + 1,
+            end,
+            busy: self.busy + length,
+            shortest: self.shorter(length),
+            longest: self.longer(length),
+            quiet: self.quiet.max(gap),
+            place: self.place_after(gap),
+        }
+    }
+
+    // The place, where there are two frames or more.
+    fn place_in(self) -> Option<usize>
+        ensures { result ≡ place_in self.frames self.place }
+    {
+        if self.frames < 2 {
+            return None;
+        }
+        Some(self.place)
+    }
+
+    // All frames were passed.
+    pub fn finish(self) -> Figures
+        ensures { result ≡ finished self }
+    {
+        let mean = mean_of(self.busy, self.frames);
+        Figures {
+            busy: self.busy,
+            shortest: self.shortest,
+            longest: self.longest,
+            quiet: self.quiet,
+            at: self.place_in(),
+            mean: mean.quotient,
+            remainder: mean.remainder,
+        }
     }
 }
 
@@ -119,22 +136,5 @@ fn mean_of(busy: u64, frames: usize) -> Mean
     Mean {
         quotient: busy / count,
         remainder: busy % count,
-    }
-}
-
-// All frames were passed.
-pub fn finish(so_far: SoFar) -> Figures
-    ensures { result ≡ finished so_far }
-{
-    let at = place_in(so_far.frames, so_far.place);
-    let mean = mean_of(so_far.busy, so_far.frames);
-    Figures {
-        busy: so_far.busy,
-        shortest: so_far.shortest,
-        longest: so_far.longest,
-        quiet: so_far.quiet,
-        at,
-        mean: mean.quotient,
-        remainder: mean.remainder,
     }
 }

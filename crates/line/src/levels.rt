@@ -29,24 +29,18 @@ pub fn tx_done(before: usize, flying: usize, line: Line) -> Line
     line
 }
 
-fn wide(x: u32) -> usize
-    ensures { result ≡ x }
-{
-    x as usize
-}
-
 // RXFIFO_FULL: strictly more bytes than its threshold.
 fn above_full(conf1: u32, held: usize) -> bool
     ensures { result ≡ above_full conf1 held }
 {
-    wide(registers::fields::rxfifo_full_thrhd(conf1)) < held
+    (registers::fields::rxfifo_full_thrhd(conf1) as usize) < held
 }
 
 // TXFIFO_EMPTY: strictly fewer bytes than its threshold.
 fn below_empty(conf1: u32, flying: usize) -> bool
     ensures { result ≡ below_empty conf1 flying }
 {
-    registers::words::in_fifo(flying) < wide(registers::fields::txfifo_empty_thrhd(conf1))
+    registers::words::in_fifo(flying) < registers::fields::txfifo_empty_thrhd(conf1) as usize
 }
 
 // The levels of both FIFOs raise their bits: uart.rs's assert_levels.

@@ -4,18 +4,14 @@ ghost use Rattle.std.proofs.Math.Seq.{paste};
 ghost use Rattle.queue.specs.Cursors.{Held, slot_of, elems, pushed_by};
 ghost use Rattle.queue.specs.Append.{stored_from};
 
-use crate::{Cursor, smaller};
+use crate::Cursor;
 
 // `n` bytes of `src`, those from `from` on, to `dst` from `at` on.
 fn copy_run(dst: &mut [u8], at: usize, src: &[u8], from: usize, n: usize)
     requires { (at + n ≤ length dst.old) × (from + n ≤ length src.now) }
     ensures { dst.new ≡ paste dst.old at (drop from src.now) n }
 {
-    let mut i = 0;
-    while i < n {
-        dst[at + i] = src[from + i];
-        i += 1;
-    }
+    dst[at..at + n].copy_from_slice(&src[from..from + n]);
 }
 
 // `bytes` at the back, in order.
@@ -26,7 +22,7 @@ pub fn append(cursor: Cursor, cap: usize, slots: &mut [u8], bytes: &[u8]) -> Cur
 {
     let n = bytes.len();
     let at = cursor.back(cap);
-    let first = smaller(n, cap - at);
+    let first = n.min(cap - at);
     copy_run(slots, at, bytes, 0, first);
     copy_run(slots, 0, bytes, first, n - first);
     Cursor {
@@ -43,7 +39,7 @@ pub fn copy_out(cursor: Cursor, cap: usize, slots: &[u8], out: &mut [u8]) -> usi
 {
     let start = cursor.start;
     let count = cursor.count;
-    let first = smaller(count, cap - start);
+    let first = count.min(cap - start);
     copy_run(out, 0, slots, start, first);
     copy_run(out, first, slots, 0, count - first);
     count

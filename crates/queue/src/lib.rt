@@ -4,7 +4,7 @@
 
 pub mod copy;
 
-ghost use Rattle.std.specs.Prelude.{◌≡◌, ◌+◌, ◌-◌, ◌<◌, ◌≤◌, min};
+ghost use Rattle.std.specs.Prelude.{◌≡◌, ◌+◌, ◌<◌, ◌≤◌, min};
 ghost use Rattle.queue.specs.Slots.{wrap};
 ghost use Rattle.queue.specs.Cursors.{most, Held, nth_of, last_of, back_of, empty};
 ghost use Rattle.queue.specs.Cursors.{pushed as Cursor·pushed, popped as Cursor·popped, cut_to_one};
@@ -13,23 +13,16 @@ ghost use Rattle.queue.specs.Cursors.{pushed_if, popped_if};
 // Where a queue starts in its slots and how many elements it holds. The elements stand in order from the slot `start` on,
 // and go on at slot 0 past the last slot.
 #[repr(C)]
-#[derive(Clone, Copy)]
+#[derive(Clone, Copy, PartialEq, Eq, Debug)]
 pub struct Cursor {
     pub start: usize,
     pub count: usize,
 }
 
-// One less, and none of none.
-fn less_one(n: usize) -> usize
-    ensures { result ≡ n - 1 }
-{
-    if n == 0 { 0 } else { n - 1 }
-}
-
 pub fn smaller(a: usize, b: usize) -> usize
     ensures { result ≡ min a b }
 {
-    if a < b { a } else { b }
+    a.min(b)
 }
 
 // The slot that is `n` places after `start`, of `cap` slots.
@@ -62,7 +55,7 @@ impl Cursor {
         requires { Held cap self }
         ensures { (result ≡ last_of cap self) × (result < cap) }
     {
-        self.nth(cap, less_one(self.count))
+        self.nth(cap, self.count.saturating_sub(1))
     }
 
     // The slot for the next element.
@@ -91,7 +84,7 @@ impl Cursor {
     {
         Cursor {
             start: slot(self.start, 1, cap),
-            count: less_one(self.count),
+            count: self.count.saturating_sub(1),
         }
     }
 
@@ -119,7 +112,7 @@ impl Cursor {
     {
         Cursor {
             start: self.start,
-            count: smaller(self.count, 1),
+            count: self.count.min(1),
         }
     }
 }

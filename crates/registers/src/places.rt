@@ -6,7 +6,7 @@ ghost use Rattle.model.specs.Registers.{looks as Registers·looks};
 ghost use Rattle.registers.specs.Places.{register_at};
 
 // A register's place, in the order of set-up; Unknown for an offset that the register map lacks.
-#[derive(Clone, Copy)]
+#[derive(Clone, Copy, PartialEq, Eq, Debug)]
 pub enum Place {
     Fifo,
     IntRaw,
@@ -51,12 +51,10 @@ const PLACES: [Place; 16] = [
 pub fn place_of(offsets: [u32; 16], offset: u32) -> Place
     ensures { register_at result ≡ register_of offsets offset }
 {
-    let mut at: usize = 0;
-    while at < 16 {
-        if offsets[at] == offset {
+    for (at, &known) in offsets.iter().enumerate() {
+        if known == offset {
             return PLACES[at];
         }
-        at += 1;
     }
     Place::Unknown
 }
@@ -65,15 +63,15 @@ pub fn place_of(offsets: [u32; 16], offset: u32) -> Place
 pub fn is_fifo(place: Place) -> bool
     ensures { result ≡ is_fifo (register_at place) }
 {
-    if let Place::Fifo = place { true } else { false }
+    place == Place::Fifo
 }
 
 // Whether the firmware looks at the receiver by reading there.
 pub fn looks(place: Place) -> bool
     ensures { result ≡ Registers·looks (register_at place) }
 {
-    match place {
-        Place::Fifo | Place::IntRaw | Place::IntSt | Place::Status => true,
-        _ => false,
-    }
+    matches!(
+        place,
+        Place::Fifo | Place::IntRaw | Place::IntSt | Place::Status
+    )
 }

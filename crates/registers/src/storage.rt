@@ -28,11 +28,18 @@ pub fn read(words: Words, place: Place) -> Read
 fn holds(place: Place) -> bool
     ensures { result ≡ Storage·holds (held_at place) }
 {
-    match place {
-        Place::IntEna | Place::Clkdiv | Place::Conf0 | Place::Conf1 | Place::ClkConf => true,
-        Place::IdleConf | Place::Rs485Conf | Place::AtCmdChar | Place::MemConf => true,
-        _ => false,
-    }
+    matches!(
+        place,
+        Place::IntEna
+            | Place::Clkdiv
+            | Place::Conf0
+            | Place::Conf1
+            | Place::ClkConf
+            | Place::IdleConf
+            | Place::Rs485Conf
+            | Place::AtCmdChar
+            | Place::MemConf
+    )
 }
 
 // The words, with the one at a place replaced where it is held.

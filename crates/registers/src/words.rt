@@ -20,7 +20,7 @@ const ST_UTX_OUT_BUSY: u32 = 1 << 4;
 pub fn in_fifo(flying: usize) -> usize
     ensures { result ≡ in_fifo flying }
 {
-    if flying == 0 { 0 } else { flying - 1 }
+    flying.saturating_sub(1)
 }
 
 // STATUS: RXFIFO_CNT in bits 0-9, TXFIFO_CNT in bits 16-25.

@@ -7,26 +7,17 @@ fn stands_from(offsets: [u32; 16], from: usize, offset: u32) -> bool
     requires { from ≤ 16 }
     ensures { result ≡ among offset (drop from offsets) }
 {
-    let mut at = from;
-    while at < 16 {
-        if offsets[at] == offset {
-            return true;
-        }
-        at += 1;
-    }
-    false
+    offsets[from..].contains(&offset)
 }
 
 // Two of the sixteen offsets are equal.
 pub fn repeated(offsets: [u32; 16]) -> bool
     ensures { result ≡ Tests·repeated offsets }
 {
-    let mut at: usize = 0;
-    while at < 16 {
-        if stands_from(offsets, at + 1, offsets[at]) {
+    for (at, &offset) in offsets.iter().enumerate() {
+        if stands_from(offsets, at + 1, offset) {
             return true;
         }
-        at += 1;
     }
     false
 }

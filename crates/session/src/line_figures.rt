@@ -9,11 +9,11 @@ ghost use Rattle.session.specs.Sessions.{stands_for, Wide, Gives};
 use crate::Session;
 use answers::line_figures::put_figures;
 use figures::frames::figures;
-use figures::report::LineFigures;
+use figures::report::{Figures, UnfitFrames};
 use trace::pairs::pairs_of;
 
 // Of a longer list the first 1,025 frames decide.
-fn figures_of(s: &[u8]) -> LineFigures
+fn figures_of(s: &[u8]) -> Result<Figures, UnfitFrames>
     ensures { result ≡ figures_of (firsts_in s.now) (seconds_in s.now) }
 {
     let mut starts = [0u64; 1025];

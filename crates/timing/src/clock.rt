@@ -3,7 +3,7 @@ ghost use Rattle.std.specs.Prelude.{◌≡◌};
 ghost use Rattle.model.specs.Calls.{period_of};
 ghost use Rattle.model.specs.SetUp.{power_on};
 
-#[derive(Clone, Copy)]
+#[derive(Clone, Copy, PartialEq, Eq, Debug)]
 pub struct Clock {
     // Cycles in one APB clock cycle; at least 1.
     pub apb_period: u64,
@@ -27,12 +27,8 @@ impl Clock {
     pub fn new(apb_period: u64) -> Clock
         ensures { result.apb_period ≡ period_of apb_period }
     {
-        if apb_period == 0 {
-            Clock { apb_period: 1 }
-        } else {
-            Clock {
-                apb_period: apb_period,
-            }
+        Clock {
+            apb_period: apb_period.max(1),
         }
     }
 }

@@ -14,12 +14,6 @@ ghost use Rattle.model.specs.Tests.{period_limit};
 
 use model::{Settings, Words};
 
-fn wide(x: u32) -> u64
-    ensures { result ≡ x }
-{
-    x as u64
-}
-
 // Codes 0 and 1 count 2 half bits, 2 counts 3, 3 counts 4.
 // ASSUMPTION: code 0, which no source defines, lasts one stop bit; it is refused by name when written. A frame timed on a chip
 // set that way settles it.
@@ -37,8 +31,8 @@ fn stop_half_bits(code: u32) -> u64
 pub fn frame_half_bits(conf0: u32) -> u64
     ensures { result ≡ frame_half_bits conf0 }
 {
-    let data = wide(registers::fields::bit_num(conf0));
-    let parity = wide(registers::fields::parity_en(conf0));
+    let data = u64::from(registers::fields::bit_num(conf0));
+    let parity = u64::from(registers::fields::parity_en(conf0));
     let stop = stop_half_bits(registers::fields::stop_bit_num(conf0));
     2 * (1 + (5 + data) + parity) + stop
 }
@@ -49,15 +43,15 @@ pub fn frame_half_bits(conf0: u32) -> u64
 fn divider(clkdiv: u32) -> u64
     ensures { result ≡ Timing·divider clkdiv }
 {
-    let integer = wide(registers::fields::clkdiv_integer(clkdiv));
-    let frag = wide(registers::fields::clkdiv_frag(clkdiv));
+    let integer = u64::from(registers::fields::clkdiv_integer(clkdiv));
+    let frag = u64::from(registers::fields::clkdiv_frag(clkdiv));
     16 * integer + frag
 }
 
 fn source_divider(clk_conf: u32) -> u64
     ensures { result ≡ source_divider clk_conf }
 {
-    wide(registers::fields::sclk_div_num(clk_conf)) + 1
+    u64::from(registers::fields::sclk_div_num(clk_conf)) + 1
 }
 
 // Half a bit, in subcycles.
@@ -93,7 +87,7 @@ pub fn timeout_time(w: Words, period: u64) -> u64
     requires { period ≤ period_limit }
     ensures { result ≡ timeout_time w period }
 {
-    wide(registers::fields::rx_tout_thrhd(w.mem_conf)) * bit_time(w, period)
+    u64::from(registers::fields::rx_tout_thrhd(w.mem_conf)) * bit_time(w, period)
 }
 
 // What the receiver reads of the registers and the clock.

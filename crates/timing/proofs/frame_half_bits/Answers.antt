@@ -11,9 +11,9 @@ pub returns : goal.returns
 unfolding frame_half_bits
 returns c =
     rw (
-      c.wide-data.ensures,
+      c.from-data.ensures,
       c.bit_num.ensures,
-      c.wide-parity.ensures,
+      c.from-parity.ensures,
       c.parity_en.ensures,
       c.stop_half_bits-stop.ensures,
       c.stop_bit_num.ensures,

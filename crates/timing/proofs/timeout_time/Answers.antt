@@ -7,7 +7,7 @@ use Rattle.timing.proofs.timeout_time.Goals as goal
 pub overflow_mul-result : goal.overflow_mul-result
 unfolding timeout_time
 overflow_mul-result c =
-    rw (c.wide.ensures, c.rx_tout_thrhd.ensures, c.bit_time.ensures)
+    rw (c.from.ensures, c.rx_tout_thrhd.ensures, c.bit_time.ensures)
     (omega (
       arith,
       timeout-most c.args.w c.args.period
@@ -16,4 +16,4 @@ overflow_mul-result c =
 
 pub returns : goal.returns
 unfolding timeout_time
-returns c = rw (c.wide.ensures, c.rx_tout_thrhd.ensures, c.bit_time.ensures)
+returns c = rw (c.from.ensures, c.rx_tout_thrhd.ensures, c.bit_time.ensures)

@@ -6,13 +6,13 @@ use Rattle.text.specs.Digits.{letter}
 use Rattle.answers.specs.LineFigures.{figures_text}
 use Rattle.answers.proofs.line_figures.put_figures.Goals as goal
 
-pub returns-in-Refused : goal.returns-in-Refused
+pub returns-in-Err : goal.returns-in-Err
 unfolding number decimal_up_to letter
-returns-in-Refused c =
-    put_of figures_text c.in-Refused.is c.put.ensures
+returns-in-Err c =
+    put_of figures_text c.in-Err.is c.put.ensures
 
-pub returns-in-Figures : goal.returns-in-Figures
-returns-in-Figures c =
-    let e = c.in-Figures.is in
+pub returns-in-Ok : goal.returns-in-Ok
+returns-in-Ok c =
+    let e = c.in-Ok.is in
     put_of figures_text e (and_then (and_then (and_then c.put_stretch-stretch.ensures c.put_field-mean.ensures)
-    c.put_field-remainder.ensures) (λ _. c.put-in-Figures.ensures) (room_of figures_text e c.requires))
+    c.put_field-remainder.ensures) (λ _. c.put-in-Ok.ensures) (room_of figures_text e c.requires))

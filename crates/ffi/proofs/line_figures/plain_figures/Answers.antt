@@ -4,10 +4,10 @@ use Rattle.figures.specs.Figures.{number}
 use Rattle.ffi.specs.Figures.{plain_figures}
 use Rattle.ffi.proofs.line_figures.plain_figures.Goals as goal
 
-pub returns-in-Figures : goal.returns-in-Figures
+pub returns-in-Ok : goal.returns-in-Ok
 unfolding plain_figures number
-returns-in-Figures c = rw c.plain_place-place.ensures (sym (ap plain_figures c.in-Figures.is))
+returns-in-Ok c = rw c.plain_place-place.ensures (sym (ap plain_figures c.in-Ok.is))
 
-pub returns-in-Refused : goal.returns-in-Refused
+pub returns-in-Err : goal.returns-in-Err
 unfolding plain_figures number
-returns-in-Refused c = sym (ap plain_figures c.in-Refused.is)
+returns-in-Err c = sym (ap plain_figures c.in-Err.is)

@@ -6,6 +6,6 @@ pub returns-in-None : goal.returns-in-None
 unfolding plain_place
 returns-in-None c = cc
 
-pub returns-in-At : goal.returns-in-At
+pub returns-in-Some : goal.returns-in-Some
 unfolding plain_place
-returns-in-At c = cc
+returns-in-Some c = cc

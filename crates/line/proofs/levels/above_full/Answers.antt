@@ -4,4 +4,4 @@ use Rattle.line.proofs.levels.above_full.Goals as goal
 
 pub returns : goal.returns
 unfolding above_full
-returns c = rw (c.wide.ensures, c.rxfifo_full_thrhd.ensures)
+returns c = rw c.rxfifo_full_thrhd.ensures

@@ -4,4 +4,4 @@ use Rattle.line.proofs.levels.below_empty.Goals as goal
 
 pub returns : goal.returns
 unfolding below_empty empty_threshold
-returns c = rw (c.in_fifo.ensures, c.wide.ensures, c.txfifo_empty_thrhd.ensures)
+returns c = rw (c.in_fifo.ensures, c.txfifo_empty_thrhd.ensures)

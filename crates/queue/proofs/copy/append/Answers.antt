@@ -9,7 +9,7 @@ pub returns : goal.returns
 returns c =
     let then = c.copy_run-2.ensures in
     let copy = c.copy_run.ensures in
-    let first = c.smaller-first.ensures in
+    let first = c.min-first.ensures in
     let slot = c.back-at.ensures.0 in
     let begin = c in
     let a = begin.args in

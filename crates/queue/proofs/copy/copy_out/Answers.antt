@@ -7,7 +7,7 @@ pub returns : goal.returns
 returns c =
     let then = c.copy_run-2.ensures in
     let copy = c.copy_run.ensures in
-    let first = c.smaller-first.ensures in
+    let first = c.min-first.ensures in
     let begin = c in
     let a = begin.args in
     let p = begin.requires in

@@ -7,23 +7,20 @@ use Rattle.registers.proofs.places.place_of.Goals as goal
 
 pub loop-at-init : goal.loop-at-init
 unfolding register_of
-loop-at-init c = (omega arith, omega arith, refl)
+loop-at-init c = refl
 
-pub returns-then-offsets-at : goal.returns-then-offsets-at
-returns-then-offsets-at c =
+pub returns-then-known-offset : goal.returns-then-known-offset
+returns-then-known-offset c =
     nth-register c.loop-at.at _ (omega arith)
     ∙ register-found c.loop-at.at c.args.offset _ registers (omega arith)
-    (omega arith) c.if-offsets-at.true
-    ∙ c.loop-at.invariant.2
+    (omega arith) c.if-known-offset.true
+    ∙ c.loop-at.invariant
 
 pub loop-at-preserved : goal.loop-at-preserved
-loop-at-preserved c = (
-  omega arith,
-  c.loop-at.invariant.1,
-  sym (register-passed c.loop-at.at c.args.offset _ registers (omega arith) (omega arith)
-      c.if-offsets-at.false) ∙ c.loop-at.invariant.2,
-)
+loop-at-preserved c =
+    sym (register-passed c.loop-at.at c.args.offset _ registers (omega arith) (omega arith)
+    c.if-known-offset.false) ∙ c.loop-at.invariant
 
 pub returns : goal.returns
 unfolding register_at
-returns c = register-end c.loop-at.at _ _ registers (omega arith) ∙ c.loop-at.invariant.2
+returns c = register-end c.loop-at.at _ _ registers (omega arith) ∙ c.loop-at.invariant

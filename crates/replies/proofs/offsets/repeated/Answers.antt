@@ -5,20 +5,17 @@ use Rattle.replies.specs.Offsets.{repeated-found, repeated-passed, repeated-end}
 use Rattle.replies.proofs.offsets.repeated.Goals as goal
 
 pub loop-at-init : goal.loop-at-init
-loop-at-init c = (omega arith, omega arith, refl)
+loop-at-init c = refl
 
 pub returns-then-stands_from : goal.returns-then-stands_from
 returns-then-stands_from c =
     repeated-found c.loop-at.at _ (omega arith) (sym c.stands_from.ensures ∙ c.if-stands_from.true)
-    ∙ c.loop-at.invariant.2
+    ∙ c.loop-at.invariant
 
 pub loop-at-preserved : goal.loop-at-preserved
-loop-at-preserved c = (
-  omega arith,
-  c.loop-at.invariant.1,
-  sym (repeated-passed c.loop-at.at _ (omega arith) (sym c.stands_from.ensures ∙ c.if-stands_from.false))
-      ∙ c.loop-at.invariant.2,
-)
+loop-at-preserved c =
+    sym (repeated-passed c.loop-at.at _ (omega arith) (sym c.stands_from.ensures ∙ c.if-stands_from.false))
+    ∙ c.loop-at.invariant
 
 pub returns : goal.returns
-returns c = repeated-end c.loop-at.at _ (omega arith) ∙ c.loop-at.invariant.2
+returns c = repeated-end c.loop-at.at _ (omega arith) ∙ c.loop-at.invariant
