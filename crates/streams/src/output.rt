@@ -5,7 +5,7 @@ use crate::failure::tell;
 use text::parts::within;
 
 // It is filled up to `at`; nothing is put to it or written after a write that failed.
-#[derive(Clone, Copy)]
+#[derive(Clone, Copy, Debug, PartialEq, Eq)]
 pub struct Output {
     pub at: usize,
     pub failed: bool,
