@@ -53,10 +53,7 @@ pub fn keep_up(
 ) -> Output
     ensures { KeepsUp line full output result }
 {
-    if line {
-        if output.at > full {
-            return flush(rt, output, out, name);
-        }
+    if line && output.at <= full {
         return output;
     }
     flush(rt, output, out, name)
