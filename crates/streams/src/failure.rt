@@ -22,8 +22,5 @@ fn reason<'a>(error: Error, text: &'a mut [u8; 128]) -> &'a str {
 }
 
 fn before<'a>(text: &'a str, end: &str) -> &'a str {
-    match text.split_once(end) {
-        Some((front, _)) => front,
-        None => text,
-    }
+    text.split_once(end).map_or(text, |(front, _)| front)
 }

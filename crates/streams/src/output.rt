@@ -5,7 +5,7 @@ use crate::failure::tell;
 use text::parts::within;
 
 // It is filled up to `at`; nothing is put to it or written after a write that failed.
-#[derive(Clone, Copy)]
+#[derive(Clone, Copy, Debug, PartialEq, Eq)]
 pub struct Output {
     pub at: usize,
     pub failed: bool,
@@ -53,10 +53,7 @@ pub fn keep_up(
 ) -> Output
     ensures { KeepsUp line full output result }
 {
-    if line {
-        if output.at > full {
-            return flush(rt, output, out, name);
-        }
+    if line && output.at <= full {
         return output;
     }
     flush(rt, output, out, name)

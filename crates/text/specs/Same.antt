@@ -1,9 +1,10 @@
 -- Whether two lists hold the same bytes, as a test. Assumes nothing.
-use Rattle.std.specs.Prelude.{◌≡◌, refl, Bool, true, false, List, [], ◌∷◌, ℕ, suc, ◌+◌, ◌<◌, ◌≤◌, eqb, length, get_or, drop}
+use Rattle.std.specs.Prelude.{◌≡◌, refl, Bool, true, false, ◌&&◌, List, [], ◌∷◌, ℕ, suc, ◌+◌, ◌<◌, ◌≤◌, eqb, length, get_or, drop}
 use Rattle.std.proofs.Common.{ap, ap₂, add-one}
 use borrow.Author.Tests.{eq-eqb, ne_eqb, eqb-true}
 use Rattle.std.proofs.Math.ListN.{drop_of_length-le}
 use Rattle.std.proofs.Math.Seq.{drop-cons}
+use lib.Pointwise.{pointwise}
 use Rattle.text.specs.Pick.{pick}
 
 unfoldable pub same_bytes : List ℕ → List ℕ → Bool
@@ -57,3 +58,15 @@ module _ (a b : List ℕ) (i : ℕ) where
   pub same_end : length a ≤ i → length b ≤ i → same_bytes (drop i a) (drop i b) ≡ true
   unfolding same_bytes
   same_end h k = rw (drop_of_length-le a h, drop_of_length-le b k)
+
+-- what the test of two slices answers
+pub same_pointwise : (a b : List ℕ) → pointwise eqb a b ≡ same_bytes a b
+unfolding same_bytes
+same_pointwise [] [] = refl
+same_pointwise [] (y ∷ b) = refl
+same_pointwise (x ∷ a) [] = refl
+same_pointwise (x ∷ a) (y ∷ b) = by-test (eqb x y) (same_pointwise a b)
+  where
+    by-test : (t : Bool) → pointwise eqb a b ≡ same_bytes a b → t && pointwise eqb a b ≡ pick t (same_bytes a b) false
+    by-test true e = e
+    by-test false e = refl

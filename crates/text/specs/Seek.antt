@@ -1,14 +1,15 @@
 -- The next place at which a test on bytes passes. Assumes nothing.
-use Rattle.std.specs.Prelude.{◌≡◌, Bool, not, eqb, get_or, drop}
-use Rattle.std.proofs.Math.Path.{ap}
-use Rattle.std.proofs.Common.{sym, ◌∙◌, ⊎_elim, add-zero, le_of_suc-le-suc, add-one, drop_of_length-le, get_or-drop}
+use Rattle.std.specs.Prelude.{◌≡◌, Bool, cond, not, min, eqb, get_or, take, drop}
+use Rattle.std.specs.List.{prefix_len}
+use Rattle.std.proofs.Math.Path.{refl, ap}
+use Rattle.std.proofs.Common.{sym, ◌∙◌, ⊎_elim, add-zero, le_of_suc-le-suc, add-one, drop_of_length-le, get_or-drop, take_all}
 use Rattle.std.proofs.Math.Bool.{true, false}
 use mathlib.Core.List.{List, [], ◌∷◌}
 use Prim.Native.Nat.{ℕ, zero, suc, ◌+◌, ◌-◌, ◌<◌, ◌≤◌}
 use native.Mathlib.Omega.{arith}
 use Rattle.std.proofs.Math.ListN.{length, length-drop}
 use Rattle.std.proofs.Math.Seq.{drop-cons}
-use Rattle.text.specs.Pick.{pick, decided}
+use Rattle.text.specs.Pick.{pick, decided, side}
 
 abbrev pub is_byte : ℕ → ℕ → Bool
 is_byte byte b = eqb b byte
@@ -26,6 +27,28 @@ unfoldable pub seek : (ℕ → Bool) → List ℕ → ℕ → ℕ
 seek stop s at = at + before stop (drop at s)
 
 -- ---- laws
+
+-- what stands before the first that passes is the front on which another test passes
+pub before-prefix : (stop test : ℕ → Bool) → ((b : ℕ) → stop b ≡ not (test b)) → (s : List ℕ) → before stop s ≡ prefix_len test s
+unfolding before
+before-prefix stop test e [] = refl
+before-prefix stop test e (b ∷ s) = rw (e b) (by-test (test b) (before-prefix stop test e s))
+  where
+    by-test : (t : Bool) → before stop s ≡ prefix_len test s → pick (not t) 0 (suc (before stop s)) ≡ cond t (1 + prefix_len test s) 0
+    by-test true r = omega arith
+    by-test false r = refl
+
+-- past the end there is nothing left
+pub drop-within : (s : List ℕ) (at : ℕ) → drop (min at (length s)) s ≡ drop at s
+drop-within s at =
+    ⊎_elim
+    (λ (h : at < length s). let e : min at (length s) ≡ at = omega arith in ap (λ (k : ℕ). drop k s) e)
+    (λ (h : length s ≤ at). drop_of_length-le s {i = min at (length s)} (omega arith) ∙ sym (drop_of_length-le s h))
+    (side at (length s))
+
+pub rest-within : (s : List ℕ) (at m : ℕ) → m ≡ min at (length s) → take (length s - m) (drop m s) ≡ drop at s
+rest-within s at m e =
+    take_all (length s - m) (drop m s) (omega (arith, length-drop m s)) ∙ ap (λ (k : ℕ). drop k s) e ∙ drop-within s at
 
 module _ (stop : ℕ → Bool) where
   pub before-stop : (b : ℕ) (s : List ℕ) → stop b ≡ true → before stop (b ∷ s) ≡ 0

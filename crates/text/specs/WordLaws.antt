@@ -1,8 +1,8 @@
 -- The next word of a line, and then those after its end, are the words of the line. Assumes nothing.
-use Rattle.std.specs.Prelude.{◌≡◌, refl, true, false, not, List, [], ◌∷◌, ℕ, ◌+◌, ◌-◌, ◌<◌, ◌≤◌, min, eqb, length, take, drop}
-use Rattle.std.proofs.Common.{ap, sym, ◌∙◌, ⊎_elim, arith, drop_of_length-le, drop-drop}
-use Rattle.text.specs.Pick.{decided, side}
-use Rattle.text.specs.Seek.{is_byte, is_other, before, before-stop, before_on, seek}
+use Rattle.std.specs.Prelude.{◌≡◌, refl, true, false, not, List, [], ◌∷◌, ℕ, ◌+◌, ◌-◌, min, eqb, length, take, drop}
+use Rattle.std.proofs.Common.{ap, sym, ◌∙◌, ⊎_elim, arith, drop-drop}
+use Rattle.text.specs.Pick.{decided}
+use Rattle.text.specs.Seek.{is_byte, is_other, before, before-stop, before_on, seek, drop-within}
 use Rattle.text.specs.Words.{space, onto, pieces, joined, filled, words, word_start, word_end}
 
 -- a space, and a letter, in front
@@ -57,14 +57,6 @@ words-first : (s : List ℕ) → words s ≡ joined (take (before (is_byte space
 unfolding words filled
 words-first s = ap filled (first_piece s) ∙ ap (joined (take (before (is_byte space) s) s)) (rest-words s)
 
-from-within : (s : List ℕ) (at : ℕ) → drop at s ≡ drop (min at (length s)) s
-from-within s at =
-    ⊎_elim
-    (λ (h : at < length s). let e : at ≡ min at (length s) = omega arith in ap (λ (k : ℕ). drop k s) e)
-    (λ (h : length s ≤ at).
-    drop_of_length-le s h ∙ sym (drop_of_length-le s {i = min at (length s)} (omega arith)))
-    (side at (length s))
-
 -- the words from a place on are the next word, where there is one, and the words from its end on
 pub words-next : (s : List ℕ) (at : ℕ)
     → words (drop at s) ≡ joined (take (word_end s at - word_start s at) (drop (word_start s at) s)) (words (drop (word_end s at) s))
@@ -75,7 +67,7 @@ words-next s at =
     let u = drop (from + k) s in
     let m = before (is_byte space) u in
     let width : from + k + m - (from + k) ≡ m = omega arith in
-    ap words (from-within s at)
+    ap words (sym (drop-within s at))
     ∙ words-past (drop from s)
     ∙ ap words (drop-drop k from s)
     ∙ words-first u

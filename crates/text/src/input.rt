@@ -9,7 +9,7 @@ use crate::parts::within;
 
 // Of the chunk the bytes from `at` up to `end` are not passed yet. The line that has begun stands in the first `len` bytes of
 // the buffer, unless it is too long for it; `whole` says that it ends. `more` says that another chunk may come.
-#[derive(Clone, Copy)]
+#[derive(Clone, Copy, Debug, PartialEq, Eq)]
 pub struct Input {
     pub at: usize,
     pub end: usize,
@@ -37,23 +37,14 @@ pub fn begin() -> Input
 pub fn has_line(input: Input) -> bool
     ensures { result ≡ has_line input }
 {
-    if input.whole {
-        return true;
-    }
-    if input.more {
-        return false;
-    }
-    if input.long {
-        return true;
-    }
-    0 < input.len
+    input.whole || !input.more && (input.long || 0 < input.len)
 }
 
 // Whether a line of `len` bytes is too long with `more` after them.
 fn too_long(long: bool, size: usize, len: usize, more: usize) -> bool
     ensures { result ≡ pick (ltb (size - len) more) true long }
 {
-    if room(size, len) < more { true } else { long }
+    long || room(size, len) < more
 }
 
 // One piece more of a line: what has no room makes it too long.
@@ -95,7 +86,6 @@ pub fn next_line(mut input: Input, chunk: &[u8; 65536], line: &mut [u8; 65536]) 
         input.len = 0;
         input.long = false;
         input.whole = false;
-        return gather(input, chunk, line);
     }
     gather(input, chunk, line)
 }

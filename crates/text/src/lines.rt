@@ -5,7 +5,7 @@ ghost use Rattle.text.specs.Lines.{piece_at};
 use crate::scan::seek;
 
 // A part of a line, up to `end`; `whole` says that the line ends there. The next one begins at `next`.
-#[derive(Clone, Copy)]
+#[derive(Clone, Copy, Debug, PartialEq, Eq)]
 pub struct Piece {
     pub end: usize,
     pub next: usize,

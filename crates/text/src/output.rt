@@ -10,18 +10,16 @@ use crate::letters::letter;
 pub fn room(len: usize, at: usize) -> usize
     ensures { result ≡ len - at }
 {
-    if at < len { len - at } else { 0 }
+    len.saturating_sub(at)
 }
 
+// Past the end there is room for no bytes.
 fn copy(out: &mut [u8], at: usize, s: &[u8])
     requires { length s.now ≤ length out.old - at }
     ensures { out.new ≡ stored out.old at s.now }
 {
-    let mut i = 0;
-    while i < s.len() {
-        out[at + i] = s[i];
-        i += 1;
-    }
+    let from = at.min(out.len());
+    out[from..from + s.len()].copy_from_slice(s);
 }
 
 // Puts the bytes of `s` and gives the place after them.
@@ -51,11 +49,9 @@ fn spell_pairs(out: &mut [u8], at: usize, s: &[u8])
     requires { 2 * length s.now ≤ length out.old - at }
     ensures { out.new ≡ stored out.old at (hex_pairs s.now) }
 {
-    let mut i = 0;
-    while i < s.len() {
-        out[at + 2 * i] = high_letter(s[i]);
-        out[at + 2 * i + 1] = low_letter(s[i]);
-        i += 1;
+    for (i, b) in s.iter().enumerate() {
+        out[at + 2 * i] = high_letter(*b);
+        out[at + 2 * i + 1] = low_letter(*b);
     }
 }
 

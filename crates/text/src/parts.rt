@@ -7,5 +7,5 @@ pub fn within(count: usize, s: &[u8]) -> usize
     ensures prefix_len { IsPrefixLen result s.now }
     ensures value { result ≡ min count (length s.now) }
 {
-    if count < s.len() { count } else { s.len() }
+    count.min(s.len())
 }

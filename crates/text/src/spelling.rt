@@ -15,7 +15,7 @@ fn last_letter(n: u64) -> u8
     letter((n % 10) as u8)
 }
 
-// Stores the digits of `n` at the back of `to` and gives where they start.
+// Stores the digits of `n` at the back of `to` and gives where they start. No `for` counts them: how many there are shows at the end.
 fn spell_decimal(to: &mut [u8], n: u64) -> usize
     requires { length to.old ≡ 20 }
     ensures { (result ≤ 20) × (drop result to.new ≡ decimal n) }

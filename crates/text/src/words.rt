@@ -6,7 +6,7 @@ use crate::parts::within;
 use crate::scan::{seek, skip};
 
 // A word's bytes are those from `start` up to, and without, `end`. Where the two are equal there is no word.
-#[derive(Clone, Copy)]
+#[derive(Clone, Copy, Debug, PartialEq, Eq)]
 pub struct Word {
     pub start: usize,
     pub end: usize,

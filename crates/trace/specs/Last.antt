@@ -1,10 +1,10 @@
 -- The last word of a call. Assumes nothing.
-use Rattle.std.specs.Prelude.{◌≡◌, true, false, List, [], ◌∷◌, ℕ}
+use Rattle.std.specs.Prelude.{◌≡◌, true, false, List, [], ◌∷◌, ℕ, Result, Ok, Err}
 use Rattle.text.specs.Pick.{pick}
 use Rattle.text.specs.Same.{same_bytes}
 use Rattle.text.specs.declared.words.Word.{Word}
 use Rattle.text.specs.Hexes.{bytes_read, bytes_stored}
-use Rattle.text.specs.declared.hex.BytesRead.{BytesRead}
+use Rattle.text.specs.declared.hex.NotBytes.{NotBytes}
 use Rattle.trace.specs.declared.faults.Reason.{Reason}
 use Rattle.trace.specs.declared.arguments.Last.{Last}
 use Rattle.trace.specs.declared.names.Name.{Name}
@@ -25,10 +25,9 @@ unfoldable pub bit_at : List ℕ → ℕ → Step
 bit_at s at = word_at s at (missing s) (bit_in s)
 
 -- bytes, for which a buffer has room; the number is how many
-abbrev pub bytes_step : Word → BytesRead → Step
-bytes_step w (BytesRead.Count n) = Step.To w.end n
-bytes_step w BytesRead.NoBytes = wrong Reason.NoBytes w
-bytes_step w BytesRead.NoRoom = wrong Reason.NoBytes w
+abbrev pub bytes_step : Word → Result ℕ NotBytes → Step
+bytes_step w (Ok n) = Step.To w.end n
+bytes_step w (Err e) = wrong Reason.NoBytes w
 
 abbrev pub bytes_step_in : ℕ → List ℕ → Word → Step
 bytes_step_in room s w = bytes_step w (bytes_read room (bytes_in s w))

@@ -1,8 +1,7 @@
 -- One number of a line. Assumes nothing.
-use Rattle.std.specs.Prelude.{List, ℕ}
+use Rattle.std.specs.Prelude.{List, ℕ, Option, Some, None}
 use Rattle.text.specs.declared.words.Word.{Word}
 use Rattle.text.specs.Numbers.{limit32, number_of}
-use Rattle.text.specs.declared.numbers.Number.{Number}
 use Rattle.trace.specs.declared.faults.Reason.{Reason}
 use Rattle.trace.specs.declared.step.Step.{Step}
 use Rattle.trace.specs.declared.number.Kind.{Kind}
@@ -21,9 +20,9 @@ reason_of Wide = Reason.NoNumber
 reason_of Narrow = Reason.NoNumber32
 reason_of Length = Reason.NoLength
 
-abbrev pub number_step : Kind → Word → Number → Step
-number_step kind w (Number.Value n) = Step.To w.end n
-number_step kind w Number.NoNumber = wrong (reason_of kind) w
+abbrev pub number_step : Kind → Word → Option ℕ → Step
+number_step kind w (Some n) = Step.To w.end n
+number_step kind w None = wrong (reason_of kind) w
 
 -- the next word as a number
 abbrev pub number_in : List ℕ → Kind → Word → Step

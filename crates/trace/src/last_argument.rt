@@ -9,7 +9,7 @@ use crate::names::Name;
 use crate::number::{Kind, read_one};
 use crate::pairs::read_pairs;
 use crate::step::{Step, missing, wrong};
-use text::hex::{BytesRead, read_bytes};
+use text::hex::read_bytes;
 use text::names::same;
 use text::words::next_word;
 
@@ -45,9 +45,8 @@ fn read_hex(s: &[u8], at: usize, bytes: &mut [u8]) -> Step
     }
     let read = read_bytes(&s[start..end], bytes);
     match read {
-        BytesRead::Count(count) => Step::To(end, count as u64),
-        BytesRead::NoBytes => wrong(Reason::NoBytes, word),
-        BytesRead::NoRoom => wrong(Reason::NoBytes, word),
+        Ok(count) => Step::To(end, count as u64),
+        Err(_) => wrong(Reason::NoBytes, word),
     }
 }
 

@@ -4,7 +4,7 @@ ghost use Rattle.trace.specs.One.{limit_of, reason_of, number_at};
 
 use crate::faults::Reason;
 use crate::step::{Step, missing, wrong};
-use text::numbers::{Number, read_number};
+use text::numbers::read_number;
 use text::words::next_word;
 
 // A number of 64 bits, one of 32, or the length of a buffer that a call may lend.
@@ -47,7 +47,7 @@ pub fn read_one(s: &[u8], at: usize, kind: Kind) -> Step
     }
     let number = read_number(&s[start..end], limit_of(kind));
     match number {
-        Number::Value(value) => Step::To(end, value),
-        Number::NoNumber => wrong(reason_of(kind), word),
+        Some(value) => Step::To(end, value),
+        None => wrong(reason_of(kind), word),
     }
 }

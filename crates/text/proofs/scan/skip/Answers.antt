@@ -1,22 +1,22 @@
--- `scan::skip` meets its contract. The loop's invariant: the place is the same from `i` on. Assumes nothing.
-use mathlib.Core.Path.{refl, ap, sym, ◌∙◌}
-use mathlib.Core.Bool.{not}
-use borrow.Author.Tests.{eq-eqb, ne_eqb}
-use Rattle.text.specs.Seek.{is_other, seek-here, seek-on, seek-end}
+-- `scan::skip` meets its contract: it counts what stands before the place. Assumes nothing.
+use Rattle.std.proofs.Common.{ap, sym, ◌∙◌, refl, List, ℕ, ◌+◌, ◌-◌, rules, tests, Bool, eqb, take, drop, length}
+use Rattle.std.proofs.lemmas.Iterator.{YieldsList-from_slice}
+use Rattle.std.proofs.lemmas.Iterator.Consumers.{YieldsList-at, count_from_yields_List}
+use Rattle.std.proofs.lemmas.Iterator.Search.{YieldsList-from_take_while}
+use Rattle.std.proofs.lemmas.List.Folds.{length-prefix_len}
+use Rattle.text.specs.Seek.{is_other, seek, before, before-prefix, rest-within}
 use Rattle.text.proofs.scan.skip.Goals as goal
 
-pub loop-i-init : goal.loop-i-init
-loop-i-init c = refl
-
-pub returns-then-s-i : goal.returns-then-s-i
-returns-then-s-i c =
-    sym (c.loop-i.invariant ∙ seek-here (is_other c.args.byte) _ _
-    c.loop-i-test.true (ap not (ne_eqb _ _ c.if-s-i.true)))
-
-pub loop-i-preserved : goal.loop-i-preserved
-loop-i-preserved c =
-    c.loop-i.invariant ∙ seek-on (is_other c.args.byte) _ _
-    c.loop-i-test.true (ap not (eq-eqb _ _ c.if-s-i.false))
-
 pub returns : goal.returns
-returns c = sym (c.loop-i.invariant ∙ seek-end (is_other c.args.byte) _ _ c.loop-i-test.false)
+unfolding seek
+returns c =
+    let a = c.args in
+    let m = c.min.result in
+    let rest = take (length a.s.now - m) (drop m a.s.now) in
+    let test : ℕ → Bool = λ b. eqb b c.args.byte in
+    let count =
+    count_from_yields_List c.take_while.result _ c.count.ensures.ran
+    (YieldsList-from_take_while _ test (YieldsList-at c.take_while.ensures.source (YieldsList-from_slice rest c.iter.ensures.rest))
+    c.take_while.ensures.closure c.take_while.ensures.done (λ x b q k. search (rules, tests))) in
+    ap (λ (k : ℕ). a.at + k) (count ∙ length-prefix_len test rest ∙ sym (before-prefix (is_other a.byte) test (λ b. refl) rest))
+    ∙ ap (λ (l : List ℕ). a.at + before (is_other a.byte) l) (rest-within a.s.now a.at m c.min.ensures)

@@ -16,12 +16,12 @@ returns-then-start-end c =
       bytes_after = no_word a.s.now a.at w.result w.ensures.next a.bytes.now (bytes_kept_in a.s.now a.bytes.now) none;
     }
 
-pub returns-in-Count : goal.returns-in-Count
+pub returns-in-Ok : goal.returns-in-Ok
 unfolding bytes_at bytes_kept
-returns-in-Count c =
+returns-in-Ok c =
     let a = c.args in
     let w = c.next_word-word in
-    let read = sym c.in-Count.is ∙ c.read_bytes-read.ensures.value in
+    let read = sym c.in-Ok.is ∙ c.read_bytes-read.ensures.value in
     let some = c.if-start-end.false in record {
       value = ap (bytes_step w.result) read ∙ some_word a.s.now a.at w.result w.ensures.next (missing a.s.now)
           (bytes_step_in (length a.bytes.now) a.s.now) some;
@@ -29,28 +29,14 @@ returns-in-Count c =
           ∙ some_word a.s.now a.at w.result w.ensures.next _ (bytes_kept_in a.s.now a.bytes.now) some;
     }
 
-pub returns-in-NoBytes : goal.returns-in-NoBytes
+pub returns-in-Err : goal.returns-in-Err
 unfolding bytes_at bytes_kept
-returns-in-NoBytes c =
+returns-in-Err c =
     let a = c.args in
     let w = c.next_word-word in
-    let read = sym c.in-NoBytes.is ∙ c.read_bytes-read.ensures.value in
+    let read = sym c.in-Err.is ∙ c.read_bytes-read.ensures.value in
     let some = c.if-start-end.false in record {
       value = c.wrong.ensures ∙ ap (bytes_step w.result) read
-          ∙ some_word a.s.now a.at w.result w.ensures.next (missing a.s.now)
-          (bytes_step_in (length a.bytes.now) a.s.now) some;
-      bytes_after = c.read_bytes-read.ensures.to_after
-          ∙ some_word a.s.now a.at w.result w.ensures.next _ (bytes_kept_in a.s.now a.bytes.now) some;
-    }
-
-pub returns-in-NoRoom : goal.returns-in-NoRoom
-unfolding bytes_at bytes_kept
-returns-in-NoRoom c =
-    let a = c.args in
-    let w = c.next_word-word in
-    let read = sym c.in-NoRoom.is ∙ c.read_bytes-read.ensures.value in
-    let some = c.if-start-end.false in record {
-      value = c.wrong-in-NoRoom.ensures ∙ ap (bytes_step w.result) read
           ∙ some_word a.s.now a.at w.result w.ensures.next (missing a.s.now)
           (bytes_step_in (length a.bytes.now) a.s.now) some;
       bytes_after = c.read_bytes-read.ensures.to_after

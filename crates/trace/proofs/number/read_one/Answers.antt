@@ -18,34 +18,28 @@ returns-then-start-end c =
 pub slice_bounds-read_number-count : goal.slice_bounds-read_number-count
 slice_bounds-read_number-count c = c.next_word-word.ensures.ordered
 
-pub enum_known-number : goal.enum_known-number
-enum_known-number c = c.in-Value.in-Value-own.keys1
-
-pub enum_told-1 : goal.enum_told-1
-enum_told-1 c = c.in-NoNumber.in-NoNumber-own.keys2
-
-pub returns-in-Value : goal.returns-in-Value
+pub returns-in-Some : goal.returns-in-Some
 unfolding number_at
-returns-in-Value c =
+returns-in-Some c =
     let a = c.args in
     let w = c.next_word-word in
     let read =
-    c.read_number-number.ensures
+    c.read_number-number.ensures.value
     ∙ ap (λ (k : ℕ). number_of k (bytes_in a.s.now w.result)) c.limit_of.ensures in
-    ap (number_step a.kind w.result) (sym c.in-Value.is ∙ read)
+    ap (number_step a.kind w.result) (sym c.in-Some.is ∙ read)
     ∙ some_word a.s.now a.at w.result w.ensures.next (missing a.s.now) (number_in a.s.now a.kind)
     c.if-start-end.false
 
-pub returns-in-NoNumber : goal.returns-in-NoNumber
+pub returns-in-None : goal.returns-in-None
 unfolding number_at
-returns-in-NoNumber c =
+returns-in-None c =
     let a = c.args in
     let w = c.next_word-word in
     let read =
-    c.read_number-number.ensures
+    c.read_number-number.ensures.value
     ∙ ap (λ (k : ℕ). number_of k (bytes_in a.s.now w.result)) c.limit_of.ensures in
     c.wrong.ensures
     ∙ ap (λ (r : Reason). wrong r w.result) c.reason_of.ensures
-    ∙ ap (number_step a.kind w.result) (sym c.in-NoNumber.is ∙ read)
+    ∙ ap (number_step a.kind w.result) (sym c.in-None.is ∙ read)
     ∙ some_word a.s.now a.at w.result w.ensures.next (missing a.s.now) (number_in a.s.now a.kind)
     c.if-start-end.false
