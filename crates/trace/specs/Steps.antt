@@ -1,5 +1,5 @@
 -- Reading one word more of a line. Assumes nothing.
-use Rattle.std.specs.Prelude.{◌≡◌, List, ℕ, ◌-◌, eqb, take, drop}
+use Rattle.std.specs.Prelude.{◌≡◌, List, ℕ, ◌-◌, eqb, take, drop, Result, Ok}
 use Rattle.std.proofs.Math.Path.{subst}
 use Rattle.std.proofs.Common.{eq-eqb, ne_eqb}
 use Rattle.text.specs.Pick.{pick}
@@ -17,12 +17,13 @@ bytes_in s w = take (w.end - w.start) (drop w.start s)
 abbrev pub fault : Reason → Word → Fault
 fault reason w = record { reason = reason; start = w.start; end = w.end }
 
-abbrev pub wrong : Reason → Word → Step
-wrong reason w = Step.Wrong (fault reason w)
-
 -- a word is missing: the fault is at the call's name
-abbrev pub missing : List ℕ → Step
-missing s = wrong Reason.MissingWord (next_word s 0)
+abbrev pub missing : List ℕ → Fault
+missing s = fault Reason.MissingWord (next_word s 0)
+
+-- how far a line was read, and what was read as a number
+abbrev pub step_to : ℕ → ℕ → Result Step Fault
+step_to at n = Ok (record { to = at; number = n })
 
 -- the next word from a place on, read; where there is none, what stands for it
 abbrev pub word_if : {A : Type 0} → Word → A → (Word → A) → A
