@@ -1,5 +1,5 @@
 -- The definitions at work on words of the replay format, computed. Assumes nothing.
-use Rattle.std.specs.Prelude.{◌≡◌, refl, true, false, List, [], ◌∷◌, ℕ}
+use Rattle.std.specs.Prelude.{◌≡◌, refl, true, false, List, [], ◌∷◌, ℕ, Some, None, Ok, Err}
 use Rattle.text.specs.Seek.{before, seek}
 use Rattle.text.specs.Lines.{piece_at}
 use Rattle.text.specs.Words.{onto, pieces, joined, filled, words, next_word}
@@ -9,9 +9,7 @@ use Rattle.text.specs.Numbers.{all_digits, value_after, at_most, number_after, n
 use Rattle.text.specs.Hexes.{pair_value, spelled, pairs_read, pairs_stored, bytes_read, bytes_stored}
 use Rattle.text.specs.HexText.{hex_pairs, hex_text, hex_word}
 use Rattle.text.specs.Decimal.{decimal_up_to, decimal}
-use Rattle.text.specs.declared.numbers.Number.{Number}
-use Rattle.text.specs.declared.numbers.Number32.{Number32}
-use Rattle.text.specs.declared.hex.BytesRead.{BytesRead}
+use Rattle.text.specs.declared.hex.NotBytes.{NotBytes}
 
 -- "a \tb\n": a letter, a space, a tab with its letter, a line feed
 abbrev line : List ℕ
@@ -47,32 +45,32 @@ unfolding same_bytes
 longer = refl
 
 -- "010", "0x1F", "0X1", "0x", "-"
-ten : number_of 10 (48 ∷ 49 ∷ 48 ∷ []) ≡ Number.Value 10
+ten : number_of 10 (48 ∷ 49 ∷ 48 ∷ []) ≡ Some 10
 unfolding number_of number_in number_after at_most all_digits value_after begins0x digit_value
 ten = refl
 
-above : number_of 9 (48 ∷ 49 ∷ 48 ∷ []) ≡ Number.NoNumber
+above : number_of 9 (48 ∷ 49 ∷ 48 ∷ []) ≡ None
 unfolding number_of number_in number_after at_most all_digits value_after begins0x digit_value
 above = refl
 
-hexadecimal : number32_of (48 ∷ 120 ∷ 49 ∷ 70 ∷ []) ≡ Number32.Value 31
+hexadecimal : number32_of (48 ∷ 120 ∷ 49 ∷ 70 ∷ []) ≡ Some 31
 unfolding number_of number_in number_after at_most all_digits value_after begins0x digit_value
 hexadecimal = refl
 
-upper : number32_of (48 ∷ 88 ∷ 49 ∷ []) ≡ Number32.NoNumber
+upper : number32_of (48 ∷ 88 ∷ 49 ∷ []) ≡ None
 unfolding number_of number_in number_after at_most all_digits value_after begins0x digit_value
 upper = refl
 
-bare : number32_of (48 ∷ 120 ∷ []) ≡ Number32.NoNumber
+bare : number32_of (48 ∷ 120 ∷ []) ≡ None
 unfolding number_of number_in number_after at_most all_digits value_after begins0x digit_value
 bare = refl
 
-sign : number32_of (45 ∷ 49 ∷ []) ≡ Number32.NoNumber
+sign : number32_of (45 ∷ 49 ∷ []) ≡ None
 unfolding number_of number_in number_after at_most all_digits value_after begins0x digit_value
 sign = refl
 
 -- "1a2B", "1a2", "1a-B", "-"; the faults store the byte in front of them
-two_bytes : bytes_read 4 (49 ∷ 97 ∷ 50 ∷ 66 ∷ []) ≡ BytesRead.Count 2
+two_bytes : bytes_read 4 (49 ∷ 97 ∷ 50 ∷ 66 ∷ []) ≡ Ok 2
 unfolding pairs_read spelled pair_value digit_value same_bytes
 two_bytes = refl
 
@@ -80,11 +78,11 @@ stored_bytes : bytes_stored (49 ∷ 97 ∷ 50 ∷ 66 ∷ []) (1 ∷ 2 ∷ 3 ∷ 
 unfolding pairs_stored spelled pair_value digit_value same_bytes
 stored_bytes = refl
 
-odd : bytes_read 4 (49 ∷ 97 ∷ 50 ∷ []) ≡ BytesRead.NoBytes
+odd : bytes_read 4 (49 ∷ 97 ∷ 50 ∷ []) ≡ Err NotBytes.NoBytes
 unfolding pairs_read spelled pair_value digit_value same_bytes
 odd = refl
 
-fault : bytes_read 4 (49 ∷ 97 ∷ 45 ∷ 66 ∷ []) ≡ BytesRead.NoBytes
+fault : bytes_read 4 (49 ∷ 97 ∷ 45 ∷ 66 ∷ []) ≡ Err NotBytes.NoBytes
 unfolding pairs_read spelled pair_value digit_value same_bytes
 fault = refl
 
@@ -92,11 +90,11 @@ fault-stored : bytes_stored (49 ∷ 97 ∷ 45 ∷ 66 ∷ []) (1 ∷ 2 ∷ []) �
 unfolding pairs_stored spelled pair_value digit_value same_bytes
 fault-stored = refl
 
-none : bytes_read 0 (45 ∷ []) ≡ BytesRead.Count 0
+none : bytes_read 0 (45 ∷ []) ≡ Ok 0
 unfolding same_bytes
 none = refl
 
-short : bytes_read 1 (49 ∷ 97 ∷ 50 ∷ 66 ∷ []) ≡ BytesRead.NoRoom
+short : bytes_read 1 (49 ∷ 97 ∷ 50 ∷ 66 ∷ []) ≡ Err NotBytes.NoRoom
 unfolding same_bytes
 short = refl
 

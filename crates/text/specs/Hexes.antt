@@ -1,5 +1,5 @@
 -- The bytes that a word spells: pairs of hexadecimal digits, or `-` for none. Assumes nothing.
-use Rattle.std.specs.Prelude.{◌≡◌, refl, ℕ, suc, ◌+◌, ◌*◌, ◌/◌, ◌<◌, ◌≤◌, ltb, eqb, length, get_or, set}
+use Rattle.std.specs.Prelude.{◌≡◌, refl, ℕ, suc, ◌+◌, ◌*◌, ◌/◌, ◌<◌, ◌≤◌, ltb, eqb, length, get_or, set, Result, Ok, Err}
 use Rattle.std.proofs.Math.Path.{ap, sym}
 use Rattle.std.proofs.Common.{◌∙◌, add-one, arith, length-drop, take-append-drop, drop-cons, drop-drop, drop-set-lt, length-take-le}
 use Rattle.std.proofs.Common.{take-suc-set}
@@ -10,8 +10,8 @@ use Rattle.std.proofs.Math.Seq.{append_snoc}
 use Rattle.text.specs.Pick.{pick}
 use Rattle.text.specs.Digits.{digit_value}
 use Rattle.text.specs.Same.{same_bytes}
-use Rattle.text.specs.declared.hex.BytesRead.{BytesRead}
-use Rattle.text.specs.declared.hex.BytesRead.TheVariants.{Count, NoBytes, NoRoom}
+use Rattle.text.specs.declared.hex.NotBytes.{NotBytes}
+use Rattle.text.specs.declared.hex.NotBytes.TheVariants.{NoBytes, NoRoom}
 
 -- the byte that two digits spell; 256 where one of them is no digit
 unfoldable pub pair_value : ℕ → ℕ → ℕ
@@ -25,8 +25,8 @@ spelled (high ∷ []) = []
 spelled (high ∷ low ∷ s) = pick (ltb 255 (pair_value high low)) [] (pair_value high low ∷ spelled s)
 
 -- the pairs are all of the word, or there is a fault
-unfoldable pub pairs_read : List ℕ → BytesRead
-pairs_read s = pick (eqb (2 * length (spelled s)) (length s)) (Count (length (spelled s))) NoBytes
+unfoldable pub pairs_read : List ℕ → Result ℕ NotBytes
+pairs_read s = pick (eqb (2 * length (spelled s)) (length s)) (Ok (length (spelled s))) (Err NoBytes)
 
 -- the bytes stand at the front of `to`
 unfoldable pub pairs_stored : List ℕ → List ℕ → List ℕ
@@ -36,8 +36,8 @@ abbrev pub dash : List ℕ
 dash = 45 ∷ []
 
 -- what reading a word into a buffer of a length answers
-abbrev pub bytes_read : ℕ → List ℕ → BytesRead
-bytes_read room s = pick (same_bytes s dash) (Count 0) (pick (ltb room (length s / 2)) NoRoom (pairs_read s))
+abbrev pub bytes_read : ℕ → List ℕ → Result ℕ NotBytes
+bytes_read room s = pick (same_bytes s dash) (Ok 0) (pick (ltb room (length s / 2)) (Err NoRoom) (pairs_read s))
 
 -- and what the buffer holds after
 abbrev pub bytes_stored : List ℕ → List ℕ → List ℕ
@@ -102,10 +102,10 @@ module _ (s to was : List ℕ) (n : ℕ) (rest : List ℕ) (fits : n ≤ length 
       ∙ ap (λ (l : List ℕ). l ++ drop n was) (sym all)
       ∙ ap (λ (k : ℕ). spelled s ++ drop k was) (sym count)
 
-  pub count-all : length s ≡ 2 * n → Count n ≡ pairs_read s
+  pub count-all : length s ≡ 2 * n → Ok n ≡ pairs_read s
   unfolding pairs_read
   count-all e = rw (count, eq-eqb (2 * n) (length s) (sym e))
 
-  pub count-fault : (length s ≡ 2 * n → ⊥) → NoBytes ≡ pairs_read s
+  pub count-fault : (length s ≡ 2 * n → ⊥) → Err NoBytes ≡ pairs_read s
   unfolding pairs_read
   count-fault e = rw (count, ne_eqb (2 * n) (length s) (λ q. e (sym q)))

@@ -1,12 +1,11 @@
 -- When a word is read as a number: exactly when it is in the form and its value is at most the limit. Assumes nothing.
-use Rattle.std.specs.Prelude.{◌≡◌, refl, Bool, true, false, List, [], ◌∷◌, ◌⊎◌, ℕ, zero, suc, ◌<◌, ◌≤◌, ltb, leb, eqb, length, get_or, drop}
+use Rattle.std.specs.Prelude.{◌≡◌, refl, Bool, true, false, List, [], ◌∷◌, ◌⊎◌, ℕ, zero, suc, ◌<◌, ◌≤◌, ltb, leb, eqb, length, get_or, drop, Some, None}
 use Rattle.std.proofs.Common.{ap₂, sym, ◌∙◌, inl, inr, ⊎_elim, le_of_suc-le-suc, arith}
 use borrow.Author.Tests.{lt-ltb, ltb-true, le-leb, leb-true, eqb-true}
 use Rattle.text.specs.Pick.{pick, decided, side}
 use Rattle.text.specs.Digits.{digit_value}
 use Rattle.text.specs.Numbers.{all_digits, value_after, at_most, number_after, number_in, begins0x, number_of, some_number, no-digits}
 use Rattle.text.specs.Numbers.{after-opened}
-use Rattle.text.specs.declared.numbers.Number.{Number}
 
 -- each byte is a digit of the base
 abbrev pub EachDigit : ℕ → List ℕ → Type 0
@@ -49,26 +48,26 @@ all-each base (c ∷ s) e =
 -- ---- digits of one base
 
 module _ (base limit n : ℕ) (s : List ℕ) where
-  pub read-digits : 0 < length s → EachDigit base s → value_after base 0 s ≡ n → n ≤ limit → number_in base limit s ≡ Number.Value n
+  pub read-digits : 0 < length s → EachDigit base s → value_after base 0 s ≡ n → n ≤ limit → number_in base limit s ≡ Some n
   unfolding number_after at_most
   read-digits some each value low =
       some_number base limit s some ∙ rw (each_all base s each, value, le-leb n limit low)
 
-  pub digits-read : number_in base limit s ≡ Number.Value n → (0 < length s) × EachDigit base s × (value_after base 0 s ≡ n) × (n ≤ limit)
+  pub digits-read : number_in base limit s ≡ Some n → (0 < length s) × EachDigit base s × (value_after base 0 s ≡ n) × (n ≤ limit)
   digits-read e =
       ⊎_elim
       (λ (h : 0 < length s). within h (all_digits base s) refl (leb (value_after base 0 s) limit) refl (sym (opened h) ∙ e))
-      (λ (h : length s ≤ 0). absurd (let q : Number.NoNumber ≡ Number.Value n = sym (no-digits base limit s (omega arith))
+      (λ (h : length s ≤ 0). absurd (let q : None ≡ Some n = sym (no-digits base limit s (omega arith))
       ∙ e in let z : ◌≡◌ {A = ℕ} 0 1 = cc in omega arith))
       (side 0 (length s))
     where
       opened : 0 < length s → number_in base limit s
-          ≡ pick (all_digits base s) (pick (leb (value_after base 0 s) limit) (Number.Value (value_after base 0 s)) Number.NoNumber)
-          Number.NoNumber
+          ≡ pick (all_digits base s) (pick (leb (value_after base 0 s) limit) (Some (value_after base 0 s)) None)
+          None
       opened h = some_number base limit s h ∙ after-opened base limit 0 s
 
       within : 0 < length s → (t : Bool) → all_digits base s ≡ t → (u : Bool) → leb (value_after base 0 s) limit ≡ u
-          → pick t (pick u (Number.Value (value_after base 0 s)) Number.NoNumber) Number.NoNumber ≡ Number.Value n
+          → pick t (pick u (Some (value_after base 0 s)) None) None ≡ Some n
           → (0 < length s) × EachDigit base s × (value_after base 0 s ≡ n) × (n ≤ limit)
       within h true q true r e =
           let v : value_after base 0 s ≡ n = cc in
@@ -103,16 +102,16 @@ no-prefix (a ∷ b ∷ s) each =
     neither true = refl
     neither false = refl
 
-hex-number : (limit n : ℕ) (digits : List ℕ) → number_in 16 limit digits ≡ Number.Value n
-    → number_of limit (48 ∷ 120 ∷ digits) ≡ Number.Value n
+hex-number : (limit n : ℕ) (digits : List ℕ) → number_in 16 limit digits ≡ Some n
+    → number_of limit (48 ∷ 120 ∷ digits) ≡ Some n
 unfolding number_of begins0x
 hex-number limit n digits e = e
 
-dec-number : (limit n : ℕ) (s : List ℕ) → begins0x s ≡ false → number_in 10 limit s ≡ Number.Value n → number_of limit s ≡ Number.Value n
+dec-number : (limit n : ℕ) (s : List ℕ) → begins0x s ≡ false → number_in 10 limit s ≡ Some n → number_of limit s ≡ Some n
 unfolding number_of
 dec-number limit n s t e = rw t e
 
-pub number-form : (limit : ℕ) (s : List ℕ) (n : ℕ) → number_of limit s ≡ Number.Value n → IsNumber limit s n
+pub number-form : (limit : ℕ) (s : List ℕ) (n : ℕ) → number_of limit s ≡ Some n → IsNumber limit s n
 unfolding number_of
 number-form limit s n e =
     ⊎_elim
@@ -124,11 +123,11 @@ number-form limit s n e =
     record { base = 10; digits = s; form = inr (refl, refl); some = r.0; each = r.1; value = r.2; low = r.3 })
     (decided (begins0x s))
 
-pub form-number : (limit : ℕ) (s : List ℕ) (n : ℕ) → IsNumber limit s n → number_of limit s ≡ Number.Value n
+pub form-number : (limit : ℕ) (s : List ℕ) (n : ℕ) → IsNumber limit s n → number_of limit s ≡ Some n
 form-number limit s n h = by_form h.base h.digits h.form h.some h.each h.value h.low
   where
     by_form : (base : ℕ) (digits : List ℕ) → Form base digits s → 0 < length digits
-        → EachDigit base digits → value_after base 0 digits ≡ n → n ≤ limit → number_of limit s ≡ Number.Value n
+        → EachDigit base digits → value_after base 0 digits ≡ n → n ≤ limit → number_of limit s ≡ Some n
     by_form base digits (inl f) some each value low =
         rw f.1 (hex-number limit n digits (read-digits 16 limit n digits some (rw f.0 at each) (rw f.0 at value) low))
     by_form base digits (inr f) some each value low =

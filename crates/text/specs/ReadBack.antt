@@ -1,6 +1,6 @@
 -- What is put is read back: bytes as hexadecimal digits, and decimal numbers. Assumes nothing.
 use Rattle.std.specs.Prelude.{◌≡◌, refl, Bool, true, false, List, [], ◌∷◌, ◌++◌, ℕ, zero, suc, ◌+◌, ◌*◌, ◌/◌, ◌%◌, ◌^◌, ◌<◌, ◌≤◌, ltb}
-use Rattle.std.specs.Prelude.{length, get_or}
+use Rattle.std.specs.Prelude.{length, get_or, Some}
 use Rattle.std.proofs.Common.{ap, ◌∙◌, inr, ⊎_elim, arith, lt-ltb, le-ltb, length-append}
 use Rattle.text.specs.Pick.{pick, side}
 use Rattle.text.specs.Digits.{digit_value, letter}
@@ -9,7 +9,6 @@ use Rattle.text.specs.NumberForm.{form-number, all-each}
 use Rattle.text.specs.Hexes.{pair_value, spelled}
 use Rattle.text.specs.HexText.{hex_pairs}
 use Rattle.text.specs.Decimal.{decimal_up_to, decimal, digits_more, digits_last, tenth-low}
-use Rattle.text.specs.declared.numbers.Number.{Number}
 
 -- a digit
 low_digit : (d : ℕ) → d < 10 → digit_value (letter d) ≡ d
@@ -101,7 +100,7 @@ decimal-back (suc more) n h =
     (side 9 n)
 
 -- a number of 64 bits
-pub number-back : (limit n : ℕ) → n < 2 ^ 64 → n ≤ limit → number_of limit (decimal n) ≡ Number.Value n
+pub number-back : (limit n : ℕ) → n < 2 ^ 64 → n ≤ limit → number_of limit (decimal n) ≡ Some n
 number-back limit n h low =
     let b : Back n (decimal n) = decimal-back 19 n (omega arith) in
     form-number limit (decimal n) n

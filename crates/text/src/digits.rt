@@ -1,29 +1,16 @@
 // The value of a digit's letter.
-ghost use Rattle.std.specs.Prelude.{◌≡◌};
+ghost use Rattle.std.specs.Prelude.{◌≡◌, ◌<◌, MatchOption};
 ghost use Rattle.text.specs.Digits.{digit_value};
 
-// The value of a hexadecimal digit of either case; 16 for any other byte.
-pub fn digit(c: u8) -> u64
-    ensures { result ≡ digit_value c }
+// The value of a hexadecimal digit of either case; any other byte has none.
+#[tactic(auto, unfolding(crate::specs::Digits::digit_value))]
+pub fn digit(c: u8) -> Option<u64>
+    ensures { MatchOption result (digit_value c ≡ 16) (λ d. (d ≡ digit_value c) × (d < 16)) }
 {
-    let x = c as u64;
-    if x < 48 {
-        return 16;
+    match c {
+        b'0'..=b'9' => Some((c - b'0') as u64),
+        b'A'..=b'F' => Some((c - b'A' + 10) as u64),
+        b'a'..=b'f' => Some((c - b'a' + 10) as u64),
+        _ => None,
     }
-    if x < 58 {
-        return x - 48;
-    }
-    if x < 65 {
-        return 16;
-    }
-    if x < 71 {
-        return x - 55;
-    }
-    if x < 97 {
-        return 16;
-    }
-    if x < 103 {
-        return x - 87;
-    }
-    16
 }

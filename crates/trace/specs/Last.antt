@@ -1,10 +1,10 @@
 -- The last word of a call. Assumes nothing.
-use Rattle.std.specs.Prelude.{◌≡◌, true, false, List, [], ◌∷◌, ℕ, Result, Err}
+use Rattle.std.specs.Prelude.{◌≡◌, true, false, List, [], ◌∷◌, ℕ, Result, Ok, Err}
 use Rattle.text.specs.Pick.{pick}
 use Rattle.text.specs.Same.{same_bytes}
 use Rattle.text.specs.declared.words.Word.{Word}
 use Rattle.text.specs.Hexes.{bytes_read, bytes_stored}
-use Rattle.text.specs.declared.hex.BytesRead.{BytesRead}
+use Rattle.text.specs.declared.hex.NotBytes.{NotBytes}
 use Rattle.trace.specs.declared.faults.Fault.{Fault}
 use Rattle.trace.specs.declared.faults.Reason.{Reason}
 use Rattle.trace.specs.declared.arguments.Last.{Last}
@@ -26,10 +26,9 @@ unfoldable pub bit_at : List ℕ → ℕ → Result Step Fault
 bit_at s at = word_at s at (Err (missing s)) (bit_in s)
 
 -- bytes, for which a buffer has room; the number is how many
-abbrev pub bytes_step : Word → BytesRead → Result Step Fault
-bytes_step w (BytesRead.Count n) = step_to w.end n
-bytes_step w BytesRead.NoBytes = Err (fault Reason.NoBytes w)
-bytes_step w BytesRead.NoRoom = Err (fault Reason.NoBytes w)
+abbrev pub bytes_step : Word → Result ℕ NotBytes → Result Step Fault
+bytes_step w (Ok n) = step_to w.end n
+bytes_step w (Err e) = Err (fault Reason.NoBytes w)
 
 abbrev pub bytes_step_in : ℕ → List ℕ → Word → Result Step Fault
 bytes_step_in room s w = bytes_step w (bytes_read room (bytes_in s w))

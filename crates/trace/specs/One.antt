@@ -1,8 +1,7 @@
 -- One number of a line. Assumes nothing.
-use Rattle.std.specs.Prelude.{List, ℕ, Result, Err}
+use Rattle.std.specs.Prelude.{List, ℕ, Result, Err, Option, Some, None}
 use Rattle.text.specs.declared.words.Word.{Word}
 use Rattle.text.specs.Numbers.{limit32, number_of}
-use Rattle.text.specs.declared.numbers.Number.{Number}
 use Rattle.trace.specs.declared.faults.Fault.{Fault}
 use Rattle.trace.specs.declared.faults.Reason.{Reason}
 use Rattle.trace.specs.declared.step.Step.{Step}
@@ -22,9 +21,9 @@ reason_of Wide = Reason.NoNumber
 reason_of Narrow = Reason.NoNumber32
 reason_of Length = Reason.NoLength
 
-abbrev pub number_step : Kind → Word → Number → Result Step Fault
-number_step kind w (Number.Value n) = step_to w.end n
-number_step kind w Number.NoNumber = Err (fault (reason_of kind) w)
+abbrev pub number_step : Kind → Word → Option ℕ → Result Step Fault
+number_step kind w (Some n) = step_to w.end n
+number_step kind w None = Err (fault (reason_of kind) w)
 
 -- the next word as a number
 abbrev pub number_in : List ℕ → Kind → Word → Result Step Fault

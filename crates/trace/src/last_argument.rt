@@ -9,7 +9,7 @@ use crate::names::Name;
 use crate::number::{Kind, read_one};
 use crate::pairs::read_pairs;
 use crate::step::Step;
-use text::hex::{BytesRead, read_bytes};
+use text::hex::read_bytes;
 use text::names::same;
 use text::words::next_word;
 
@@ -46,12 +46,11 @@ fn read_hex(s: &[u8], at: usize, bytes: &mut [u8]) -> Result<Step, Fault>
         return Err(Fault::missing(s));
     }
     match read_bytes(&s[start..end], bytes) {
-        BytesRead::Count(count) => Ok(Step {
+        Ok(count) => Ok(Step {
             to: end,
             number: count as u64,
         }),
-        BytesRead::NoBytes => Err(Fault::of(Reason::NoBytes, word)),
-        BytesRead::NoRoom => Err(Fault::of(Reason::NoBytes, word)),
+        Err(_) => Err(Fault::of(Reason::NoBytes, word)),
     }
 }
 

@@ -4,7 +4,7 @@ ghost use Rattle.trace.specs.One.{limit_of, reason_of, number_at};
 
 use crate::faults::{Fault, Reason};
 use crate::step::Step;
-use text::numbers::{Number, read_number};
+use text::numbers::read_number;
 use text::words::next_word;
 
 // A number of 64 bits, one of 32, or the length of a buffer that a call may lend.
@@ -45,10 +45,10 @@ pub fn read_one(s: &[u8], at: usize, kind: Kind) -> Result<Step, Fault>
         return Err(Fault::missing(s));
     }
     match read_number(&s[word.start..word.end], limit_of(kind)) {
-        Number::Value(number) => Ok(Step {
+        Some(number) => Ok(Step {
             to: word.end,
             number,
         }),
-        Number::NoNumber => Err(Fault::of(reason_of(kind), word)),
+        None => Err(Fault::of(reason_of(kind), word)),
     }
 }

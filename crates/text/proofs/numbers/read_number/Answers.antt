@@ -1,40 +1,14 @@
--- `numbers::read_number` meets its contract: by the tests for `0x`. Assumes nothing.
-use mathlib.Core.Path.{◌∙◌}
-use borrow.Author.Tests.{eq-eqb, ne_eqb}
-use Rattle.text.specs.Numbers.{number_of, prefix-short, prefix-long}
+-- `numbers::read_number` meets its contract: by the test for `0x` in front. Assumes nothing.
+use Rattle.std.proofs.Common.{◌∙◌}
+use Rattle.text.specs.Numbers.{number_of, prefix-front}
 use Rattle.text.proofs.numbers.read_number.Goals as goal
 
-pub returns-then-s-lt2 : goal.returns-then-s-lt2
+pub returns-in-Some-clause-value : goal.returns-in-Some-clause-value
 unfolding number_of
-returns-then-s-lt2 c = c.digits_from.ensures ∙ simp (prefix-short c.args.s.now c.if-s-lt2.true)
+returns-in-Some-clause-value c =
+    let p = c.in-Some.ensures.cases in
+    c.read_digits.ensures.value ∙ rw (prefix-front c.args.s.now, p.0, p.1)
 
-pub returns-then-s-ne48 : goal.returns-then-s-ne48
+pub returns-in-None-clause-value : goal.returns-in-None-clause-value
 unfolding number_of
-returns-then-s-ne48 c =
-    c.digits_from-then-s-ne48.ensures
-    ∙ simp (
-      prefix-long c.args.s.now c.if-s-lt2.false,
-      ne_eqb _ _ c.if-s-ne48.true,
-    )
-
-pub returns-then-s-ne120 : goal.returns-then-s-ne120
-unfolding number_of
-returns-then-s-ne120 c =
-    c.digits_from-then-s-ne120.ensures
-    ∙ simp (
-      prefix-long c.args.s.now
-          c.if-s-lt2.false,
-      eq-eqb _ _ c.if-s-ne48.false,
-      ne_eqb _ _ c.if-s-ne120.true,
-    )
-
-pub returns : goal.returns
-unfolding number_of
-returns c =
-    c.digits_from-2.ensures
-    ∙ simp (
-      prefix-long c.args.s.now
-          c.if-s-lt2.false,
-      eq-eqb _ _ c.if-s-ne48.false,
-      eq-eqb _ _ c.if-s-ne120.false,
-    )
+returns-in-None-clause-value c = c.read_digits-in-None.ensures.value ∙ rw (prefix-front c.args.s.now, c.in-None.ensures.cases)
