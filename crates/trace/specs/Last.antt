@@ -1,5 +1,5 @@
 -- The last word of a call. Assumes nothing.
-use Rattle.std.specs.Prelude.{◌≡◌, true, false, List, [], ◌∷◌, ℕ, Result, Ok, Err}
+use Rattle.std.specs.Prelude.{List, [], ◌∷◌, ℕ, Result, Ok, Err}
 use Rattle.text.specs.Pick.{pick}
 use Rattle.text.specs.Same.{same_bytes}
 use Rattle.text.specs.declared.words.Word.{Word}
@@ -64,16 +64,3 @@ kind_kept s at bytes Last.Pairs = bytes
 
 abbrev pub last_kept : List ℕ → ℕ → Name → List ℕ → List ℕ
 last_kept s at name bytes = kind_kept s at bytes (form_of name).last
-
--- ---- laws
-
--- a word that is `0`, one that is `1`, and another
-module _ (s : List ℕ) (w : Word) where
-  pub bit-zero : same_bytes (bytes_in s w) (48 ∷ []) ≡ true → step_to w.end 0 ≡ bit_in s w
-  bit-zero e = rw e
-
-  pub bit-one : same_bytes (bytes_in s w) (48 ∷ []) ≡ false → same_bytes (bytes_in s w) (49 ∷ []) ≡ true → step_to w.end 1 ≡ bit_in s w
-  bit-one e f = rw (e, f)
-
-  pub no-bit : same_bytes (bytes_in s w) (48 ∷ []) ≡ false → same_bytes (bytes_in s w) (49 ∷ []) ≡ false → Err (fault Reason.NoBit w) ≡ bit_in s w
-  no-bit e f = rw (e, f)

@@ -1,7 +1,6 @@
 -- A line as a call. Assumes nothing.
 use Rattle.std.specs.Prelude.{◌≡◌, Bool, true, false, List, [], ◌++◌, ℕ, ◌≤◌, eqb, length, get_or, drop, Result, Ok, Err, Option, Some, None}
-use Rattle.std.proofs.Math.Path.{ap, sym}
-use Rattle.std.proofs.Common.{◌∙◌, arith, eq-eqb, ne_eqb}
+use Rattle.std.proofs.Common.{arith}
 use Rattle.text.specs.Pick.{pick}
 use Rattle.text.specs.Words.{next_word}
 use Rattle.text.specs.declared.words.Word.{Word}
@@ -12,7 +11,7 @@ use Rattle.trace.specs.declared.step.Step.{Step}
 use Rattle.trace.specs.declared.line.Call.{Call}
 use Rattle.trace.specs.Names.{name_of}
 use Rattle.trace.specs.Forms.{form_of, count_fits}
-use Rattle.trace.specs.Steps.{bytes_in, fault, word_at, no_word, some_word}
+use Rattle.trace.specs.Steps.{bytes_in, fault, word_at}
 use Rattle.trace.specs.Numbers.{numbers_at, numbers-few}
 use Rattle.trace.specs.Stored.{stored, stored-front}
 use Rattle.trace.specs.Last.{last_at, last_kept}
@@ -79,24 +78,6 @@ abbrev pub bytes_after : List ℕ → List ℕ → List ℕ
 bytes_after s bytes = on_call s bytes (bytes_named s bytes)
 
 -- ---- laws
-
--- a blank line, a comment, and a line with a name
-module _ {A : Type 0} (s : List ℕ) (w : Word) (e : w ≡ next_word s 0) (none : A) (read : Word → Option Name → A) where
-  pub blank : w.start ≡ w.end → none ≡ on_call s none read
-  unfolding on_call
-  blank h = no_word s 0 w e none (named_in s none read) h
-
-  pub comment : (w.start ≡ w.end → ⊥) → get_or s 0 0 ≡ 35 → none ≡ on_call s none read
-  unfolding on_call
-  comment h k =
-      let passed : named_in s none read w ≡ none = rw (eq-eqb (get_or s 0 0) 35 k) in
-      sym passed ∙ some_word s 0 w e none (named_in s none read) h
-
-  pub called : (w.start ≡ w.end → ⊥) → (get_or s 0 0 ≡ 35 → ⊥) → (n : Option Name) → name_of (bytes_in s w) ≡ n → read w n ≡ on_call s none read
-  unfolding on_call
-  called h k n q =
-      let named : named_in s none read w ≡ read w (name_of (bytes_in s w)) = rw (ne_eqb (get_or s 0 0) 35 k) in
-      ap (read w) (sym q) ∙ sym named ∙ some_word s 0 w e none (named_in s none read) h
 
 -- what holds of each case holds of the answer
 picked : {A : Type 0} (P : A → Type 0) (t : Bool) (a b : A) → P a → P b → P (pick t a b)

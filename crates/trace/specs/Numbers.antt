@@ -1,7 +1,6 @@
 -- The numbers of a line, one word each. Assumes nothing.
 use Rattle.std.specs.Prelude.{◌≡◌, List, [], ◌∷◌, ltb, length, Result, Ok, Err}
 use Rattle.std.proofs.Math.Path.{ap}
-use Rattle.std.proofs.Common.{◌∙◌}
 use Prim.Native.Nat.{ℕ, zero, suc, ◌+◌, ◌-◌, ◌<◌, ◌≤◌}
 use native.Mathlib.Omega.{arith}
 use Rattle.text.specs.Pick.{pick}
@@ -37,24 +36,12 @@ numbers_at s at name = numbers_from s (form_of name).wide 0 (form_of name).count
 
 -- ---- laws
 
--- from a number on: one more, a word that is none, and the end
+-- from a number on
 module _ (s : List ℕ) (wide count i at : ℕ) where
   pub from_on : i < count → numbers_from s wide i (count - i) at
       ≡ onward (number_at s at (kind_at wide i)) (numbers_from s wide (i + 1) (count - (i + 1)))
   unfolding numbers_from
   from_on h = let e : count - i ≡ suc (count - (i + 1)) = omega arith in ap (λ (k : ℕ). numbers_from s wide i k at) e
-
-  pub number-on : i < count → (p : Step) → number_at s at (kind_at wide i) ≡ Ok p
-      → numbers_from s wide i (count - i) at ≡ onward (Ok p) (numbers_from s wide (i + 1) (count - (i + 1)))
-  number-on h p e = from_on h ∙ ap (λ (one : Result Step Fault). onward one (numbers_from s wide (i + 1) (count - (i + 1)))) e
-
-  pub number-wrong : i < count → (f : Fault) → number_at s at (kind_at wide i) ≡ Err f
-      → numbers_from s wide i (count - i) at ≡ record { values = []; end = Err f }
-  number-wrong h f e = from_on h ∙ ap (λ (one : Result Step Fault). onward one (numbers_from s wide (i + 1) (count - (i + 1)))) e
-
-  pub numbers-end : count ≤ i → numbers_from s wide i (count - i) at ≡ record { values = []; end = Ok at }
-  unfolding numbers_from
-  numbers-end h = let e : count - i ≡ 0 = omega arith in ap (λ (k : ℕ). numbers_from s wide i k at) e
 
 -- there are as many as the form has, or fewer
 pub numbers-few : (s : List ℕ) (wide i left at : ℕ) → length (numbers_from s wide i left at).values ≤ left

@@ -1,19 +1,18 @@
 -- Numbers of a line in pairs, up to its end. Assumes nothing.
-use Rattle.std.specs.Prelude.{◌≡◌, refl, Bool, true, false, List, [], ◌∷◌, eqb, set, Result, Ok, Err}
+use Rattle.std.specs.Prelude.{◌≡◌, Bool, true, false, List, [], ◌∷◌, eqb, Result, Ok, Err}
 use Rattle.std.proofs.Math.Path.{ap, sym}
 use Rattle.std.proofs.Common.{◌∙◌, ⊎_elim, length-take-le, take_all, take-take}
 use Prim.Native.Nat.{ℕ, zero, suc, ◌+◌, ◌-◌, ◌<◌, ◌≤◌, min}
 use native.Mathlib.Omega.{arith}
-use Rattle.std.proofs.Math.ListN.{length, take, length-set}
+use Rattle.std.proofs.Math.ListN.{length, take}
 use Rattle.text.specs.Pick.{pick, side}
 use Rattle.text.specs.Words.{next_word}
-use Rattle.text.specs.declared.words.Word.{Word}
 use Rattle.trace.specs.declared.faults.Fault.{Fault}
 use Rattle.trace.specs.declared.step.Step.{Step}
 use Rattle.trace.specs.declared.number.Kind.TheVariants.{Wide}
-use Rattle.trace.specs.Steps.{step_to, word_at, no_word, some_word}
+use Rattle.trace.specs.Steps.{step_to, word_at}
 use Rattle.trace.specs.One.{number_at}
-use Rattle.trace.specs.Stored.{stored, stored_from, stored-length, stored-take}
+use Rattle.trace.specs.Stored.{stored, stored-length, stored-take}
 
 -- pairs one after another: their first and second numbers, up to a fault, and how far they were read, with how many there are
 pub record Pairs : Type 0 where
@@ -61,92 +60,12 @@ seconds_in s = take (count_of (pairs_in s).step) (pairs_in s).seconds
 
 -- ---- laws
 
--- from a pair on: no word, a word that is no number, no second number, and one more pair
+-- from a pair on
 module _ (s : List ℕ) (n at : ℕ) (left : n < length s) where
   pub from_on : pairs_from s (length s - n) n at
       ≡ word_at s at (ended (step_to at n)) (λ w. pair_on s at (pairs_from s (length s - (n + 1)) (n + 1)))
   unfolding pairs_from
   from_on = let e : length s - n ≡ suc (length s - (n + 1)) = omega arith in ap (λ (k : ℕ). pairs_from s k n at) e
-
-  module _ (w : Word) (e : w ≡ next_word s at) where
-    pub pairs_end : w.start ≡ w.end → pairs_from s (length s - n) n at ≡ ended (step_to at n)
-    pairs_end h = from_on ∙ sym (no_word s at w e _ _ h)
-
-    module _ (some : w.start ≡ w.end → ⊥) where
-      pairs-on : pairs_from s (length s - n) n at ≡ pair_on s at (pairs_from s (length s - (n + 1)) (n + 1))
-      pairs-on = from_on ∙ sym (some_word s at w e _ _ some)
-
-      pub no-first : (f : Fault) → number_at s at Wide ≡ Err f → pairs_from s (length s - n) n at ≡ ended (Err f)
-      no-first f q = pairs-on ∙ rw q
-
-      module _ (a : Step) (first : number_at s at Wide ≡ Ok a) where
-        pub no_second : (f : Fault) → number_at s a.to Wide ≡ Err f → pairs_from s (length s - n) n at ≡ ended (Err f)
-        no_second f q = pairs-on ∙ rw (first, q)
-
-        pub pair_read : (b : Step) → number_at s a.to Wide ≡ Ok b
-            → pairs_from s (length s - n) n at ≡ joined a.number b.number (pairs_from s (length s - (n + 1)) (n + 1) b.to)
-        pair_read b q = pairs-on ∙ rw (first, q)
-
--- as many as there are bytes
-pub pairs-past : (s : List ℕ) (n at : ℕ) → length s ≤ n → pairs_from s (length s - n) n at ≡ ended (step_to at n)
-unfolding pairs_from
-pairs-past s n at h = let e : length s - n ≡ 0 = omega arith in ap (λ (k : ℕ). pairs_from s k n at) e
-
--- ---- the loop
-
--- so many pairs are read and kept, and what is left to do is to read and keep those from there on
-pub record Reading (s : List ℕ) (from : ℕ) (firsts₀ seconds₀ firsts seconds : List ℕ) (n at : ℕ) : Type 0 where
-  pub count : n ≤ length s
-  pub steps : (pairs_at s from).step ≡ (pairs_from s (length s - n) n at).step
-  pub fronts : stored (pairs_at s from).firsts firsts₀ ≡ stored_from n (pairs_from s (length s - n) n at).firsts firsts
-  pub backs : stored (pairs_at s from).seconds seconds₀ ≡ stored_from n (pairs_from s (length s - n) n at).seconds seconds
-  pub room : length firsts ≡ length firsts₀
-  pub other-room : length seconds ≡ length seconds₀
-
-module _ {s : List ℕ} {from : ℕ} {firsts₀ seconds₀ : List ℕ} where
-  pub reading_begins : Reading s from firsts₀ seconds₀ firsts₀ seconds₀ 0 from
-  reading_begins =
-      let all : length s ≡ length s - 0 = omega arith in
-      record {
-        count = omega arith;
-        steps = ap (λ (k : ℕ). (pairs_from s k 0 from).step) all;
-        fronts = ap (λ (k : ℕ). stored (pairs_from s k 0 from).firsts firsts₀) all;
-        backs = ap (λ (k : ℕ). stored (pairs_from s k 0 from).seconds seconds₀) all;
-        room = refl;
-        other-room = refl;
-      }
-
-  module _ {firsts seconds : List ℕ} {n at : ℕ} (r : Reading s from firsts₀ seconds₀ firsts seconds n at) where
-    pub reading-ends : (step : Result Step Fault) → pairs_from s (length s - n) n at ≡ ended step
-        → (step ≡ (pairs_at s from).step) × ((firsts ≡ stored (pairs_at s from).firsts firsts₀)
-        × (seconds ≡ stored (pairs_at s from).seconds seconds₀))
-    unfolding stored_from
-    reading-ends step e = (
-      sym (r.steps ∙ ap (λ (p : Pairs). p.step) e),
-      (
-        sym (r.fronts ∙ ap (λ (p : Pairs). stored_from n p.firsts firsts) e),
-        sym (r.backs ∙ ap (λ (p : Pairs). stored_from n p.seconds seconds) e),
-      ),
-    )
-
-    pub reading-on : (a b to : ℕ) {fs ss : List ℕ} → n < length s
-        → pairs_from s (length s - n) n at ≡ joined a b (pairs_from s (length s - (n + 1)) (n + 1) to)
-        → fs ≡ set firsts n a → ss ≡ set seconds n b → Reading s from firsts₀ seconds₀ fs ss (n + 1) to
-    unfolding stored_from
-    reading-on a b to {fs} {ss} h e p q = record {
-      count = omega arith;
-      steps = r.steps ∙ ap (λ (l : Pairs). l.step) e;
-      fronts =
-          r.fronts
-          ∙ ap (λ (l : Pairs). stored_from n l.firsts firsts) e
-          ∙ ap (stored_from (n + 1) (pairs_from s (length s - (n + 1)) (n + 1) to).firsts) (sym p);
-      backs =
-          r.backs
-          ∙ ap (λ (l : Pairs). stored_from n l.seconds seconds) e
-          ∙ ap (stored_from (n + 1) (pairs_from s (length s - (n + 1)) (n + 1) to).seconds) (sym q);
-      room = ap length p ∙ length-set firsts n a ∙ r.room;
-      other-room = ap length q ∙ length-set seconds n b ∙ r.other-room;
-    }
 
 -- ---- what is kept of a line's pairs
 
