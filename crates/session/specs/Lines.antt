@@ -1,5 +1,6 @@
 -- The answer to a line of a trace. Assumes nothing.
-use Rattle.std.specs.Prelude.{◌≡◌, refl, Bool, true, false, List, [], map, ℕ, ◌<◌, ◌≤◌, min, length, take, drop, replicate, Ok, Err, Some, None}
+use Rattle.std.specs.Prelude.{◌≡◌, refl, Bool, true, false, List, [], map, ℕ, ◌<◌, ◌≤◌, min, length, take, drop, replicate}
+use Rattle.std.specs.Prelude.{Ok, Err, Some, None}
 use Rattle.std.proofs.Common.{ap, sym, ◌∙◌, ⊎_elim, arith, take_all}
 use Rattle.std.proofs.Math.Option.{Option, none, some}
 use Rattle.text.specs.Pick.{pick, side}

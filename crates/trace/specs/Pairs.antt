@@ -10,7 +10,7 @@ use Rattle.text.specs.Words.{next_word}
 use Rattle.trace.specs.declared.faults.Fault.{Fault}
 use Rattle.trace.specs.declared.step.Step.{Step}
 use Rattle.trace.specs.declared.number.Kind.TheVariants.{Wide}
-use Rattle.trace.specs.Steps.{step_to, word_at}
+use Rattle.trace.specs.Steps.{step_to, word_if, word_at}
 use Rattle.trace.specs.One.{number_at}
 use Rattle.trace.specs.Stored.{stored, stored-length, stored-take}
 
@@ -63,8 +63,8 @@ seconds_in s = take (count_of (pairs_in s).step) (pairs_in s).seconds
 -- from a pair on
 module _ (s : List ℕ) (n at : ℕ) (left : n < length s) where
   pub from_on : pairs_from s (length s - n) n at
-      ≡ word_at s at (ended (step_to at n)) (λ w. pair_on s at (pairs_from s (length s - (n + 1)) (n + 1)))
-  unfolding pairs_from
+      ≡ word_if (next_word s at) (ended (step_to at n)) (λ w. pair_on s at (pairs_from s (length s - (n + 1)) (n + 1)))
+  unfolding pairs_from word_at
   from_on = let e : length s - n ≡ suc (length s - (n + 1)) = omega arith in ap (λ (k : ℕ). pairs_from s k n at) e
 
 -- ---- what is kept of a line's pairs

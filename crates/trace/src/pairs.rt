@@ -19,7 +19,7 @@ fn keep(to: &mut [u64], place: usize, number: u64)
 
 // Reads the pairs, the first numbers to the front of one list and the second ones to that of another. A pair for which there is no
 // room is read all the same, and not kept. The step's number is how many pairs there are.
-#[tactic(auto, using(crate::specs::Pairs::from_on), unfolding(crate::specs::Stored::stored_from, crate::specs::Pairs::pairs_from, crate::specs::Steps::word_at))]
+#[tactic(auto, using(crate::specs::Pairs::from_on), unfolding(crate::specs::Stored::stored_from, crate::specs::Pairs::pairs_from))]
 pub fn read_pairs(
     s: &[u8],
     from: usize,

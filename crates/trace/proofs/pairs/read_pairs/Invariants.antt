@@ -9,5 +9,7 @@ use Rattle.trace.proofs.pairs.read_pairs.Given as goal
 abbrev pub invariant-loop-n : goal.invariant-loop-n
 invariant-loop-n l =
     ((pairs_at l.s l.from).step ≡ (pairs_from l.s (length l.s - l.n) l.n l.at).step)
-    × (stored (pairs_at l.s l.from).firsts l.initial.firsts ≡ stored_from l.n (pairs_from l.s (length l.s - l.n) l.n l.at).firsts l.firsts)
-    × (stored (pairs_at l.s l.from).seconds l.initial.seconds ≡ stored_from l.n (pairs_from l.s (length l.s - l.n) l.n l.at).seconds l.seconds)
+    × (stored (pairs_at l.s l.from).firsts l.initial.firsts
+    ≡ stored_from l.n (pairs_from l.s (length l.s - l.n) l.n l.at).firsts l.firsts)
+    × (stored (pairs_at l.s l.from).seconds l.initial.seconds
+    ≡ stored_from l.n (pairs_from l.s (length l.s - l.n) l.n l.at).seconds l.seconds)
