@@ -38,7 +38,7 @@ impl Fault {
     }
 
     // The word at fault is then the call's name.
-    pub(crate) fn missing(s: &[u8]) -> Fault
+    pub fn missing(s: &[u8]) -> Fault
         ensures { result ≡ missing s.now }
     {
         Fault::of(Reason::MissingWord, next_word(s, 0))
