@@ -3,8 +3,7 @@
 ghost use Rattle.std.specs.Prelude.{◌≡◌, length};
 ghost use Rattle.trace.specs.Numbers.{numbers_at};
 ghost use Rattle.trace.specs.Stored.{stored};
-ghost use Rattle.trace.specs.Last.{last_kept};
-ghost use Rattle.trace.specs.Lines.{end_at, rest_at, words_at, words_kept};
+ghost use Rattle.trace.specs.Lines.{end_at, words_at, words_kept};
 ghost use Rattle.trace.specs.Lines.{line_of, numbers_of, bytes_after};
 
 use crate::faults::{Fault, Reason};
@@ -13,7 +12,7 @@ use crate::names::{Name, name_of};
 use crate::numbers::read_numbers;
 use text::words::next_word;
 
-// With the last word, where it is of another kind than numbers: 0 or 1, a length, or how many bytes or pairs there are.
+// A call, with its last word where that is of another kind than numbers: 0 or 1, a length, or how many bytes or pairs there are.
 #[derive(Clone, Copy, Debug, PartialEq, Eq)]
 pub struct Call {
     pub name: Name,
@@ -35,15 +34,6 @@ fn read_end(s: &[u8], at: usize, name: Name, last: u64) -> Result<Call, Fault>
     Err(Fault::of(Reason::ExtraWord, word))
 }
 
-// The words after the numbers.
-fn read_rest(s: &[u8], at: usize, name: Name, bytes: &mut [u8]) -> Result<Call, Fault>
-    ensures value { result ≡ rest_at (length bytes.old) s.now name at }
-    ensures bytes_after { bytes.new ≡ last_kept s.now at name bytes.old }
-{
-    let last = read_last(s, at, name, bytes)?;
-    read_end(s, last.to, name, last.number)
-}
-
 // The words after the name.
 fn read_words(
     s: &[u8],
@@ -57,7 +47,8 @@ fn read_words(
     ensures bytes_after { bytes.new ≡ words_kept s.now name at bytes.old }
 {
     let end = read_numbers(s, at, name, numbers)?;
-    read_rest(s, end, name, bytes)
+    let last = read_last(s, end, name, bytes)?;
+    read_end(s, last.to, name, last.number)
 }
 
 // Reads a line; one that is blank, or a comment, is no call. The numbers go to the front of `numbers`, and the bytes to that of
