@@ -9,8 +9,7 @@ use Rattle.trace.specs.Asks.{asks_of}
 use Rattle.trace.specs.declared.asks.Asks.{Asks}
 use Rattle.trace.specs.Low.{low_of}
 use Rattle.trace.specs.Stored.{stored}
-use Rattle.trace.specs.Lines.{line_of, numbers_of, bytes_after}
-use Rattle.trace.specs.declared.line.Line.{Line}
+use Rattle.trace.specs.Lines.{Line, line_of, numbers_of, bytes_after}
 use Rattle.trace.specs.declared.names.Name.{Name}
 use Rattle.trace.specs.declared.names.Name.TheVariants.{Setup, Read, Write, WriteRow, Receive, Wake, Watch, Reset, PowerDown, Clock}
 use Rattle.trace.specs.declared.names.Name.TheVariants.{TakeTx, TakeWritten, HasLeft, HostPending, Figures}

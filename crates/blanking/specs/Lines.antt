@@ -1,12 +1,11 @@
 -- What is put out for a line of a trace, and what is carried to the next line. Assumes nothing.
-use Rattle.std.specs.Prelude.{ℕ, ◌+◌, Bool, true, false, List, [], ◌∷◌, ◌++◌, ltb, replicate, Ok, Err}
+use Rattle.std.specs.Prelude.{ℕ, ◌+◌, Bool, true, false, List, [], ◌∷◌, ◌++◌, ltb, replicate, Ok, Err, Some, None}
 use Rattle.text.specs.Pick.{pick}
 use Rattle.text.specs.Decimal.{decimal}
 use Rattle.trace.specs.Asks.{asks_of}
 use Rattle.trace.specs.Stored.{stored}
 use Rattle.trace.specs.declared.asks.Asks.{Asks}
-use Rattle.trace.specs.Lines.{line_of, numbers_of, bytes_after}
-use Rattle.trace.specs.declared.line.Line.{Line}
+use Rattle.trace.specs.Lines.{Line, line_of, numbers_of, bytes_after}
 use Rattle.trace.specs.declared.names.Name.{Name}
 use Rattle.model.specs.SetUp.{set_up_reply}
 use Rattle.model.specs.Names.{SetUp}
@@ -31,9 +30,9 @@ abbrev pub call_kind : Bool → Name → List ℕ → ℕ → List ℕ → List 
 call_kind ready name ns last bs s = kind_by (asks_of name) ready (entry_of name ns last bs s)
 
 abbrev pub read_kind : Bool → List ℕ → List ℕ → List ℕ → Line → Kind
-read_kind ready ns bs s Line.Nothing = Kind.nothing
-read_kind ready ns bs s (Line.Call name last) = call_kind ready name ns last bs s
-read_kind ready ns bs s (Line.Wrong f) = Kind.left_out
+read_kind ready ns bs s (Ok None) = Kind.nothing
+read_kind ready ns bs s (Ok (Some c)) = call_kind ready c.name ns c.last bs s
+read_kind ready ns bs s (Err f) = Kind.left_out
 
 -- the bytes of a line that a buffer has room for: it is no longer than 65,536 bytes
 abbrev pub host_room : ℕ

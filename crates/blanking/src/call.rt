@@ -4,7 +4,6 @@ ghost use Rattle.std.specs.Prelude.{◌≡◌, ◌∷◌, ◌++◌, map, ◌+◌
 ghost use Rattle.text.specs.Output.{Put};
 ghost use Rattle.text.specs.HexText.{hex_text};
 ghost use Rattle.trace.specs.Low.{low_of};
-ghost use Rattle.trace.specs.Names.{letters};
 ghost use Rattle.theorems.specs.Blanked.{blank_byte, blank_word, blank_resets};
 ghost use Rattle.blanking.specs.Entries.{entry_of, blanked_entry, number, numbers, bit_number};
 ghost use Rattle.blanking.specs.Entries.{entry_words, entry_text};
@@ -16,7 +15,7 @@ use text::output::{put, put_bytes};
 use text::parts::within;
 use text::spelling::put_decimal;
 use trace::low::{low, sixteen};
-use trace::names::Name;
+use trace::names::{Name, letters};
 
 // A space, and a number.
 fn put_number(out: &mut [u8], at: usize, n: u64) -> usize
@@ -168,29 +167,6 @@ fn put_words(
     }
 }
 
-// The call's name.
-fn put_name(out: &mut [u8], at: usize, name: Name) -> usize
-    ensures { Put (letters name) out.old at out.new result }
-{
-    match name {
-        Name::Setup => put(out, at, b"setup"),
-        Name::Read => put(out, at, b"read"),
-        Name::Write => put(out, at, b"write"),
-        Name::WriteRow => put(out, at, b"write_row"),
-        Name::Receive => put(out, at, b"receive"),
-        Name::Wake => put(out, at, b"wake"),
-        Name::Watch => put(out, at, b"watch"),
-        Name::Reset => put(out, at, b"reset"),
-        Name::PowerDown => put(out, at, b"power_down"),
-        Name::Clock => put(out, at, b"clock"),
-        Name::TakeTx => put(out, at, b"take_tx"),
-        Name::TakeWritten => put(out, at, b"take_written"),
-        Name::HasLeft => put(out, at, b"has_left"),
-        Name::HostPending => put(out, at, b"host_pending"),
-        Name::Figures => put(out, at, b"figures"),
-    }
-}
-
 // Puts the line of a call, blanked for the register map `map`, and gives the place after it.
 pub fn put_call(
     out: &mut [u8],
@@ -207,7 +183,7 @@ pub fn put_call(
     ensures { Put (entry_text (blanked_entry map (entry_of name all last bytes.now s.now)))
         out.old at out.new result }
 {
-    let named = put_name(out, at, name);
+    let named = put(out, at, letters(name));
     let words = put_words(out, named, map, name, all, last, bytes, s);
     put(out, words, b"\n")
 }

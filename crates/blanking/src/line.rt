@@ -13,7 +13,7 @@ use replies::refusals::set_up_reply;
 use text::output::put;
 use text::spelling::put_decimal;
 use trace::asks::{Asks, asks_of};
-use trace::line::{Line, read_line};
+use trace::line::{Call, read_line};
 use trace::low::sixteen;
 use trace::names::Name;
 
@@ -139,10 +139,9 @@ pub fn blank_line(from: Trace, long: bool, s: &[u8], out: &mut [u8], at: usize) 
     }
     let mut numbers = [0u64; 32];
     let mut bytes = [0u8; 32768];
-    let read = read_line(s, &mut numbers, &mut bytes);
-    match read {
-        Line::Nothing => Blanked { trace, at },
-        Line::Wrong(_) => leave_out(trace, out, at),
-        Line::Call(name, last) => call(trace, name, numbers, last, &bytes, s, out, at),
+    match read_line(s, &mut numbers, &mut bytes) {
+        Ok(None) => Blanked { trace, at },
+        Ok(Some(Call { name, last })) => call(trace, name, numbers, last, &bytes, s, out, at),
+        Err(_) => leave_out(trace, out, at),
     }
 }

@@ -1,5 +1,6 @@
 -- The answer to a line of a trace. Assumes nothing.
 use Rattle.std.specs.Prelude.{◌≡◌, refl, Bool, true, false, List, [], map, ℕ, ◌<◌, ◌≤◌, min, length, take, drop, replicate}
+use Rattle.std.specs.Prelude.{Ok, Err, Some, None}
 use Rattle.std.proofs.Common.{ap, sym, ◌∙◌, ⊎_elim, arith, take_all}
 use Rattle.std.proofs.Math.Option.{Option, none, some}
 use Rattle.text.specs.Pick.{pick, side}
@@ -11,9 +12,8 @@ use Rattle.trace.specs.declared.asks.Asks.{Asks}
 use Rattle.trace.specs.Low.{low_of}
 use Rattle.trace.specs.Stored.{stored}
 use Rattle.trace.specs.Pairs.{firsts_in, seconds_in}
-use Rattle.trace.specs.Lines.{line_of, numbers_of, bytes_after}
+use Rattle.trace.specs.Lines.{Line, line_of, numbers_of, bytes_after}
 use Rattle.trace.specs.declared.faults.Reason.{Reason}
-use Rattle.trace.specs.declared.line.Line.{Line}
 use Rattle.trace.specs.declared.names.Name.{Name}
 use Rattle.trace.specs.declared.names.Name.TheVariants.{Setup, Read, Write, WriteRow, Receive, Wake, Watch, Reset, PowerDown, Clock}
 use Rattle.trace.specs.declared.names.Name.TheVariants.{TakeTx, TakeWritten, HasLeft, HostPending, Figures}
@@ -35,9 +35,9 @@ numbers_in s = stored (numbers_of s) (replicate 32 0)
 
 -- a line that is no call answers nothing, or its fault
 abbrev pub read_as : List ℕ → List ℕ → Option (Uart ℕ ℕ) → Line → Next
-read_as s bytes device Line.Nothing = says [] device
-read_as s bytes device (Line.Wrong f) = says (fault_text s f) device
-read_as s bytes device (Line.Call name last) = carried_out (command_of name (numbers_in s) last bytes s) (no_uart s) device
+read_as s bytes device (Ok None) = says [] device
+read_as s bytes device (Err f) = says (fault_text s f) device
+read_as s bytes device (Ok (Some c)) = carried_out (command_of c.name (numbers_in s) c.last bytes s) (no_uart s) device
 
 -- the line at the front of a buffer; one that had no room there was too long
 abbrev pub line_in : Input → List ℕ → List ℕ

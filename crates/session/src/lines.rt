@@ -16,7 +16,7 @@ use text::parts::within;
 use text::words::next_word;
 use trace::asks::{Asks, asks_of};
 use trace::faults::{Fault, Reason};
-use trace::line::{Line, read_line};
+use trace::line::{Call, read_line};
 use trace::names::Name;
 
 fn wrong(session: Session, s: &[u8], fault: Fault, out: &mut [u8]) -> Session
@@ -41,17 +41,8 @@ fn first_call(session: Session, s: &[u8], name: Name, numbers: [u64; 32], out: &
         Asks::SetUp => set_up(session, numbers, out),
         Asks::Figures => line_figures(session, s, out),
         Asks::Uart => {
-            let word = next_word(s, 0);
-            wrong(
-                session,
-                s,
-                Fault {
-                    reason: Reason::NoUart,
-                    start: word.start,
-                    end: word.end,
-                },
-                out,
-            )
+            let fault = Fault::of(Reason::NoUart, next_word(s, 0));
+            wrong(session, s, fault, out)
         }
     }
 }
@@ -77,16 +68,15 @@ pub fn answer_line(
     let n = within(input.len, line);
     let s = &line[..n];
     let mut numbers = [0u64; 32];
-    let read = read_line(s, &mut numbers, bytes);
-    match read {
-        Line::Nothing => session,
-        Line::Wrong(fault) => wrong(session, s, fault, out),
-        Line::Call(name, last) => {
+    match read_line(s, &mut numbers, bytes) {
+        Ok(None) => session,
+        Ok(Some(Call { name, last })) => {
             if session.ready {
                 carry_out(session, name, numbers, last, bytes, s, out)
             } else {
                 first_call(session, s, name, numbers, out)
             }
         }
+        Err(fault) => wrong(session, s, fault, out),
     }
 }

@@ -1,12 +1,13 @@
 -- One number of a line. Assumes nothing.
-use Rattle.std.specs.Prelude.{List, ℕ, Option, Some, None}
+use Rattle.std.specs.Prelude.{List, ℕ, Result, Err, Option, Some, None}
 use Rattle.text.specs.declared.words.Word.{Word}
 use Rattle.text.specs.Numbers.{limit32, number_of}
+use Rattle.trace.specs.declared.faults.Fault.{Fault}
 use Rattle.trace.specs.declared.faults.Reason.{Reason}
 use Rattle.trace.specs.declared.step.Step.{Step}
 use Rattle.trace.specs.declared.number.Kind.{Kind}
 use Rattle.trace.specs.declared.number.Kind.TheVariants.{Wide, Narrow, Length}
-use Rattle.trace.specs.Steps.{bytes_in, wrong, missing, word_at}
+use Rattle.trace.specs.Steps.{bytes_in, fault, missing, step_to, word_at}
 
 -- the largest number of a kind
 abbrev pub limit_of : Kind → ℕ
@@ -20,13 +21,13 @@ reason_of Wide = Reason.NoNumber
 reason_of Narrow = Reason.NoNumber32
 reason_of Length = Reason.NoLength
 
-abbrev pub number_step : Kind → Word → Option ℕ → Step
-number_step kind w (Some n) = Step.To w.end n
-number_step kind w None = wrong (reason_of kind) w
+abbrev pub number_step : Kind → Word → Option ℕ → Result Step Fault
+number_step kind w (Some n) = step_to w.end n
+number_step kind w None = Err (fault (reason_of kind) w)
 
 -- the next word as a number
-abbrev pub number_in : List ℕ → Kind → Word → Step
+abbrev pub number_in : List ℕ → Kind → Word → Result Step Fault
 number_in s kind w = number_step kind w (number_of (limit_of kind) (bytes_in s w))
 
-unfoldable pub number_at : List ℕ → ℕ → Kind → Step
-number_at s at kind = word_at s at (missing s) (number_in s kind)
+unfoldable pub number_at : List ℕ → ℕ → Kind → Result Step Fault
+number_at s at kind = word_at s at (Err (missing s)) (number_in s kind)

@@ -1,44 +1,43 @@
 -- Numbers of a line in pairs, up to its end. Assumes nothing.
-use Rattle.std.specs.Prelude.{◌≡◌, refl, Bool, true, false, List, [], ◌∷◌, eqb, set}
+use Rattle.std.specs.Prelude.{◌≡◌, Bool, true, false, List, [], ◌∷◌, eqb, Result, Ok, Err}
 use Rattle.std.proofs.Math.Path.{ap, sym}
 use Rattle.std.proofs.Common.{◌∙◌, ⊎_elim, length-take-le, take_all, take-take}
 use Prim.Native.Nat.{ℕ, zero, suc, ◌+◌, ◌-◌, ◌<◌, ◌≤◌, min}
 use native.Mathlib.Omega.{arith}
-use Rattle.std.proofs.Math.ListN.{length, take, length-set}
+use Rattle.std.proofs.Math.ListN.{length, take}
 use Rattle.text.specs.Pick.{pick, side}
 use Rattle.text.specs.Words.{next_word}
-use Rattle.text.specs.declared.words.Word.{Word}
 use Rattle.trace.specs.declared.faults.Fault.{Fault}
 use Rattle.trace.specs.declared.step.Step.{Step}
 use Rattle.trace.specs.declared.number.Kind.TheVariants.{Wide}
-use Rattle.trace.specs.Steps.{word_at, no_word, some_word}
+use Rattle.trace.specs.Steps.{step_to, word_if, word_at}
 use Rattle.trace.specs.One.{number_at}
-use Rattle.trace.specs.Stored.{stored, stored_from, stored-length, stored-take}
+use Rattle.trace.specs.Stored.{stored, stored-length, stored-take}
 
 -- pairs one after another: their first and second numbers, up to a fault, and how far they were read, with how many there are
 pub record Pairs : Type 0 where
   pub firsts : List ℕ
   pub seconds : List ℕ
-  pub step : Step
+  pub step : Result Step Fault
 
-abbrev pub ended : Step → Pairs
+abbrev pub ended : Result Step Fault → Pairs
 ended step = record { firsts = []; seconds = []; step = step }
 
 abbrev pub joined : ℕ → ℕ → Pairs → Pairs
 joined a b p = record { firsts = a ∷ p.firsts; seconds = b ∷ p.seconds; step = p.step }
 
 -- after a number, from the place where it ended; a fault ends them
-abbrev pub on_to : Step → (ℕ → ℕ → Pairs) → Pairs
-on_to (Step.To at n) next = next at n
-on_to (Step.Wrong f) next = ended (Step.Wrong f)
+abbrev pub on_to : Result Step Fault → (ℕ → ℕ → Pairs) → Pairs
+on_to (Ok one) next = next one.to one.number
+on_to (Err f) next = ended (Err f)
 
 -- from the `n`-th pair on, of which at most so many are left; where no word is left, they end
 abbrev pub pair_on : List ℕ → ℕ → (ℕ → Pairs) → Pairs
 pair_on s at next = on_to (number_at s at Wide) (λ middle a. on_to (number_at s middle Wide) (λ to b. joined a b (next to)))
 
 unfoldable pub pairs_from : List ℕ → ℕ → ℕ → ℕ → Pairs
-pairs_from s zero n at = ended (Step.To at n)
-pairs_from s (suc left) n at = word_at s at (ended (Step.To at n)) (λ w. pair_on s at (pairs_from s left (n + 1)))
+pairs_from s zero n at = ended (step_to at n)
+pairs_from s (suc left) n at = word_at s at (ended (step_to at n)) (λ w. pair_on s at (pairs_from s left (n + 1)))
 
 -- a line has no more pairs than bytes
 abbrev pub pairs_at : List ℕ → ℕ → Pairs
@@ -48,9 +47,9 @@ pairs_at s at = pairs_from s (length s) 0 at
 abbrev pub pairs_in : List ℕ → Pairs
 pairs_in s = pairs_at s (next_word s 0).end
 
-abbrev pub count_of : Step → ℕ
-count_of (Step.To at n) = n
-count_of (Step.Wrong f) = 0
+abbrev pub count_of : Result Step Fault → ℕ
+count_of (Ok last) = last.number
+count_of (Err f) = 0
 
 -- all of them, of a line without a fault
 abbrev pub firsts_in : List ℕ → List ℕ
@@ -61,92 +60,12 @@ seconds_in s = take (count_of (pairs_in s).step) (pairs_in s).seconds
 
 -- ---- laws
 
--- from a pair on: no word, a word that is no number, no second number, and one more pair
+-- from a pair on
 module _ (s : List ℕ) (n at : ℕ) (left : n < length s) where
-  from_on : pairs_from s (length s - n) n at
-      ≡ word_at s at (ended (Step.To at n)) (λ w. pair_on s at (pairs_from s (length s - (n + 1)) (n + 1)))
-  unfolding pairs_from
+  pub from_on : pairs_from s (length s - n) n at
+      ≡ word_if (next_word s at) (ended (step_to at n)) (λ w. pair_on s at (pairs_from s (length s - (n + 1)) (n + 1)))
+  unfolding pairs_from word_at
   from_on = let e : length s - n ≡ suc (length s - (n + 1)) = omega arith in ap (λ (k : ℕ). pairs_from s k n at) e
-
-  module _ (w : Word) (e : w ≡ next_word s at) where
-    pub pairs_end : w.start ≡ w.end → pairs_from s (length s - n) n at ≡ ended (Step.To at n)
-    pairs_end h = from_on ∙ sym (no_word s at w e _ _ h)
-
-    module _ (some : w.start ≡ w.end → ⊥) where
-      pairs-on : pairs_from s (length s - n) n at ≡ pair_on s at (pairs_from s (length s - (n + 1)) (n + 1))
-      pairs-on = from_on ∙ sym (some_word s at w e _ _ some)
-
-      pub no-first : (f : Fault) → number_at s at Wide ≡ Step.Wrong f → pairs_from s (length s - n) n at ≡ ended (Step.Wrong f)
-      no-first f q = pairs-on ∙ rw q
-
-      module _ (middle a : ℕ) (first : number_at s at Wide ≡ Step.To middle a) where
-        pub no_second : (f : Fault) → number_at s middle Wide ≡ Step.Wrong f → pairs_from s (length s - n) n at ≡ ended (Step.Wrong f)
-        no_second f q = pairs-on ∙ rw (first, q)
-
-        pub pair_read : (to b : ℕ) → number_at s middle Wide ≡ Step.To to b
-            → pairs_from s (length s - n) n at ≡ joined a b (pairs_from s (length s - (n + 1)) (n + 1) to)
-        pair_read to b q = pairs-on ∙ rw (first, q)
-
--- as many as there are bytes
-pub pairs-past : (s : List ℕ) (n at : ℕ) → length s ≤ n → pairs_from s (length s - n) n at ≡ ended (Step.To at n)
-unfolding pairs_from
-pairs-past s n at h = let e : length s - n ≡ 0 = omega arith in ap (λ (k : ℕ). pairs_from s k n at) e
-
--- ---- the loop
-
--- so many pairs are read and kept, and what is left to do is to read and keep those from there on
-pub record Reading (s : List ℕ) (from : ℕ) (firsts₀ seconds₀ firsts seconds : List ℕ) (n at : ℕ) : Type 0 where
-  pub count : n ≤ length s
-  pub steps : (pairs_at s from).step ≡ (pairs_from s (length s - n) n at).step
-  pub fronts : stored (pairs_at s from).firsts firsts₀ ≡ stored_from n (pairs_from s (length s - n) n at).firsts firsts
-  pub backs : stored (pairs_at s from).seconds seconds₀ ≡ stored_from n (pairs_from s (length s - n) n at).seconds seconds
-  pub room : length firsts ≡ length firsts₀
-  pub other-room : length seconds ≡ length seconds₀
-
-module _ {s : List ℕ} {from : ℕ} {firsts₀ seconds₀ : List ℕ} where
-  pub reading_begins : Reading s from firsts₀ seconds₀ firsts₀ seconds₀ 0 from
-  reading_begins =
-      let all : length s ≡ length s - 0 = omega arith in
-      record {
-        count = omega arith;
-        steps = ap (λ (k : ℕ). (pairs_from s k 0 from).step) all;
-        fronts = ap (λ (k : ℕ). stored (pairs_from s k 0 from).firsts firsts₀) all;
-        backs = ap (λ (k : ℕ). stored (pairs_from s k 0 from).seconds seconds₀) all;
-        room = refl;
-        other-room = refl;
-      }
-
-  module _ {firsts seconds : List ℕ} {n at : ℕ} (r : Reading s from firsts₀ seconds₀ firsts seconds n at) where
-    pub reading-ends : (step : Step) → pairs_from s (length s - n) n at ≡ ended step
-        → (step ≡ (pairs_at s from).step) × ((firsts ≡ stored (pairs_at s from).firsts firsts₀)
-        × (seconds ≡ stored (pairs_at s from).seconds seconds₀))
-    unfolding stored_from
-    reading-ends step e = (
-      sym (r.steps ∙ ap (λ (p : Pairs). p.step) e),
-      (
-        sym (r.fronts ∙ ap (λ (p : Pairs). stored_from n p.firsts firsts) e),
-        sym (r.backs ∙ ap (λ (p : Pairs). stored_from n p.seconds seconds) e),
-      ),
-    )
-
-    pub reading-on : (a b to : ℕ) {fs ss : List ℕ} → n < length s
-        → pairs_from s (length s - n) n at ≡ joined a b (pairs_from s (length s - (n + 1)) (n + 1) to)
-        → fs ≡ set firsts n a → ss ≡ set seconds n b → Reading s from firsts₀ seconds₀ fs ss (n + 1) to
-    unfolding stored_from
-    reading-on a b to {fs} {ss} h e p q = record {
-      count = omega arith;
-      steps = r.steps ∙ ap (λ (l : Pairs). l.step) e;
-      fronts =
-          r.fronts
-          ∙ ap (λ (l : Pairs). stored_from n l.firsts firsts) e
-          ∙ ap (stored_from (n + 1) (pairs_from s (length s - (n + 1)) (n + 1) to).firsts) (sym p);
-      backs =
-          r.backs
-          ∙ ap (λ (l : Pairs). stored_from n l.seconds seconds) e
-          ∙ ap (stored_from (n + 1) (pairs_from s (length s - (n + 1)) (n + 1) to).seconds) (sym q);
-      room = ap length p ∙ length-set firsts n a ∙ r.room;
-      other-room = ap length q ∙ length-set seconds n b ∙ r.other-room;
-    }
 
 -- ---- what is kept of a line's pairs
 
@@ -161,18 +80,18 @@ pairs-counted s (suc left) n at =
     let w = next_word s at in
     by_word (eqb w.start w.end) (pairs-counted s left (n + 1))
   where
-    by-second : (two : Step) (a : ℕ) → ((to : ℕ) → Counted (n + 1) (pairs_from s left (n + 1) to))
+    by-second : (two : Result Step Fault) (a : ℕ) → ((to : ℕ) → Counted (n + 1) (pairs_from s left (n + 1) to))
         → Counted n (on_to two (λ to b. joined a b (pairs_from s left (n + 1) to)))
-    by-second (Step.To to b) a rest = (omega (arith, (rest to).0), omega (arith, (rest to).1))
-    by-second (Step.Wrong f) a rest = (omega arith, omega arith)
+    by-second (Ok b) a rest = (omega (arith, (rest b.to).0), omega (arith, (rest b.to).1))
+    by-second (Err f) a rest = (omega arith, omega arith)
 
-    by_first : (one : Step) → ((to : ℕ) → Counted (n + 1) (pairs_from s left (n + 1) to))
+    by_first : (one : Result Step Fault) → ((to : ℕ) → Counted (n + 1) (pairs_from s left (n + 1) to))
         → Counted n (on_to one (λ middle a. on_to (number_at s middle Wide) (λ to b. joined a b (pairs_from s left (n + 1) to))))
-    by_first (Step.To middle a) rest = by-second (number_at s middle Wide) a rest
-    by_first (Step.Wrong f) rest = (omega arith, omega arith)
+    by_first (Ok a) rest = by-second (number_at s a.to Wide) a.number rest
+    by_first (Err f) rest = (omega arith, omega arith)
 
     by_word : (t : Bool) → ((to : ℕ) → Counted (n + 1) (pairs_from s left (n + 1) to))
-        → Counted n (pick t (ended (Step.To at n)) (pair_on s at (pairs_from s left (n + 1))))
+        → Counted n (pick t (ended (step_to at n)) (pair_on s at (pairs_from s left (n + 1))))
     by_word true rest = (omega arith, omega arith)
     by_word false rest = by_first (number_at s at Wide) rest
 

@@ -1,7 +1,5 @@
 -- Reading one word more of a line. Assumes nothing.
-use Rattle.std.specs.Prelude.{◌≡◌, List, ℕ, ◌-◌, eqb, take, drop}
-use Rattle.std.proofs.Math.Path.{subst}
-use Rattle.std.proofs.Common.{eq-eqb, ne_eqb}
+use Rattle.std.specs.Prelude.{List, ℕ, ◌-◌, eqb, take, drop, Result, Ok}
 use Rattle.text.specs.Pick.{pick}
 use Rattle.text.specs.Words.{next_word}
 use Rattle.text.specs.declared.words.Word.{Word}
@@ -17,12 +15,13 @@ bytes_in s w = take (w.end - w.start) (drop w.start s)
 abbrev pub fault : Reason → Word → Fault
 fault reason w = record { reason = reason; start = w.start; end = w.end }
 
-abbrev pub wrong : Reason → Word → Step
-wrong reason w = Step.Wrong (fault reason w)
-
 -- a word is missing: the fault is at the call's name
-abbrev pub missing : List ℕ → Step
-missing s = wrong Reason.MissingWord (next_word s 0)
+abbrev pub missing : List ℕ → Fault
+missing s = fault Reason.MissingWord (next_word s 0)
+
+-- how far a line was read, and what was read as a number
+abbrev pub step_to : ℕ → ℕ → Result Step Fault
+step_to at n = Ok (record { to = at; number = n })
 
 -- the next word from a place on, read; where there is none, what stands for it
 abbrev pub word_if : {A : Type 0} → Word → A → (Word → A) → A
@@ -30,15 +29,3 @@ word_if w none read = pick (eqb w.start w.end) none (read w)
 
 unfoldable pub word_at : {A : Type 0} → List ℕ → ℕ → A → (Word → A) → A
 word_at s at none read = word_if (next_word s at) none read
-
--- ---- laws
-
--- there is no word, and there is one
-module _ {A : Type 0} (s : List ℕ) (at : ℕ) (w : Word) (e : w ≡ next_word s at) (none : A) (read : Word → A) where
-  pub no_word : w.start ≡ w.end → none ≡ word_at s at none read
-  unfolding word_at
-  no_word h = subst (λ (v : Word). none ≡ word_if v none read) e (rw (eq-eqb w.start w.end h))
-
-  pub some_word : (w.start ≡ w.end → ⊥) → read w ≡ word_at s at none read
-  unfolding word_at
-  some_word h = subst (λ (v : Word). read w ≡ word_if v none read) e (rw (ne_eqb w.start w.end h))

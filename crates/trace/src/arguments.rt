@@ -5,7 +5,7 @@ ghost use Rattle.trace.specs.Forms.{takes as Forms·takes, form_of};
 
 use crate::names::Name;
 
-#[derive(Clone, Copy)]
+#[derive(Clone, Copy, Debug, PartialEq, Eq)]
 pub enum Last {
     None,
     // 0 or 1.
@@ -17,7 +17,7 @@ pub enum Last {
     Pairs,
 }
 
-#[derive(Clone, Copy)]
+#[derive(Clone, Copy, Debug, PartialEq, Eq)]
 pub struct Form {
     pub wide: usize,
     pub count: usize,
@@ -30,6 +30,7 @@ fn takes(wide: usize, count: usize, last: Last) -> Form
     Form { wide, count, last }
 }
 
+#[tactic(auto, unfolding(crate::specs::Forms::form_of))]
 pub fn form_of(name: Name) -> Form
     ensures { result ≡ form_of name }
 {

@@ -4,7 +4,7 @@ ghost use Rattle.trace.specs.Asks.{asks_of};
 
 use crate::names::Name;
 
-#[derive(Clone, Copy)]
+#[derive(Clone, Copy, Debug, PartialEq, Eq)]
 pub enum Asks {
     SetUp,
     Figures,
@@ -16,19 +16,19 @@ pub fn asks_of(name: Name) -> Asks
 {
     match name {
         Name::Setup => Asks::SetUp,
-        Name::Read => Asks::Uart,
-        Name::Write => Asks::Uart,
-        Name::WriteRow => Asks::Uart,
-        Name::Receive => Asks::Uart,
-        Name::Wake => Asks::Uart,
-        Name::Watch => Asks::Uart,
-        Name::Reset => Asks::Uart,
-        Name::PowerDown => Asks::Uart,
-        Name::Clock => Asks::Uart,
-        Name::TakeTx => Asks::Uart,
-        Name::TakeWritten => Asks::Uart,
-        Name::HasLeft => Asks::Uart,
-        Name::HostPending => Asks::Uart,
         Name::Figures => Asks::Figures,
+        Name::Read
+        | Name::Write
+        | Name::WriteRow
+        | Name::Receive
+        | Name::Wake
+        | Name::Watch
+        | Name::Reset
+        | Name::PowerDown
+        | Name::Clock
+        | Name::TakeTx
+        | Name::TakeWritten
+        | Name::HasLeft
+        | Name::HostPending => Asks::Uart,
     }
 }

@@ -2,6 +2,8 @@
 ghost use Rattle.std.specs.Prelude.{◌≡◌, map, ◌≤◌, take, drop};
 ghost use Rattle.trace.specs.Low.{low_of};
 
+use std::array;
+
 pub fn low(number: u64) -> u32
     ensures { result ≡ low_of number }
 {
@@ -13,11 +15,5 @@ pub fn sixteen(numbers: [u64; 32], from: usize) -> [u32; 16]
     requires { from ≤ 16 }
     ensures { result ≡ take 16 (map low_of (drop from numbers)) }
 {
-    let mut part = [0u32; 16];
-    let mut i = 0;
-    while i < 16 {
-        part[i] = low(numbers[from + i]);
-        i += 1;
-    }
-    part
+    array::from_fn(|i| low(numbers[from + i]))
 }

@@ -1,11 +1,10 @@
 // The names of the calls.
 ghost use Rattle.std.specs.Prelude.{◌≡◌};
-ghost use Rattle.text.specs.Same.{same_bytes};
 ghost use Rattle.trace.specs.Names.{letters, name_of};
 
 use text::names::same;
 
-#[derive(Clone, Copy)]
+#[derive(Clone, Copy, Debug, PartialEq, Eq)]
 pub enum Name {
     Setup,
     Read,
@@ -22,13 +21,6 @@ pub enum Name {
     HasLeft,
     HostPending,
     Figures,
-}
-
-// The call that a word names, or that it names none.
-#[derive(Clone, Copy)]
-pub enum Named {
-    Call(Name),
-    Unknown,
 }
 
 // The calls of which a trace has most come first.
@@ -50,40 +42,35 @@ const NAMES: [Name; 15] = [
     Name::Figures,
 ];
 
-// Whether a word is a call's name.
-fn is_name(word: &[u8], name: Name) -> bool
-    ensures { result ≡ same_bytes word.now (letters name) }
+// A call's name as it is written.
+pub fn letters(name: Name) -> &'static [u8]
+    ensures { result.now ≡ letters name }
 {
     match name {
-        Name::Setup => same(word, b"setup"),
-        Name::Read => same(word, b"read"),
-        Name::Write => same(word, b"write"),
-        Name::WriteRow => same(word, b"write_row"),
-        Name::Receive => same(word, b"receive"),
-        Name::Wake => same(word, b"wake"),
-        Name::Watch => same(word, b"watch"),
-        Name::Reset => same(word, b"reset"),
-        Name::PowerDown => same(word, b"power_down"),
-        Name::Clock => same(word, b"clock"),
-        Name::TakeTx => same(word, b"take_tx"),
-        Name::TakeWritten => same(word, b"take_written"),
-        Name::HasLeft => same(word, b"has_left"),
-        Name::HostPending => same(word, b"host_pending"),
-        Name::Figures => same(word, b"figures"),
+        Name::Setup => b"setup",
+        Name::Read => b"read",
+        Name::Write => b"write",
+        Name::WriteRow => b"write_row",
+        Name::Receive => b"receive",
+        Name::Wake => b"wake",
+        Name::Watch => b"watch",
+        Name::Reset => b"reset",
+        Name::PowerDown => b"power_down",
+        Name::Clock => b"clock",
+        Name::TakeTx => b"take_tx",
+        Name::TakeWritten => b"take_written",
+        Name::HasLeft => b"has_left",
+        Name::HostPending => b"host_pending",
+        Name::Figures => b"figures",
     }
 }
 
 // The call that a word names.
-pub fn name_of(word: &[u8]) -> Named
+pub fn name_of(word: &[u8]) -> Option<Name>
     ensures { result ≡ name_of word.now }
 {
-    let mut i = 0;
-    while i < 15 {
-        let name = NAMES[i];
-        if is_name(word, name) {
-            return Named::Call(name);
-        }
-        i += 1;
-    }
-    Named::Unknown
+    NAMES
+        .iter()
+        .copied()
+        .find(|name| same(word, letters(*name)))
 }

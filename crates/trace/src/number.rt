@@ -2,13 +2,13 @@
 ghost use Rattle.std.specs.Prelude.{◌≡◌};
 ghost use Rattle.trace.specs.One.{limit_of, reason_of, number_at};
 
-use crate::faults::Reason;
-use crate::step::{Step, missing, wrong};
+use crate::faults::{Fault, Reason};
+use crate::step::Step;
 use text::numbers::read_number;
 use text::words::next_word;
 
 // A number of 64 bits, one of 32, or the length of a buffer that a call may lend.
-#[derive(Clone, Copy)]
+#[derive(Clone, Copy, Debug, PartialEq, Eq)]
 pub enum Kind {
     Wide,
     Narrow,
@@ -36,18 +36,19 @@ fn reason_of(kind: Kind) -> Reason
 }
 
 // Reads one number.
-pub fn read_one(s: &[u8], at: usize, kind: Kind) -> Step
+#[tactic(auto, unfolding(crate::specs::One::number_at, crate::specs::Steps::word_at))]
+pub fn read_one(s: &[u8], at: usize, kind: Kind) -> Result<Step, Fault>
     ensures { result ≡ number_at s.now at kind }
 {
     let word = next_word(s, at);
-    let start = word.start;
-    let end = word.end;
-    if start == end {
-        return missing(s);
+    if word.start == word.end {
+        return Err(Fault::missing(s));
     }
-    let number = read_number(&s[start..end], limit_of(kind));
-    match number {
-        Some(value) => Step::To(end, value),
-        None => wrong(reason_of(kind), word),
+    match read_number(&s[word.start..word.end], limit_of(kind)) {
+        Some(number) => Ok(Step {
+            to: word.end,
+            number,
+        }),
+        None => Err(Fault::of(reason_of(kind), word)),
     }
 }

@@ -4,9 +4,9 @@ ghost use Rattle.trace.specs.Numbers.{kind_at, numbers_from, numbers_at};
 ghost use Rattle.trace.specs.Stored.{stored};
 
 use crate::arguments::form_of;
+use crate::faults::Fault;
 use crate::names::Name;
 use crate::number::{Kind, read_one};
-use crate::step::Step;
 
 fn kind_at(wide: usize, i: usize) -> Kind
     ensures { result ≡ kind_at wide i }
@@ -15,28 +15,31 @@ fn kind_at(wide: usize, i: usize) -> Kind
 }
 
 // Reads `count` numbers, of which the first `wide` have 64 bits and the others 32.
-fn read_each(s: &[u8], from: usize, wide: usize, count: usize, to: &mut [u64; 32]) -> Step
+#[tactic(auto, using(crate::specs::Numbers::from_on), unfolding(crate::specs::Stored::stored_from, crate::specs::Numbers::numbers_from))]
+fn read_each(
+    s: &[u8],
+    from: usize,
+    wide: usize,
+    count: usize,
+    to: &mut [u64; 32],
+) -> Result<usize, Fault>
     requires { count ≤ 32 }
-    ensures value { result ≡ (numbers_from s.now wide 0 count from).step }
+    ensures value { result ≡ (numbers_from s.now wide 0 count from).end }
     ensures to_after { to.new ≡ stored (numbers_from s.now wide 0 count from).values to.old }
 {
     let mut at = from;
-    let mut i = 0;
-    while i < count {
-        let one = read_one(s, at, kind_at(wide, i));
-        let Step::To(end, value) = one else {
-            return one;
-        };
-        to[i] = value;
-        at = end;
-        i += 1;
+    for i in 0..count {
+        let one = read_one(s, at, kind_at(wide, i))?;
+        to[i] = one.number;
+        at = one.to;
     }
-    Step::To(at, 0)
+    Ok(at)
 }
 
-// Reads the numbers of a call to the front of `to`.
-pub fn read_numbers(s: &[u8], from: usize, name: Name, to: &mut [u64; 32]) -> Step
-    ensures value { result ≡ (numbers_at s.now from name).step }
+// Reads the numbers of a call to the front of `to`, and gives the place after them.
+#[tactic(auto, using(crate::specs::Forms::count_fits))]
+pub fn read_numbers(s: &[u8], from: usize, name: Name, to: &mut [u64; 32]) -> Result<usize, Fault>
+    ensures value { result ≡ (numbers_at s.now from name).end }
     ensures to_after { to.new ≡ stored (numbers_at s.now from name).values to.old }
 {
     let form = form_of(name);

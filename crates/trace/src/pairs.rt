@@ -1,8 +1,9 @@
 // Numbers of 64 bits in pairs, from a place on up to the line's end. A line may have any number of them.
-ghost use Rattle.std.specs.Prelude.{◌≡◌, min, set};
+ghost use Rattle.std.specs.Prelude.{◌≡◌, set};
 ghost use Rattle.trace.specs.Stored.{stored};
-ghost use Rattle.trace.specs.Pairs.{pairs_at, count_of, Kept};
+ghost use Rattle.trace.specs.Pairs.{pairs_at, Kept};
 
+use crate::faults::Fault;
 use crate::number::{Kind, read_one};
 use crate::step::Step;
 use text::words::next_word;
@@ -18,48 +19,36 @@ fn keep(to: &mut [u64], place: usize, number: u64)
 
 // Reads the pairs, the first numbers to the front of one list and the second ones to that of another. A pair for which there is no
 // room is read all the same, and not kept. The step's number is how many pairs there are.
-pub fn read_pairs(s: &[u8], from: usize, firsts: &mut [u64], seconds: &mut [u64]) -> Step
+#[tactic(auto, using(crate::specs::Pairs::from_on), unfolding(crate::specs::Stored::stored_from, crate::specs::Pairs::pairs_from))]
+pub fn read_pairs(
+    s: &[u8],
+    from: usize,
+    firsts: &mut [u64],
+    seconds: &mut [u64],
+) -> Result<Step, Fault>
     ensures value { result ≡ (pairs_at s.now from).step }
     ensures firsts_after { firsts.new ≡ stored (pairs_at s.now from).firsts firsts.old }
     ensures seconds_after { seconds.new ≡ stored (pairs_at s.now from).seconds seconds.old }
 {
     let mut at = from;
-    let mut n: usize = 0;
-    while n < s.len() {
+    for n in 0..s.len() {
         let word = next_word(s, at);
         if word.start == word.end {
-            return Step::To(at, n as u64);
+            return Ok(Step {
+                to: at,
+                number: n as u64,
+            });
         }
-        let first = read_one(s, at, Kind::Wide);
-        let Step::To(middle, a) = first else {
-            return first;
-        };
-        let second = read_one(s, middle, Kind::Wide);
-        let Step::To(end, b) = second else {
-            return second;
-        };
-        keep(firsts, n, a);
-        keep(seconds, n, b);
-        at = end;
-        n += 1;
+        let first = read_one(s, at, Kind::Wide)?;
+        let second = read_one(s, first.to, Kind::Wide)?;
+        keep(firsts, n, first.number);
+        keep(seconds, n, second.number);
+        at = second.to;
     }
-    Step::To(at, n as u64)
-}
-
-fn count_of(read: Step) -> usize
-    ensures { result ≡ count_of read }
-{
-    match read {
-        Step::To(_, count) => count as usize,
-        Step::Wrong(_) => 0,
-    }
-}
-
-// As many as there are places for.
-fn placed(count: usize) -> usize
-    ensures { result ≡ min count 1025 }
-{
-    if count < 1025 { count } else { 1025 }
+    Ok(Step {
+        to: at,
+        number: s.len() as u64,
+    })
 }
 
 // The pairs of a line whose call has nothing else, all of them or the first 1,025. The number is how many are kept, 0 for a line that
@@ -68,5 +57,6 @@ pub fn pairs_of(s: &[u8], firsts: &mut [u64; 1025], seconds: &mut [u64; 1025]) -
     ensures { Kept s.now firsts.new seconds.new result }
 {
     let name = next_word(s, 0);
-    placed(count_of(read_pairs(s, name.end, firsts, seconds)))
+    let read = read_pairs(s, name.end, firsts, seconds);
+    read.map_or(0, |last| last.number as usize).min(1025)
 }

@@ -1,6 +1,7 @@
 -- `lines::answer_line` meets its contract: what was read is answered. Assumes nothing.
 use mathlib.Core.Path.{refl, ap, ap₂, sym, ◌∙◌}
 use mathlib.Core.Option.{none, some}
+use Rattle.std.proofs.Common.{Ok}
 use mathlib.Core.List.{List, []}
 use Prim.Native.Nat.{ℕ}
 use native.Mathlib.Omega.{arith}
@@ -27,16 +28,16 @@ returns-then-input c =
       bytes_after = bytes-kept a.input a.line.now a.bytes.now d long;
     }
 
-pub returns-in-Nothing : goal.returns-in-Nothing
-returns-in-Nothing c =
+pub returns-in-Ok-None : goal.returns-in-Ok-None
+returns-in-Ok-None c =
     let far = c in
     let a = c.args in
     let d = stands_for a.session in
     let short = c.if-input.false in
     let count = c.within-n.ensures.value in
     let s = take c.within-n.result a.line.now in
-    let got = c.read_line-read.ensures in
-    let same = read_as-told a.input a.line.now a.bytes.now d short count got.value c.in-Nothing.is in
+    let got = c.read_line.ensures in
+    let same = read_as-told a.input a.line.now a.bytes.now d short count got.value (c.in-Ok-None.is ∙ ap Ok c.in-Ok-None.field-0-is) in
     let kept = got.bytes_after ∙ bytes-as a.input a.line.now a.bytes.now d short count in
     let room : Room [] a.out.now a.session.at = record { fits = omega (arith, c.requires.wide) } in record {
       gives = gives_as same (moved (put-nothing a.out.now a.session.at room) (says [] d) a.session refl refl
@@ -44,17 +45,17 @@ returns-in-Nothing c =
       bytes_after = kept;
     }
 
-pub returns-in-Wrong : goal.returns-in-Wrong
-returns-in-Wrong c =
+pub returns-in-Err : goal.returns-in-Err
+returns-in-Err c =
     let far = c in
     let a = c.args in
     let d = stands_for a.session in
     let short = c.if-input.false in
     let count = c.within-n.ensures.value in
     let s = take c.within-n.result a.line.now in
-    let got = c.read_line-read.ensures in
+    let got = c.read_line.ensures in
     let same = read_as-told a.input a.line.now a.bytes.now d short count got.value
-    c.in-Wrong.is in
+    c.in-Err.is in
     let kept = got.bytes_after ∙ bytes-as a.input a.line.now a.bytes.now d short count in
     record { gives = gives_as same c.wrong.ensures; bytes_after = kept }
 
@@ -66,12 +67,12 @@ returns-then-session c =
     let short = c.if-input.false in
     let count = c.within-n.ensures.value in
     let s = take c.within-n.result a.line.now in
-    let got = c.read_line-read.ensures in
+    let got = c.read_line.ensures in
     let same = read_as-told a.input a.line.now a.bytes.now d short count got.value
-    c.in-Call.is in
+    (c.in-Ok-Some.is ∙ ap Ok c.in-Ok-Some.field-0-is) in
     let kept = got.bytes_after ∙ bytes-as a.input a.line.now a.bytes.now d short count in
-    let name = c.in-Call.name in
-    let last = c.in-Call.last in
+    let name = c.in-Ok-Some.field-0-0.name in
+    let last = c.in-Ok-Some.field-0-0.last in
     let cmd = command_of name (numbers_in s) last (bytes_after s a.bytes.now) s in
     let u = meaning a.session.uart in record {
       gives = gives_as (ap₂ (λ (ns : List ℕ) (bs : List ℕ). carried_out (command_of name ns last bs s) [] (some u)) got.numbers_after
@@ -91,12 +92,12 @@ returns-else-session c =
     let short = c.if-input.false in
     let count = c.within-n.ensures.value in
     let s = take c.within-n.result a.line.now in
-    let got = c.read_line-read.ensures in
+    let got = c.read_line.ensures in
     let same = read_as-told a.input a.line.now a.bytes.now d short count got.value
-    c.in-Call.is in
+    (c.in-Ok-Some.is ∙ ap Ok c.in-Ok-Some.field-0-is) in
     let kept = got.bytes_after ∙ bytes-as a.input a.line.now a.bytes.now d short count in
-    let name = c.in-Call.name in
-    let last = c.in-Call.last in
+    let name = c.in-Ok-Some.field-0-0.name in
+    let last = c.in-Ok-Some.field-0-0.last in
     let cmd = command_of name (numbers_in s) last (bytes_after s a.bytes.now) s in record {
       gives = gives_as (ap (λ (ns : List ℕ). carried_out (command_of name ns last (bytes_after s a.bytes.now) s) (no_uart s) none)
           got.numbers_after

@@ -2,10 +2,10 @@
 use mathlib.Core.Path.{ap, sym, ◌∙◌}
 use mathlib.Core.List.{map}
 use lib.ListN.{take, drop}
-use Rattle.text.specs.declared.words.Word.{Word}
 use Rattle.trace.specs.Low.{low_of}
 use Rattle.trace.specs.Pairs.{firsts_in, seconds_in}
 use Rattle.trace.specs.Steps.{fault}
+use Rattle.trace.specs.declared.faults.Fault.{Fault}
 use Rattle.trace.specs.declared.faults.Reason.{Reason}
 use Rattle.answers.specs.Faults.{fault_text}
 use Rattle.trace.specs.declared.asks.Asks.{Asks}
@@ -44,8 +44,8 @@ returns-in-Uart c =
     λ last bytes.
     let a = c.args in
     let s = a.s.now in
-    gives_as (ap (λ (w : Word). says (fault_text s (fault Reason.NoUart w)) (stands_for a.session))
-    c.next_word-word.ensures.next
+    gives_as (ap (λ (f : Fault). says (fault_text s f) (stands_for a.session))
+    (c.of-fault.ensures ∙ ap (fault Reason.NoUart) c.next_word.ensures.next)
     ∙ ap (says (no_uart s)) (not-ready a.session c.requires.ready_value)
     ∙ ap (λ (f : Asks). by_first f a.numbers s) (sym c.in-Uart.is
     ∙ c.asks_of-asks.ensures)

@@ -1,14 +1,13 @@
--- `low::sixteen` meets its contract. The loop's invariant: the first `i` of the array are those that were read. Assumes nothing.
-use Rattle.std.proofs.Common.{◌≡◌, length, arith, rules}
-use Rattle.trace.specs.Low.{low-one}
+-- `low::sixteen` meets its contract. Assumes nothing.
+use Rattle.std.proofs.Common.{◌≡◌, ℕ, ◌+◌, ◌<◌, length, get_or, rules}
+use Rattle.trace.specs.Low.{low_of, low-sixteen}
 use Rattle.trace.proofs.low.sixteen.Goals as goal
 
-pub loop-i-preserved : goal.loop-i-preserved
-loop-i-preserved c =
-    let numbers = c.args.numbers in
-    let inv = c.loop-i.invariant in
-    let size : length numbers ≡ 32 = search rules in (
-      omega arith,
-      low-one _ numbers _ c.args.from c.loop-i.i _ inv.2 size (omega arith) (omega arith) inv.1 c.low.ensures,
-      inv.2,
-    )
+pub returns : goal.returns
+returns c =
+    let size : length c.args.numbers ≡ 32 = search rules in
+    low-sixteen c.args.numbers c.from_fn.result c.args.from size c.requires c.from_fn.ensures.items.long
+    (λ (i : ℕ) (h : i < 16).
+    let called = c.from_fn.ensures.items.at i 0 h in
+    let same : get_or c.from_fn.result i 0 ≡ low_of (get_or c.args.numbers (c.args.from + i) 0) = search rules in
+    same)

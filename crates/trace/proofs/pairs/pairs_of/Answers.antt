@@ -1,22 +1,17 @@
 -- `pairs::pairs_of` meets its contract. Assumes nothing.
-use mathlib.Core.Path.{ap, subst₂, sym, ◌∙◌}
-use mathlib.Core.List.{List}
-use Prim.Native.Nat.{ℕ, min}
+use mathlib.Core.Path.{◌≡◌, ap}
 use native.Mathlib.Omega.{arith}
+use Prim.Native.Nat.{min}
+use Rattle.std.proofs.lemmas.Grind.{common_steps}
 use Rattle.text.specs.declared.words.Word.{Word}
-use Rattle.trace.specs.Stored.{stored}
-use Rattle.trace.specs.Pairs.{pairs_at, count_of, Kept, pairs-kept}
+use Rattle.trace.specs.Pairs.{pairs_at, pairs_in, count_of, pairs-kept}
 use Rattle.trace.proofs.pairs.pairs_of.Goals as goal
 
 pub returns : goal.returns
 returns c =
-    let a = c.args in
-    let s = a.s.now in
-    let read = c.read_pairs.ensures in
-    let end = ap (λ (w : Word). w.end) c.next_word-name.ensures.next in
-    let count = c.placed.ensures ∙ ap (λ (k : ℕ). min k 1025) (c.count_of.ensures ∙ ap count_of read.value
-    ∙ ap (λ (k : ℕ). count_of (pairs_at s k).step) end) in
-    subst₂ (λ (fs ss : List ℕ). Kept s fs ss c.placed.result)
-    (sym (read.firsts_after ∙ ap (λ (k : ℕ). stored (pairs_at s k).firsts a.firsts.now) end))
-    (sym (read.seconds_after ∙ ap (λ (k : ℕ). stored (pairs_at s k).seconds a.seconds.now) end))
-    (pairs-kept s a.firsts.now a.seconds.now _ (omega arith) (omega arith) count)
+    let s = c.args.s.now in
+    let count : c.map_or.result ≡ count_of c.read_pairs-read.result = grind (arith, common_steps) in
+    let here : pairs_at s c.next_word-name.result.end ≡ pairs_in s = ap (λ (w : Word). pairs_at s w.end) c.next_word-name.ensures.next in
+    let last : c.min.result ≡ min (count_of (pairs_in s).step) 1025 = cc in
+    rw (c.read_pairs-read.ensures.firsts_after, c.read_pairs-read.ensures.seconds_after, here)
+    (pairs-kept s c.args.firsts.now c.args.seconds.now c.min.result (omega arith) (omega arith) last)
