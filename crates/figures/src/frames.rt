@@ -10,6 +10,7 @@ pub const FRAMES: usize = 1024;
 
 // The figures of the frames that start and end at these subcycles, in order. They are refused where a frame ends before it starts, or
 // starts before the one before it ends, or there are more than FRAMES, or not as many starts as ends.
+// Two slices, as the C interface lends them.
 pub fn figures(starts: &[u64], ends: &[u64]) -> Result<Figures, UnfitFrames>
     ensures { result ≡ figures_of starts.now ends.now }
 {

@@ -24,7 +24,7 @@ pub fn read(words: Words, place: Place) -> Read
     }
 }
 
-// Whether a place is held.
+// Whether a place is held. A list of its own: by a reference into the words it would need words to ask of.
 fn holds(place: Place) -> bool
     ensures { result ≡ Storage·holds (held_at place) }
 {
