@@ -103,26 +103,19 @@ impl Uart {
         ensures { SetsUp offsets resets result.uart result.reply }
     {
         let made = calls::set_up::set_up(offsets, resets);
-        let core = made.core;
-        let gone_at = [0u64; 129];
-        let flight = [0u8; 129];
-        let tx = [0u8; 1152];
-        let host = [0u8; 1024];
-        let run_at = [0u64; 64];
-        let run_len = [0u64; 64];
-        let rx = [0u8; 128];
-        let uart = Uart {
-            core,
-            gone_at,
-            flight,
-            tx,
-            host,
-            run_at,
-            run_len,
-            rx,
-        };
-        let reply = made.reply;
-        NewUart { uart, reply }
+        NewUart {
+            uart: Uart {
+                core: made.core,
+                gone_at: [0; 129],
+                flight: [0; 129],
+                tx: [0; 1152],
+                host: [0; 1024],
+                run_at: [0; 64],
+                run_len: [0; 64],
+                rx: [0; 128],
+            },
+            reply: made.reply,
+        }
     }
 
     // All that is due at a cycle is done. The work is `settle::settle`'s, over the arrays lent to it.
@@ -130,25 +123,18 @@ impl Uart {
         requires { Good self }
         ensures { Settles (settle cycle (meaning self)) result.uart.core (arrays_of result.uart) result.passes result.overflows }
     {
-        let mut tx = self.tx;
-        let mut run_len = self.run_len;
-        let mut rx = self.rx;
         let done = settle::settle(
             self.core,
             &self.gone_at,
             &self.flight,
-            &mut tx,
+            &mut self.tx,
             &self.host,
             &self.run_at,
-            &mut run_len,
-            &mut rx,
+            &mut self.run_len,
+            &mut self.rx,
             cycle,
         );
-        let core = done.core;
-        self.core = core;
-        self.tx = tx;
-        self.run_len = run_len;
-        self.rx = rx;
+        self.core = done.core;
         AfterSettle {
             uart: self,
             passes: done.passes,
@@ -161,32 +147,23 @@ impl Uart {
         requires { Good self }
         ensures { Answered as_read read_number (dated_call cycle (Calls·read cycle offset)) self result.uart result.reply result.report }
     {
-        let mut tx = self.tx;
-        let mut run_len = self.run_len;
-        let mut rx = self.rx;
         let done = access::read::read(
             self.core,
             &self.gone_at,
             &self.flight,
-            &mut tx,
+            &mut self.tx,
             &self.host,
             &self.run_at,
-            &mut run_len,
-            &mut rx,
+            &mut self.run_len,
+            &mut self.rx,
             cycle,
             offset,
         );
-        let core = done.core;
-        self.core = core;
-        self.tx = tx;
-        self.run_len = run_len;
-        self.rx = rx;
-        let reply = done.reply;
-        let report = done.report;
+        self.core = done.core;
         AfterRead {
             uart: self,
-            reply,
-            report,
+            reply: done.reply,
+            report: done.report,
         }
     }
 
@@ -196,37 +173,24 @@ impl Uart {
         ensures { Answered (λ x. x) write_number (dated_call cycle (Calls·write cycle offset value)) self result.uart result.reply
             result.report }
     {
-        let mut gone_at = self.gone_at;
-        let mut flight = self.flight;
-        let mut tx = self.tx;
-        let mut run_len = self.run_len;
-        let mut rx = self.rx;
         let done = access::write::write(
             self.core,
-            &mut gone_at,
-            &mut flight,
-            &mut tx,
+            &mut self.gone_at,
+            &mut self.flight,
+            &mut self.tx,
             &self.host,
             &self.run_at,
-            &mut run_len,
-            &mut rx,
+            &mut self.run_len,
+            &mut self.rx,
             cycle,
             offset,
             value,
         );
-        let core = done.core;
-        self.core = core;
-        self.gone_at = gone_at;
-        self.flight = flight;
-        self.tx = tx;
-        self.run_len = run_len;
-        self.rx = rx;
-        let reply = done.reply;
-        let report = done.report;
+        self.core = done.core;
         AfterWrite {
             uart: self,
-            reply,
-            report,
+            reply: done.reply,
+            report: done.report,
         }
     }
 
@@ -235,36 +199,23 @@ impl Uart {
         requires { Good self }
         ensures { Answered (λ x. x) row_number (row cycle bytes.now) self result.uart result.reply result.report }
     {
-        let mut gone_at = self.gone_at;
-        let mut flight = self.flight;
-        let mut tx = self.tx;
-        let mut run_len = self.run_len;
-        let mut rx = self.rx;
         let row = access::row::write_row(
             self.core,
-            &mut gone_at,
-            &mut flight,
-            &mut tx,
+            &mut self.gone_at,
+            &mut self.flight,
+            &mut self.tx,
             &self.host,
             &self.run_at,
-            &mut run_len,
-            &mut rx,
+            &mut self.run_len,
+            &mut self.rx,
             cycle,
             bytes,
         );
-        let core = row.core;
-        self.core = core;
-        self.gone_at = gone_at;
-        self.flight = flight;
-        self.tx = tx;
-        self.run_len = run_len;
-        self.rx = rx;
-        let reply = row.reply;
-        let report = row.report;
+        self.core = row.core;
         AfterRow {
             uart: self,
-            reply,
-            report,
+            reply: row.reply,
+            report: row.report,
         }
     }
 
@@ -272,14 +223,11 @@ impl Uart {
     fn after_done(mut self, done: DoneCore) -> AfterDone
         ensures { result ≡ after_done self done }
     {
-        let core = done.core;
-        self.core = core;
-        let reply = done.reply;
-        let report = done.report;
+        self.core = done.core;
         AfterDone {
             uart: self,
-            reply,
-            report,
+            reply: done.reply,
+            report: done.report,
         }
     }
 
@@ -287,14 +235,11 @@ impl Uart {
     fn after_take(mut self, taken: TakeCore) -> AfterTake
         ensures { result ≡ after_take self taken }
     {
-        let core = taken.core;
-        self.core = core;
-        let reply = taken.reply;
-        let report = taken.report;
+        self.core = taken.core;
         AfterTake {
             uart: self,
-            reply,
-            report,
+            reply: taken.reply,
+            report: taken.report,
         }
     }
 
@@ -304,23 +249,17 @@ impl Uart {
         ensures { Answered (λ x. x) done_number (dated_call cycle (machine cycle Machine.wake)) self result.uart result.reply
             result.report }
     {
-        let mut tx = self.tx;
-        let mut run_len = self.run_len;
-        let mut rx = self.rx;
         let done = calls::wake::wake(
             self.core,
             &self.gone_at,
             &self.flight,
-            &mut tx,
+            &mut self.tx,
             &self.host,
             &self.run_at,
-            &mut run_len,
-            &mut rx,
+            &mut self.run_len,
+            &mut self.rx,
             cycle,
         );
-        self.tx = tx;
-        self.run_len = run_len;
-        self.rx = rx;
         self.after_done(done)
     }
 
@@ -330,23 +269,17 @@ impl Uart {
         ensures { Answered (λ x. x) done_number (dated_call cycle (machine cycle Machine.reset)) self result.uart result.reply
             result.report }
     {
-        let mut tx = self.tx;
-        let mut run_len = self.run_len;
-        let mut rx = self.rx;
         let done = calls::reset::reset(
             self.core,
             &self.gone_at,
             &self.flight,
-            &mut tx,
+            &mut self.tx,
             &self.host,
             &self.run_at,
-            &mut run_len,
-            &mut rx,
+            &mut self.run_len,
+            &mut self.rx,
             cycle,
         );
-        self.tx = tx;
-        self.run_len = run_len;
-        self.rx = rx;
         self.after_done(done)
     }
 
@@ -356,24 +289,18 @@ impl Uart {
         ensures { Answered (λ x. x) done_number (dated_call cycle (machine cycle (Machine.clock_change period))) self result.uart
             result.reply result.report }
     {
-        let mut tx = self.tx;
-        let mut run_len = self.run_len;
-        let mut rx = self.rx;
         let done = calls::clock_change::clock_change(
             self.core,
             &self.gone_at,
             &self.flight,
-            &mut tx,
+            &mut self.tx,
             &self.host,
             &self.run_at,
-            &mut run_len,
-            &mut rx,
+            &mut self.run_len,
+            &mut self.rx,
             cycle,
             period,
         );
-        self.tx = tx;
-        self.run_len = run_len;
-        self.rx = rx;
         self.after_done(done)
     }
 
@@ -383,29 +310,19 @@ impl Uart {
         ensures { Answered (λ x. x) done_number (dated_call cycle (Calls·receive cycle at bytes.now)) self result.uart
             result.reply result.report }
     {
-        let mut tx = self.tx;
-        let mut host = self.host;
-        let mut run_at = self.run_at;
-        let mut run_len = self.run_len;
-        let mut rx = self.rx;
         let done = host::receive::receive(
             self.core,
             &self.gone_at,
             &self.flight,
-            &mut tx,
-            &mut host,
-            &mut run_at,
-            &mut run_len,
-            &mut rx,
+            &mut self.tx,
+            &mut self.host,
+            &mut self.run_at,
+            &mut self.run_len,
+            &mut self.rx,
             cycle,
             at,
             bytes,
         );
-        self.tx = tx;
-        self.host = host;
-        self.run_at = run_at;
-        self.run_len = run_len;
-        self.rx = rx;
         self.after_done(done)
     }
 
@@ -415,24 +332,18 @@ impl Uart {
         ensures { Took (dated_call cycle (take_tx cycle out.old)) self result.uart result.reply result.report
             out.new }
     {
-        let mut tx = self.tx;
-        let mut run_len = self.run_len;
-        let mut rx = self.rx;
         let done = host::take_tx::take_tx(
             self.core,
             &self.gone_at,
             &self.flight,
-            &mut tx,
+            &mut self.tx,
             &self.host,
             &self.run_at,
-            &mut run_len,
-            &mut rx,
+            &mut self.run_len,
+            &mut self.rx,
             cycle,
             out,
         );
-        self.tx = tx;
-        self.run_len = run_len;
-        self.rx = rx;
         self.after_take(done)
     }
 
