@@ -14,13 +14,11 @@ ghost use Rattle.model.specs.Row.{row, row_number};
 ghost use Rattle.device.specs.Settles.{Settles};
 ghost use Rattle.calls.specs.Answers.{dated_call, undated_call};
 ghost use Rattle.calls.specs.Undated.{left_reply, pending_reply};
-ghost use Rattle.uart.specs.Whole.{arrays_of, meaning, Good, Answered, Took, SetsUp, after_done, after_take};
+ghost use Rattle.uart.specs.Whole.{arrays_of, meaning, Good, Answered, Took, SetsUp, after};
 
-use calls::answers::DoneCore;
 use calls::queries::{HasLeft, HostPending};
 use calls::{power_down, watch};
 use device::{Core, settle};
-use host::answers::TakeCore;
 use model::{Done, Read, Report, Row, SetUp, Taken, Write};
 
 #[repr(C)]
@@ -57,45 +55,24 @@ pub struct NewUart {
     pub reply: SetUp,
 }
 
+// A UART after a call, with the reply and the report.
 #[repr(C)]
 #[derive(Clone, Copy)]
-pub struct AfterRead {
+pub struct After<R> {
     pub uart: Uart,
-    pub reply: Read,
+    pub reply: R,
     pub report: Report,
 }
 
-#[repr(C)]
-#[derive(Clone, Copy)]
-pub struct AfterWrite {
-    pub uart: Uart,
-    pub reply: Write,
-    pub report: Report,
-}
+pub type AfterRead = After<Read>;
 
-#[repr(C)]
-#[derive(Clone, Copy)]
-pub struct AfterRow {
-    pub uart: Uart,
-    pub reply: Row,
-    pub report: Report,
-}
+pub type AfterWrite = After<Write>;
 
-#[repr(C)]
-#[derive(Clone, Copy)]
-pub struct AfterDone {
-    pub uart: Uart,
-    pub reply: Done,
-    pub report: Report,
-}
+pub type AfterRow = After<Row>;
 
-#[repr(C)]
-#[derive(Clone, Copy)]
-pub struct AfterTake {
-    pub uart: Uart,
-    pub reply: Taken,
-    pub report: Report,
-}
+pub type AfterDone = After<Done>;
+
+pub type AfterTake = After<Taken>;
 
 impl Uart {
     // Set-up, from sixteen offsets and sixteen reset words. The queues are empty: slots of zeros, a start and a count.
@@ -142,6 +119,18 @@ impl Uart {
         }
     }
 
+    // What a call gives back: the core that it leaves, beside the arrays that it changed, its reply and its report.
+    fn after<R>(mut self, core: Core, reply: R, report: Report) -> After<R>
+        ensures { result ≡ after self core reply report }
+    {
+        self.core = core;
+        After {
+            uart: self,
+            reply,
+            report,
+        }
+    }
+
     // The value at an offset.
     pub fn read(mut self, cycle: u64, offset: u32) -> AfterRead
         requires { Good self }
@@ -159,12 +148,7 @@ impl Uart {
             cycle,
             offset,
         );
-        self.core = done.core;
-        AfterRead {
-            uart: self,
-            reply: done.reply,
-            report: done.report,
-        }
+        self.after(done.core, done.reply, done.report)
     }
 
     // A write at an offset.
@@ -186,12 +170,7 @@ impl Uart {
             offset,
             value,
         );
-        self.core = done.core;
-        AfterWrite {
-            uart: self,
-            reply: done.reply,
-            report: done.report,
-        }
+        self.after(done.core, done.reply, done.report)
     }
 
     // A row: bytes written to FIFO at one cycle.
@@ -211,36 +190,7 @@ impl Uart {
             cycle,
             bytes,
         );
-        self.core = row.core;
-        AfterRow {
-            uart: self,
-            reply: row.reply,
-            report: row.report,
-        }
-    }
-
-    // What a call gives back, once the arrays that it changed are put back: its core, its reply and its report.
-    fn after_done(mut self, done: DoneCore) -> AfterDone
-        ensures { result ≡ after_done self done }
-    {
-        self.core = done.core;
-        AfterDone {
-            uart: self,
-            reply: done.reply,
-            report: done.report,
-        }
-    }
-
-    // The same of a call that fills a lent buffer.
-    fn after_take(mut self, taken: TakeCore) -> AfterTake
-        ensures { result ≡ after_take self taken }
-    {
-        self.core = taken.core;
-        AfterTake {
-            uart: self,
-            reply: taken.reply,
-            report: taken.report,
-        }
+        self.after(row.core, row.reply, row.report)
     }
 
     // The armed cycle has come.
@@ -260,7 +210,7 @@ impl Uart {
             &mut self.rx,
             cycle,
         );
-        self.after_done(done)
+        self.after(done.core, done.reply, done.report)
     }
 
     // A reset of the UART.
@@ -280,7 +230,7 @@ impl Uart {
             &mut self.rx,
             cycle,
         );
-        self.after_done(done)
+        self.after(done.core, done.reply, done.report)
     }
 
     // Another period of the APB clock, in cycles.
@@ -301,7 +251,7 @@ impl Uart {
             cycle,
             period,
         );
-        self.after_done(done)
+        self.after(done.core, done.reply, done.report)
     }
 
     // The host hands over bytes that may start at a cycle.
@@ -323,7 +273,7 @@ impl Uart {
             at,
             bytes,
         );
-        self.after_done(done)
+        self.after(done.core, done.reply, done.report)
     }
 
     // The bytes that have left, to the front of a lent buffer.
@@ -344,7 +294,7 @@ impl Uart {
             cycle,
             out,
         );
-        self.after_take(done)
+        self.after(done.core, done.reply, done.report)
     }
 
     // Whether the first departure asks for a wake.
@@ -365,7 +315,7 @@ impl Uart {
             cycle,
             on,
         );
-        self.after_done(done)
+        self.after(done.core, done.reply, done.report)
     }
 
     // Nothing moves after this cycle until a reset.
@@ -385,7 +335,7 @@ impl Uart {
             &self.rx,
             cycle,
         );
-        self.after_done(done)
+        self.after(done.core, done.reply, done.report)
     }
 
     // All that was written, to the front of a lent buffer.
@@ -404,7 +354,7 @@ impl Uart {
             &self.rx,
             out,
         );
-        self.after_take(written)
+        self.after(written.core, written.reply, written.report)
     }
 
     // Whether a byte has left that no call has taken.

@@ -2,4 +2,4 @@
 use Rattle.uart.proofs.Uart.clock_change.Goals as goal
 
 pub returns : goal.returns
-returns c = rw c.after_done.ensures c.clock_change-done.ensures
+returns c = rw c.after.ensures c.clock_change-done.ensures

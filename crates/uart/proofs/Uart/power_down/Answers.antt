@@ -2,4 +2,4 @@
 use Rattle.uart.proofs.Uart.power_down.Goals as goal
 
 pub returns : goal.returns
-returns c = rw c.after_done.ensures c.power_down-done.ensures
+returns c = rw c.after.ensures c.power_down-done.ensures

@@ -2,4 +2,4 @@
 use Rattle.uart.proofs.Uart.read.Goals as goal
 
 pub returns : goal.returns
-returns c = c.read-done.ensures
+returns c = rw c.after.ensures c.read-done.ensures

@@ -2,4 +2,4 @@
 use Rattle.uart.proofs.Uart.receive.Goals as goal
 
 pub returns : goal.returns
-returns c = rw c.after_done.ensures c.receive-done.ensures
+returns c = rw c.after.ensures c.receive-done.ensures

@@ -2,4 +2,4 @@
 use Rattle.uart.proofs.Uart.take_written.Goals as goal
 
 pub returns : goal.returns
-returns c = rw c.after_take.ensures c.take_written-written.ensures
+returns c = rw c.after.ensures c.take_written-written.ensures

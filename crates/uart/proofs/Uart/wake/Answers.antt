@@ -2,4 +2,4 @@
 use Rattle.uart.proofs.Uart.wake.Goals as goal
 
 pub returns : goal.returns
-returns c = rw c.after_done.ensures c.wake-done.ensures
+returns c = rw c.after.ensures c.wake-done.ensures

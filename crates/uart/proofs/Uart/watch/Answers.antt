@@ -2,4 +2,4 @@
 use Rattle.uart.proofs.Uart.watch.Goals as goal
 
 pub returns : goal.returns
-returns c = rw c.after_done.ensures c.watch-done.ensures
+returns c = rw c.after.ensures c.watch-done.ensures

@@ -2,4 +2,4 @@
 use Rattle.uart.proofs.Uart.write.Goals as goal
 
 pub returns : goal.returns
-returns c = c.write-done.ensures
+returns c = rw c.after.ensures c.write-done.ensures

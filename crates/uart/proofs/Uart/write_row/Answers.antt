@@ -2,4 +2,4 @@
 use Rattle.uart.proofs.Uart.write_row.Goals as goal
 
 pub returns : goal.returns
-returns c = c.write_row-row.ensures
+returns c = rw c.after.ensures c.write_row-row.ensures
