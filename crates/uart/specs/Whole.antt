@@ -21,12 +21,9 @@ use Rattle.device.specs.Wholes.{arrays}
 use Rattle.device.specs.declared.Core.{Core}
 use Rattle.calls.specs.NewCore.{new_core}
 use Rattle.calls.specs.Answers.{Answers}
-use Rattle.calls.specs.declared.answers.DoneCore.{DoneCore}
 use Rattle.host.specs.Takes.{TakesWith}
-use Rattle.host.specs.declared.answers.TakeCore.{TakeCore}
 use Rattle.uart.specs.declared.Uart.{Uart}
-use Rattle.uart.specs.declared.AfterDone.{AfterDone}
-use Rattle.uart.specs.declared.AfterTake.{AfterTake}
+use Rattle.uart.specs.declared.After.{After}
 
 abbrev pub arrays_of : Uart → Arrays
 arrays_of u = arrays u.gone_at u.flight u.tx u.host u.run_at u.run_len u.rx
@@ -61,11 +58,9 @@ with_core c u = record {
   rx = u.rx;
 }
 
-abbrev pub after_done : Uart → DoneCore → AfterDone
-after_done u done = record { uart = with_core done.core u; reply = done.reply; report = done.report }
-
-abbrev pub after_take : Uart → TakeCore → AfterTake
-after_take u taken = record { uart = with_core taken.core u; reply = taken.reply; report = taken.report }
+-- what a call gives back: the core that it leaves beside the arrays, its reply and its report
+abbrev pub after : {R : Type 0} → Uart → Core → R → Report → After R
+after u c reply report = record { uart = with_core c u; reply = reply; report = report }
 
 -- slots of zeros
 abbrev pub zeros : Arrays

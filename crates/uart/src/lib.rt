@@ -14,13 +14,11 @@ ghost use Rattle.model.specs.Row.{row, row_number};
 ghost use Rattle.device.specs.Settles.{Settles};
 ghost use Rattle.calls.specs.Answers.{dated_call, undated_call};
 ghost use Rattle.calls.specs.Undated.{left_reply, pending_reply};
-ghost use Rattle.uart.specs.Whole.{arrays_of, meaning, Good, Answered, Took, SetsUp, after_done, after_take};
+ghost use Rattle.uart.specs.Whole.{arrays_of, meaning, Good, Answered, Took, SetsUp, after};
 
-use calls::answers::DoneCore;
 use calls::queries::{HasLeft, HostPending};
 use calls::{power_down, watch};
 use device::{Core, settle};
-use host::answers::TakeCore;
 use model::{Done, Read, Report, Row, SetUp, Taken, Write};
 
 #[repr(C)]
@@ -57,45 +55,24 @@ pub struct NewUart {
     pub reply: SetUp,
 }
 
+// A UART after a call, with the reply and the report.
 #[repr(C)]
 #[derive(Clone, Copy)]
-pub struct AfterRead {
+pub struct After<R> {
     pub uart: Uart,
-    pub reply: Read,
+    pub reply: R,
     pub report: Report,
 }
 
-#[repr(C)]
-#[derive(Clone, Copy)]
-pub struct AfterWrite {
-    pub uart: Uart,
-    pub reply: Write,
-    pub report: Report,
-}
+pub type AfterRead = After<Read>;
 
-#[repr(C)]
-#[derive(Clone, Copy)]
-pub struct AfterRow {
-    pub uart: Uart,
-    pub reply: Row,
-    pub report: Report,
-}
+pub type AfterWrite = After<Write>;
 
-#[repr(C)]
-#[derive(Clone, Copy)]
-pub struct AfterDone {
-    pub uart: Uart,
-    pub reply: Done,
-    pub report: Report,
-}
+pub type AfterRow = After<Row>;
 
-#[repr(C)]
-#[derive(Clone, Copy)]
-pub struct AfterTake {
-    pub uart: Uart,
-    pub reply: Taken,
-    pub report: Report,
-}
+pub type AfterDone = After<Done>;
+
+pub type AfterTake = After<Taken>;
 
 impl Uart {
     // Set-up, from sixteen offsets and sixteen reset words. The queues are empty: slots of zeros, a start and a count.
@@ -103,26 +80,19 @@ impl Uart {
         ensures { SetsUp offsets resets result.uart result.reply }
     {
         let made = calls::set_up::set_up(offsets, resets);
-        let core = made.core;
-        let gone_at = [0u64; 129];
-        let flight = [0u8; 129];
-        let tx = [0u8; 1152];
-        let host = [0u8; 1024];
-        let run_at = [0u64; 64];
-        let run_len = [0u64; 64];
-        let rx = [0u8; 128];
-        let uart = Uart {
-            core,
-            gone_at,
-            flight,
-            tx,
-            host,
-            run_at,
-            run_len,
-            rx,
-        };
-        let reply = made.reply;
-        NewUart { uart, reply }
+        NewUart {
+            uart: Uart {
+                core: made.core,
+                gone_at: [0; 129],
+                flight: [0; 129],
+                tx: [0; 1152],
+                host: [0; 1024],
+                run_at: [0; 64],
+                run_len: [0; 64],
+                rx: [0; 128],
+            },
+            reply: made.reply,
+        }
     }
 
     // All that is due at a cycle is done. The work is `settle::settle`'s, over the arrays lent to it.
@@ -130,29 +100,34 @@ impl Uart {
         requires { Good self }
         ensures { Settles (settle cycle (meaning self)) result.uart.core (arrays_of result.uart) result.passes result.overflows }
     {
-        let mut tx = self.tx;
-        let mut run_len = self.run_len;
-        let mut rx = self.rx;
         let done = settle::settle(
             self.core,
             &self.gone_at,
             &self.flight,
-            &mut tx,
+            &mut self.tx,
             &self.host,
             &self.run_at,
-            &mut run_len,
-            &mut rx,
+            &mut self.run_len,
+            &mut self.rx,
             cycle,
         );
-        let core = done.core;
-        self.core = core;
-        self.tx = tx;
-        self.run_len = run_len;
-        self.rx = rx;
+        self.core = done.core;
         AfterSettle {
             uart: self,
             passes: done.passes,
             overflows: done.overflows,
+        }
+    }
+
+    // What a call gives back: the core that it leaves, beside the arrays that it changed, its reply and its report.
+    fn after<R>(mut self, core: Core, reply: R, report: Report) -> After<R>
+        ensures { result ≡ after self core reply report }
+    {
+        self.core = core;
+        After {
+            uart: self,
+            reply,
+            report,
         }
     }
 
@@ -161,33 +136,19 @@ impl Uart {
         requires { Good self }
         ensures { Answered as_read read_number (dated_call cycle (Calls·read cycle offset)) self result.uart result.reply result.report }
     {
-        let mut tx = self.tx;
-        let mut run_len = self.run_len;
-        let mut rx = self.rx;
         let done = access::read::read(
             self.core,
             &self.gone_at,
             &self.flight,
-            &mut tx,
+            &mut self.tx,
             &self.host,
             &self.run_at,
-            &mut run_len,
-            &mut rx,
+            &mut self.run_len,
+            &mut self.rx,
             cycle,
             offset,
         );
-        let core = done.core;
-        self.core = core;
-        self.tx = tx;
-        self.run_len = run_len;
-        self.rx = rx;
-        let reply = done.reply;
-        let report = done.report;
-        AfterRead {
-            uart: self,
-            reply,
-            report,
-        }
+        self.after(done.core, done.reply, done.report)
     }
 
     // A write at an offset.
@@ -196,38 +157,20 @@ impl Uart {
         ensures { Answered (λ x. x) write_number (dated_call cycle (Calls·write cycle offset value)) self result.uart result.reply
             result.report }
     {
-        let mut gone_at = self.gone_at;
-        let mut flight = self.flight;
-        let mut tx = self.tx;
-        let mut run_len = self.run_len;
-        let mut rx = self.rx;
         let done = access::write::write(
             self.core,
-            &mut gone_at,
-            &mut flight,
-            &mut tx,
+            &mut self.gone_at,
+            &mut self.flight,
+            &mut self.tx,
             &self.host,
             &self.run_at,
-            &mut run_len,
-            &mut rx,
+            &mut self.run_len,
+            &mut self.rx,
             cycle,
             offset,
             value,
         );
-        let core = done.core;
-        self.core = core;
-        self.gone_at = gone_at;
-        self.flight = flight;
-        self.tx = tx;
-        self.run_len = run_len;
-        self.rx = rx;
-        let reply = done.reply;
-        let report = done.report;
-        AfterWrite {
-            uart: self,
-            reply,
-            report,
-        }
+        self.after(done.core, done.reply, done.report)
     }
 
     // A row: bytes written to FIFO at one cycle.
@@ -235,67 +178,19 @@ impl Uart {
         requires { Good self }
         ensures { Answered (λ x. x) row_number (row cycle bytes.now) self result.uart result.reply result.report }
     {
-        let mut gone_at = self.gone_at;
-        let mut flight = self.flight;
-        let mut tx = self.tx;
-        let mut run_len = self.run_len;
-        let mut rx = self.rx;
         let row = access::row::write_row(
             self.core,
-            &mut gone_at,
-            &mut flight,
-            &mut tx,
+            &mut self.gone_at,
+            &mut self.flight,
+            &mut self.tx,
             &self.host,
             &self.run_at,
-            &mut run_len,
-            &mut rx,
+            &mut self.run_len,
+            &mut self.rx,
             cycle,
             bytes,
         );
-        let core = row.core;
-        self.core = core;
-        self.gone_at = gone_at;
-        self.flight = flight;
-        self.tx = tx;
-        self.run_len = run_len;
-        self.rx = rx;
-        let reply = row.reply;
-        let report = row.report;
-        AfterRow {
-            uart: self,
-            reply,
-            report,
-        }
-    }
-
-    // What a call gives back, once the arrays that it changed are put back: its core, its reply and its report.
-    fn after_done(mut self, done: DoneCore) -> AfterDone
-        ensures { result ≡ after_done self done }
-    {
-        let core = done.core;
-        self.core = core;
-        let reply = done.reply;
-        let report = done.report;
-        AfterDone {
-            uart: self,
-            reply,
-            report,
-        }
-    }
-
-    // The same of a call that fills a lent buffer.
-    fn after_take(mut self, taken: TakeCore) -> AfterTake
-        ensures { result ≡ after_take self taken }
-    {
-        let core = taken.core;
-        self.core = core;
-        let reply = taken.reply;
-        let report = taken.report;
-        AfterTake {
-            uart: self,
-            reply,
-            report,
-        }
+        self.after(row.core, row.reply, row.report)
     }
 
     // The armed cycle has come.
@@ -304,24 +199,18 @@ impl Uart {
         ensures { Answered (λ x. x) done_number (dated_call cycle (machine cycle Machine.wake)) self result.uart result.reply
             result.report }
     {
-        let mut tx = self.tx;
-        let mut run_len = self.run_len;
-        let mut rx = self.rx;
         let done = calls::wake::wake(
             self.core,
             &self.gone_at,
             &self.flight,
-            &mut tx,
+            &mut self.tx,
             &self.host,
             &self.run_at,
-            &mut run_len,
-            &mut rx,
+            &mut self.run_len,
+            &mut self.rx,
             cycle,
         );
-        self.tx = tx;
-        self.run_len = run_len;
-        self.rx = rx;
-        self.after_done(done)
+        self.after(done.core, done.reply, done.report)
     }
 
     // A reset of the UART.
@@ -330,24 +219,18 @@ impl Uart {
         ensures { Answered (λ x. x) done_number (dated_call cycle (machine cycle Machine.reset)) self result.uart result.reply
             result.report }
     {
-        let mut tx = self.tx;
-        let mut run_len = self.run_len;
-        let mut rx = self.rx;
         let done = calls::reset::reset(
             self.core,
             &self.gone_at,
             &self.flight,
-            &mut tx,
+            &mut self.tx,
             &self.host,
             &self.run_at,
-            &mut run_len,
-            &mut rx,
+            &mut self.run_len,
+            &mut self.rx,
             cycle,
         );
-        self.tx = tx;
-        self.run_len = run_len;
-        self.rx = rx;
-        self.after_done(done)
+        self.after(done.core, done.reply, done.report)
     }
 
     // Another period of the APB clock, in cycles.
@@ -356,25 +239,19 @@ impl Uart {
         ensures { Answered (λ x. x) done_number (dated_call cycle (machine cycle (Machine.clock_change period))) self result.uart
             result.reply result.report }
     {
-        let mut tx = self.tx;
-        let mut run_len = self.run_len;
-        let mut rx = self.rx;
         let done = calls::clock_change::clock_change(
             self.core,
             &self.gone_at,
             &self.flight,
-            &mut tx,
+            &mut self.tx,
             &self.host,
             &self.run_at,
-            &mut run_len,
-            &mut rx,
+            &mut self.run_len,
+            &mut self.rx,
             cycle,
             period,
         );
-        self.tx = tx;
-        self.run_len = run_len;
-        self.rx = rx;
-        self.after_done(done)
+        self.after(done.core, done.reply, done.report)
     }
 
     // The host hands over bytes that may start at a cycle.
@@ -383,30 +260,20 @@ impl Uart {
         ensures { Answered (λ x. x) done_number (dated_call cycle (Calls·receive cycle at bytes.now)) self result.uart
             result.reply result.report }
     {
-        let mut tx = self.tx;
-        let mut host = self.host;
-        let mut run_at = self.run_at;
-        let mut run_len = self.run_len;
-        let mut rx = self.rx;
         let done = host::receive::receive(
             self.core,
             &self.gone_at,
             &self.flight,
-            &mut tx,
-            &mut host,
-            &mut run_at,
-            &mut run_len,
-            &mut rx,
+            &mut self.tx,
+            &mut self.host,
+            &mut self.run_at,
+            &mut self.run_len,
+            &mut self.rx,
             cycle,
             at,
             bytes,
         );
-        self.tx = tx;
-        self.host = host;
-        self.run_at = run_at;
-        self.run_len = run_len;
-        self.rx = rx;
-        self.after_done(done)
+        self.after(done.core, done.reply, done.report)
     }
 
     // The bytes that have left, to the front of a lent buffer.
@@ -415,25 +282,19 @@ impl Uart {
         ensures { Took (dated_call cycle (take_tx cycle out.old)) self result.uart result.reply result.report
             out.new }
     {
-        let mut tx = self.tx;
-        let mut run_len = self.run_len;
-        let mut rx = self.rx;
         let done = host::take_tx::take_tx(
             self.core,
             &self.gone_at,
             &self.flight,
-            &mut tx,
+            &mut self.tx,
             &self.host,
             &self.run_at,
-            &mut run_len,
-            &mut rx,
+            &mut self.run_len,
+            &mut self.rx,
             cycle,
             out,
         );
-        self.tx = tx;
-        self.run_len = run_len;
-        self.rx = rx;
-        self.after_take(done)
+        self.after(done.core, done.reply, done.report)
     }
 
     // Whether the first departure asks for a wake.
@@ -454,7 +315,7 @@ impl Uart {
             cycle,
             on,
         );
-        self.after_done(done)
+        self.after(done.core, done.reply, done.report)
     }
 
     // Nothing moves after this cycle until a reset.
@@ -474,7 +335,7 @@ impl Uart {
             &self.rx,
             cycle,
         );
-        self.after_done(done)
+        self.after(done.core, done.reply, done.report)
     }
 
     // All that was written, to the front of a lent buffer.
@@ -493,7 +354,7 @@ impl Uart {
             &self.rx,
             out,
         );
-        self.after_take(written)
+        self.after(written.core, written.reply, written.report)
     }
 
     // Whether a byte has left that no call has taken.

@@ -1,5 +1,0 @@
--- `Uart::read` meets its contract: it is that of the call over parts. Assumes nothing.
-use Rattle.uart.proofs.Uart.read.Goals as goal
-
-pub returns : goal.returns
-returns c = c.read-done.ensures

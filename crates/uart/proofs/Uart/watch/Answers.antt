@@ -1,5 +1,0 @@
--- `Uart::watch` meets its contract: it is that of the call over parts. Assumes nothing.
-use Rattle.uart.proofs.Uart.watch.Goals as goal
-
-pub returns : goal.returns
-returns c = rw c.after_done.ensures c.watch-done.ensures

@@ -1,5 +1,0 @@
--- `Uart::write` meets its contract: it is that of the call over parts. Assumes nothing.
-use Rattle.uart.proofs.Uart.write.Goals as goal
-
-pub returns : goal.returns
-returns c = c.write-done.ensures

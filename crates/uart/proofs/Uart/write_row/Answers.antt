@@ -1,5 +1,0 @@
--- `Uart::write_row` meets its contract: it is that of the call over parts. Assumes nothing.
-use Rattle.uart.proofs.Uart.write_row.Goals as goal
-
-pub returns : goal.returns
-returns c = c.write_row-row.ensures
