@@ -1,4 +1,4 @@
--- What each loop of `rings::put_dates` keeps, and what gets less.
+-- What the loop of `rings::put_dates` keeps.
 use mathlib.Core.Path.{◌≡◌, ap}
 use mathlib.Core.List.{map, flat_map}
 use Prim.Native.Nat.{ℕ, ◌-◌, ◌*◌, ◌≤◌}
@@ -15,8 +15,5 @@ use Rattle.park.proofs.rings.put_dates.Given as goal
 
 abbrev pub invariant-loop-i : goal.invariant-loop-i
 invariant-loop-i l =
-    (l.i ≤ l.flight.count) × Puts (8 * l.i) (field_bytes (map long (listed (λ k. slot_of l.gone_at 0 (nth_of 129 k l.flight)) l.i)))
+    Puts (8 * l.i) (field_bytes (map long (listed (λ k. slot_of l.gone_at 0 (nth_of 129 k l.flight)) l.i)))
     l.initial.out l.at l.out l.place
-
-abbrev pub decreases-loop-i : goal.decreases-loop-i
-decreases-loop-i l = l.flight.count - l.i

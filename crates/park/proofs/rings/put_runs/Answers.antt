@@ -16,7 +16,7 @@ use Rattle.park.proofs.rings.put_runs.Goals as goal
 
 pub loop-i-init : goal.loop-i-init
 unfolding field_bytes run_fields flat_map listed
-loop-i-init c = (omega arith, put-nothing _ _)
+loop-i-init c = put-nothing _ _
 
 pub loop-i-preserved : goal.loop-i-preserved
 loop-i-preserved c =
@@ -24,12 +24,10 @@ loop-i-preserved c =
     let first = c in
     let a = c.args in
     let w = c.loop-i in
-    let here = c.nth-slot.ensures.0 in (
-      omega arith,
-      puts-run (λ k. run_in a.run_at.now a.run_len.now (nth_of 64 k a.runs)) w.i w.invariant.1
+    let here = c.nth-slot.ensures.0 in
+    puts-run (λ k. run_in a.run_at.now a.run_len.now (nth_of 64 k a.runs)) w.i w.invariant
           (puts-value 8 (ap (slot_of a.run_at.now 0) here) c.put-dated.ensures)
-          (puts-value 2 (ap (slot_of a.run_len.now 0) here) c.put-place.ensures),
-    )
+          (puts-value 2 (ap (slot_of a.run_len.now 0) here) c.put-place.ensures)
 
 pub returns : goal.returns
 unfolding elems
@@ -39,4 +37,4 @@ returns c =
     let all : w.i ≡ a.runs.count = omega arith in
     puts-same (ap (λ (k : ℕ). 10 * k) all)
     (ap (λ (k : ℕ). field_bytes (run_fields (listed (λ j. run_in a.run_at.now a.run_len.now (nth_of 64 j a.runs)) k))) all)
-    w.invariant.1
+    w.invariant

@@ -1,4 +1,4 @@
--- What each loop of `rings::put_runs` keeps, and what gets less.
+-- What the loop of `rings::put_runs` keeps.
 use mathlib.Core.Path.{◌≡◌, ap}
 use mathlib.Core.List.{flat_map}
 use Prim.Native.Nat.{ℕ, ◌-◌, ◌*◌, ◌≤◌}
@@ -16,8 +16,5 @@ use Rattle.park.proofs.rings.put_runs.Given as goal
 
 abbrev pub invariant-loop-i : goal.invariant-loop-i
 invariant-loop-i l =
-    (l.i ≤ l.runs.count) × Puts (10 * l.i) (field_bytes (run_fields (listed (λ k. run_in l.run_at l.run_len (nth_of 64 k l.runs)) l.i)))
+    Puts (10 * l.i) (field_bytes (run_fields (listed (λ k. run_in l.run_at l.run_len (nth_of 64 k l.runs)) l.i)))
     l.initial.out l.at l.out l.place
-
-abbrev pub decreases-loop-i : goal.decreases-loop-i
-decreases-loop-i l = l.runs.count - l.i

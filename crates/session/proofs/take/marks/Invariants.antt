@@ -11,7 +11,4 @@ use borrow.Author.Rules.{rules}
 use Rattle.session.proofs.take.marks.Given as goal
 
 abbrev pub invariant-loop-i : goal.invariant-loop-i
-invariant-loop-i l = (l.i ≤ 8192) × (8192 ≡ length l.lent) × (take l.i l.lent ≡ marks_from 0 l.i)
-
-abbrev pub decreases-loop-i : goal.decreases-loop-i
-decreases-loop-i l = 8192 - l.i
+invariant-loop-i l = (8192 ≡ length l.slot-items) × (take l.i l.slot-items ≡ marks_from 0 l.i)
