@@ -29,7 +29,8 @@ const PERIOD_LIMIT: u64 = 1000000;
 // What the tests of a call say.
 pub type Verdict = Result<(), Refusal>;
 
-// Document 01's number of a refusal.
+// Document 01's number of a refusal. A function: `From<Refusal>` would have to stand in model, which has none, its contract a ghost
+// member of the impl; that is no plainer.
 #[tactic(auto, unfolding(model::specs::Replies::number))]
 pub fn number_of(refusal: Refusal) -> u32
     ensures { result ≡ number refusal }
