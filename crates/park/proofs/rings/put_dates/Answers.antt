@@ -23,7 +23,7 @@ loop-i-preserved c =
     let w = c.loop-i in
     let here = c.nth-slot.ensures.0 in
     puts-date (λ k. slot_of a.gone_at.now 0 (nth_of 129 k a.flight)) w.i w.invariant
-          (puts-value 8 (ap (slot_of a.gone_at.now 0) here) c.put-place.ensures)
+    (puts-value 8 (ap (slot_of a.gone_at.now 0) here) c.put-place.ensures)
 
 pub returns : goal.returns
 unfolding elems

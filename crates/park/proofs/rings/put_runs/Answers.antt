@@ -26,8 +26,8 @@ loop-i-preserved c =
     let w = c.loop-i in
     let here = c.nth-slot.ensures.0 in
     puts-run (λ k. run_in a.run_at.now a.run_len.now (nth_of 64 k a.runs)) w.i w.invariant
-          (puts-value 8 (ap (slot_of a.run_at.now 0) here) c.put-dated.ensures)
-          (puts-value 2 (ap (slot_of a.run_len.now 0) here) c.put-place.ensures)
+    (puts-value 8 (ap (slot_of a.run_at.now 0) here) c.put-dated.ensures)
+    (puts-value 2 (ap (slot_of a.run_len.now 0) here) c.put-place.ensures)
 
 pub returns : goal.returns
 unfolding elems
