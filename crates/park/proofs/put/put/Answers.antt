@@ -2,8 +2,8 @@
 -- was. Assumes nothing.
 use mathlib.Core.Path.{◌≡◌, refl, sym, ap, ap₂, ◌∙◌}
 use mathlib.Core.List.{List}
-use Prim.Native.Nat.{ℕ, suc, ◌+◌, ◌-◌, ◌≤◌, ◌/◌, ◌%◌}
-use lib.ListN.{length, set, length-set}
+use Prim.Native.Nat.{ℕ, suc, ◌+◌, ◌-◌, ◌/◌, ◌%◌}
+use lib.ListN.{set, length-set}
 use Rattle.form.specs.Cells.{low_first}
 use Rattle.form.proofs.Laws.Numbers.{length-low}
 use Rattle.park.specs.Puts.{wrote}

@@ -1,16 +1,15 @@
 -- `rings::put_dates` meets its contract. The loop's invariant: the first `i` dates are put. Assumes nothing.
 use mathlib.Core.Path.{◌≡◌, ap}
 use mathlib.Core.List.{map, flat_map}
-use Prim.Native.Nat.{ℕ, ◌-◌, ◌*◌, ◌≤◌}
+use Prim.Native.Nat.{ℕ, ◌*◌}
 use Rattle.queue.specs.Listed.{listed}
 use Rattle.queue.specs.Cursors.{slot_of, nth_of, elems}
 use Rattle.form.specs.Cells.{field_bytes}
 use Rattle.form.specs.Form.{long}
-use Rattle.park.specs.Puts.{Puts, put-nothing, puts-same}
+use Rattle.park.specs.Puts.{put-nothing, puts-same}
 use Rattle.park.specs.Fields.{puts-value}
 use Rattle.park.specs.Rings.{puts-date}
 use native.Mathlib.Omega.{arith}
-use borrow.Author.Rules.{rules}
 use Rattle.park.proofs.rings.put_dates.Goals as goal
 
 pub loop-i-init : goal.loop-i-init

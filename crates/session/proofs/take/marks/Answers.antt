@@ -1,9 +1,6 @@
 -- `take::marks` meets its contract. The loop's invariant: the marks up to the i-th stand there. Assumes nothing.
 use mathlib.Core.Path.{◌≡◌, refl, ap, sym, ◌∙◌}
-use mathlib.Core.List.{List}
-use Prim.Native.Nat.{ℕ, ◌-◌, ◌≤◌}
 use native.Mathlib.Omega.{arith}
-use lib.ListN.{length, take, length-set}
 use lib.Seq.{take_all}
 use Rattle.session.specs.Requests.{marks_from}
 use Rattle.session.specs.HandOuts.{marked-on}

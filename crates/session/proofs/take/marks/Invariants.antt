@@ -1,13 +1,7 @@
 -- What each loop of `take::marks` keeps, and what gets less.
-use mathlib.Core.Path.{◌≡◌, refl, ap, sym, ◌∙◌}
-use mathlib.Core.List.{List}
-use Prim.Native.Nat.{ℕ, ◌-◌, ◌≤◌}
-use native.Mathlib.Omega.{arith}
-use lib.ListN.{length, take, length-set}
-use lib.Seq.{take_all}
+use mathlib.Core.Path.{◌≡◌}
+use lib.ListN.{length, take}
 use Rattle.session.specs.Requests.{marks_from}
-use Rattle.session.specs.HandOuts.{marked-on}
-use borrow.Author.Rules.{rules}
 use Rattle.session.proofs.take.marks.Given as goal
 
 abbrev pub invariant-loop-i : goal.invariant-loop-i

@@ -1,9 +1,7 @@
 -- `take::same_marks` meets its contract. The loop's invariant: the marks up to the i-th are as they were. Assumes nothing.
-use mathlib.Core.Path.{◌≡◌, refl, sym, ◌∙◌}
-use Prim.Native.Nat.{◌-◌, ◌≤◌}
+use mathlib.Core.Path.{refl, sym, ◌∙◌}
 use native.Mathlib.Omega.{arith}
-use lib.ListN.{length}
-use Rattle.session.specs.HandOuts.{marked, marked-same, marked_other, marked-end}
+use Rattle.session.specs.HandOuts.{marked-same, marked_other, marked-end}
 use Rattle.session.proofs.take.same_marks.Goals as goal
 
 pub loop-i-init : goal.loop-i-init

@@ -1,9 +1,6 @@
 -- What each loop of `take::same_marks` keeps, and what gets less.
-use mathlib.Core.Path.{◌≡◌, refl, sym, ◌∙◌}
-use Prim.Native.Nat.{◌-◌, ◌≤◌}
-use native.Mathlib.Omega.{arith}
-use lib.ListN.{length}
-use Rattle.session.specs.HandOuts.{marked, marked-same, marked_other, marked-end}
+use mathlib.Core.Path.{◌≡◌}
+use Rattle.session.specs.HandOuts.{marked}
 use Rattle.session.proofs.take.same_marks.Given as goal
 
 abbrev pub invariant-loop-i : goal.invariant-loop-i
