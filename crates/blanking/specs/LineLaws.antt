@@ -93,7 +93,8 @@ module _ (t : Trace) (n : Name) (ns : List ℕ) (last : ℕ) (bs s out : List �
   unfolding kind_by Texts after_asks
   blanks-set-up e p q = by-asks e (is_some t.map) refl refl p q
 
-  pub blanks-figures : asks_of n ≡ Asks.Figures → Put (entry_text (blanked_entry (map_in t.map) (entry_of n ns last bs s))) out at after r.at
+  pub blanks-figures : asks_of n ≡ Asks.Figures
+      → Put (entry_text (blanked_entry (map_in t.map) (entry_of n ns last bs s))) out at after r.at
       → r.trace ≡ t → Blanks (call_kind (is_some t.map) n ns last bs s) t out at after r
   unfolding kind_by Texts after_asks
   blanks-figures e p q = by-asks e (is_some t.map) refl refl p q
