@@ -148,12 +148,7 @@ impl Uart {
             cycle,
             offset,
         );
-        self.core = done.core;
-        After {
-            uart: self,
-            reply: done.reply,
-            report: done.report,
-        }
+        self.after(done.core, done.reply, done.report)
     }
 
     // A write at an offset.
@@ -175,12 +170,7 @@ impl Uart {
             offset,
             value,
         );
-        self.core = done.core;
-        After {
-            uart: self,
-            reply: done.reply,
-            report: done.report,
-        }
+        self.after(done.core, done.reply, done.report)
     }
 
     // A row: bytes written to FIFO at one cycle.
@@ -200,12 +190,7 @@ impl Uart {
             cycle,
             bytes,
         );
-        self.core = row.core;
-        After {
-            uart: self,
-            reply: row.reply,
-            report: row.report,
-        }
+        self.after(row.core, row.reply, row.report)
     }
 
     // The armed cycle has come.
