@@ -15,7 +15,7 @@ use line::Receiving;
 use model::{Control, Date, Frame, Line, RegisterMap, Source, Unmodelled, Words};
 use queue::Cursor;
 
-// A date, or none: `at` is 0 while `set` is false.
+// A date, or none: `at` is 0 while `set` is false. C has no Option, so a flag stands beside it.
 #[repr(C)]
 #[derive(Clone, Copy)]
 pub struct PlainDate {
@@ -38,7 +38,7 @@ pub struct PlainCore {
     pub last: u64,
     pub wake: PlainDate,
     pub powered_down_at: PlainDate,
-    // The source of the byte on the line, and whether its start was heard: 0 and false while nothing is on it.
+    // The source of the byte on the line, and whether its start was heard: 0 and false while nothing is on it. Flags, for C.
     pub timed_on: u32,
     pub on_the_line: bool,
     pub heard: bool,

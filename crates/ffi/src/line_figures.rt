@@ -10,9 +10,9 @@ const UNFIT_LIST: u32 = 9;
 #[repr(C)]
 #[derive(Clone, Copy)]
 pub struct PlainFigures {
-    // 0 for done, or the number of a refusal: then all else is 0.
+    // 0 for done, or the number of a refusal: then all else is 0. C has no Result.
     pub number: u32,
-    // Whether the longest quiet stretch has a place: with fewer than two frames it has none, and `at` is 0.
+    // Whether the longest quiet stretch has a place: with fewer than two frames it has none, and `at` is 0. C has no Option.
     pub placed: bool,
     // In subcycles, as are the others, but for `at`, the place of the frame before the longest quiet stretch, from 0.
     pub busy: u64,

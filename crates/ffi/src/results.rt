@@ -13,7 +13,7 @@ use replies::refusals::number_of;
 #[repr(C)]
 #[derive(Clone, Copy)]
 pub struct PlainReply {
-    // 0 for done, or document 01's number of a refusal.
+    // 0 for done, or document 01's number of a refusal: C has no Result.
     pub number: u32,
     // read: there is a value. write: accepted. has_left: a byte has left. Every other call: carried out.
     pub holds: bool,
@@ -25,7 +25,7 @@ pub struct PlainReply {
 #[repr(C)]
 #[derive(Clone, Copy)]
 pub struct PlainRow {
-    // 0 for done, or document 01's number of a refusal.
+    // 0 for done, or document 01's number of a refusal: C has no Result.
     pub number: u32,
     // How many of the bytes were written.
     pub made: u64,
