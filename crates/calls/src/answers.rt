@@ -4,9 +4,8 @@ ghost use Rattle.calls.specs.Answers.{answer_core, done_core, refused_core};
 
 use device::Core;
 use model::{Done, Refusal, Report};
-use replies::notices;
 use replies::notices::Notices;
-use replies::report;
+use replies::{notices, report};
 
 #[repr(C)]
 #[derive(Clone, Copy)]
