@@ -29,11 +29,7 @@ pub struct PlaceWrite {
 fn accepted(held: bool) -> Write
     ensures { result ≡ choose held (Ok true) (Ok false) }
 {
-    if held {
-        Ok(true)
-    } else {
-        Ok(false)
-    }
+    if held { Ok(true) } else { Ok(false) }
 }
 
 fn store(mut core: Core, place: Place, value: u32) -> PlaceWrite

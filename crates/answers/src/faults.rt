@@ -44,8 +44,7 @@ fn put_start(out: &mut [u8], at: usize, s: &[u8], start: usize, end: usize) -> u
     ensures { Puts (shown_text (take (end - start) (drop start s.now))) out.old at out.new result }
 {
     let mut place = at;
-    let mut i = start;
-    while i < end {
+    for i in start..end {
         if i >= s.len() {
             return place;
         }
@@ -54,7 +53,6 @@ fn put_start(out: &mut [u8], at: usize, s: &[u8], start: usize, end: usize) -> u
         }
         let letter = [printable(s[i])];
         place = put(out, place, &letter);
-        i += 1;
     }
     place
 }

@@ -73,15 +73,10 @@ pub fn put_notices(out: &mut [u8], at: usize, notices: [Notice; 8], noted: usize
     let first = notices[0];
     let what = first.what;
     let mut place = put_notice(out, at, what);
-    let mut i = 1;
-    while i < 8 {
-        if i == noted {
-            return place;
-        }
+    let count = noted.min(8);
+    for i in 1..count {
         let notice = notices[i];
-        let next = notice.what;
-        place = put_next(out, place, next);
-        i += 1;
+        place = put_next(out, place, notice.what);
     }
     place
 }

@@ -1,5 +1,5 @@
 -- What a line leaves, and that its text has room. Assumes nothing.
-use Rattle.std.specs.Prelude.{◌≡◌, Bool, false, List, [], map, ℕ, ◌+◌, ◌≤◌, length, take, drop, replicate}
+use Rattle.std.specs.Prelude.{◌≡◌, Bool, is_some, false, List, [], map, ℕ, ◌+◌, ◌≤◌, length, take, drop, replicate}
 use Rattle.std.proofs.Math.Path.{refl, ap, sym, subst}
 use Rattle.std.proofs.Common.{ap₂, subst₂, ◌∙◌, arith, length-append}
 use Rattle.std.proofs.Math.Bool.{true}
@@ -18,7 +18,7 @@ use Rattle.model.specs.Names.{SetUp}
 use Rattle.blanking.specs.Entries.{entry_of, blanked_entry, entry_text}
 use Rattle.blanking.specs.EntryLaws.{number-few, text-few}
 use Rattle.blanking.specs.Puts.{put-nothing}
-use Rattle.blanking.specs.Lines.{read_kind, host_room, kind_of, counted, blanked_text, trace_after}
+use Rattle.blanking.specs.Lines.{read_kind, host_room, kind_of, counted, blanked_text, trace_after, map_in}
 use Rattle.blanking.specs.Lines.{Kind, kind_by, call_kind, left_out_text, text_of, one_left_out, after_set_up, after_entry, carried}
 use Rattle.blanking.specs.declared.line.Trace.{Trace}
 use Rattle.blanking.specs.declared.line.Blanked.{Blanked}
@@ -29,7 +29,7 @@ longest = 65593
 
 -- what a line of a kind leaves, the trace counting it already
 pub record Blanks (k : Kind) (t : Trace) (out : List ℕ) (at : ℕ) (after : List ℕ) (r : Blanked) : Type 0 where
-  pub text : Put (text_of t.offsets t.number k) out at after r.at
+  pub text : Put (text_of (map_in t.map) t.number k) out at after r.at
   pub trace : r.trace ≡ carried k t
 
 -- ---- laws
@@ -75,37 +75,38 @@ call-carried Figures ns last bs s t = refl
 module _ (t : Trace) (n : Name) (ns : List ℕ) (last : ℕ) (bs s out : List ℕ) (at : ℕ) (after : List ℕ) (r : Blanked) where
   -- the text of a call is put
   Texts : Type 0
-  Texts = Put (entry_text (blanked_entry t.offsets (entry_of n ns last bs s))) out at after r.at
+  Texts = Put (entry_text (blanked_entry (map_in t.map) (entry_of n ns last bs s))) out at after r.at
 
   -- a call that is put out, by what it asks, whether or not a UART is set up
-  by-asks : {a : Asks} → asks_of n ≡ a → (ready : Bool) → t.ready ≡ ready
+  by-asks : {a : Asks} → asks_of n ≡ a → (ready : Bool) → is_some t.map ≡ ready
       → kind_by a ready (entry_of n ns last bs s) ≡ Kind.entry (entry_of n ns last bs s) → Texts → r.trace ≡ after_asks a ns t
-      → Blanks (call_kind t.ready n ns last bs s) t out at after r
+      → Blanks (call_kind (is_some t.map) n ns last bs s) t out at after r
   unfolding text_of Texts
   by-asks e ready f k p q =
       subst (λ (x : Kind). Blanks x t out at after r)
       (sym (ap₂ (λ (x : Asks) (y : Bool). kind_by x y (entry_of n ns last bs s)) e f ∙ k))
       (record { text = p; trace = q ∙ sym (call-carried n ns last bs s t ∙ ap (λ (x : Asks). after_asks x ns t) e) })
 
-  pub blanks-set-up : asks_of n ≡ Asks.SetUp → Put (entry_text (blanked_entry t.offsets (entry_of n ns last bs s))) out at after r.at
+  pub blanks-set-up : asks_of n ≡ Asks.SetUp → Put (entry_text (blanked_entry (map_in t.map) (entry_of n ns last bs s))) out at after r.at
       → r.trace ≡ after_set_up (set_up_reply (take 16 (map low_of (drop 0 ns)))) (take 16 (map low_of (drop 0 ns))) t
-      → Blanks (call_kind t.ready n ns last bs s) t out at after r
+      → Blanks (call_kind (is_some t.map) n ns last bs s) t out at after r
   unfolding kind_by Texts after_asks
-  blanks-set-up e p q = by-asks e t.ready refl refl p q
+  blanks-set-up e p q = by-asks e (is_some t.map) refl refl p q
 
-  pub blanks-figures : asks_of n ≡ Asks.Figures → Put (entry_text (blanked_entry t.offsets (entry_of n ns last bs s))) out at after r.at
-      → r.trace ≡ t → Blanks (call_kind t.ready n ns last bs s) t out at after r
+  pub blanks-figures : asks_of n ≡ Asks.Figures
+      → Put (entry_text (blanked_entry (map_in t.map) (entry_of n ns last bs s))) out at after r.at
+      → r.trace ≡ t → Blanks (call_kind (is_some t.map) n ns last bs s) t out at after r
   unfolding kind_by Texts after_asks
-  blanks-figures e p q = by-asks e t.ready refl refl p q
+  blanks-figures e p q = by-asks e (is_some t.map) refl refl p q
 
-  pub blanks-call : asks_of n ≡ Asks.Uart → t.ready ≡ true
-      → Put (entry_text (blanked_entry t.offsets (entry_of n ns last bs s))) out at after r.at → r.trace ≡ t
-      → Blanks (call_kind t.ready n ns last bs s) t out at after r
+  pub blanks-call : asks_of n ≡ Asks.Uart → is_some t.map ≡ true
+      → Put (entry_text (blanked_entry (map_in t.map) (entry_of n ns last bs s))) out at after r.at → r.trace ≡ t
+      → Blanks (call_kind (is_some t.map) n ns last bs s) t out at after r
   unfolding kind_by Texts after_asks
   blanks-call e f p q = by-asks e true f refl p q
 
-  pub blanks-none : asks_of n ≡ Asks.Uart → t.ready ≡ false → Blanks Kind.left_out t out at after r
-      → Blanks (call_kind t.ready n ns last bs s) t out at after r
+  pub blanks-none : asks_of n ≡ Asks.Uart → is_some t.map ≡ false → Blanks Kind.left_out t out at after r
+      → Blanks (call_kind (is_some t.map) n ns last bs s) t out at after r
   unfolding kind_by
   blanks-none e f b =
       subst (λ (k : Kind). Blanks k t out at after r)
@@ -147,11 +148,11 @@ zeros-room = length-replicate {A = ℕ} host_room 0
 
 -- what is left of a line of its kind, the trace having counted it
 pub line-blanks : (from t : Trace) (long : Bool) (s : List ℕ) (k : Kind) (out : List ℕ) (at : ℕ) (after : List ℕ) (r : Blanked)
-    → t ≡ counted from → k ≡ kind_of t.ready long s → Blanks k t out at after r
+    → t ≡ counted from → k ≡ kind_of (is_some t.map) long s → Blanks k t out at after r
     → Put (blanked_text from long s) out at after r.at × (r.trace ≡ trace_after from long s)
 line-blanks from t long s k out at after r e f b =
-    let c : Blanks (kind_of from.ready long s) (counted from) out at after r =
-    subst₂ (λ (x : Kind) (y : Trace). Blanks x y out at after r) (f ∙ ap (λ (y : Trace). kind_of y.ready long s) e) e b in
+    let c : Blanks (kind_of (is_some from.map) long s) (counted from) out at after r =
+    subst₂ (λ (x : Kind) (y : Trace). Blanks x y out at after r) (f ∙ ap (λ (y : Trace). kind_of (is_some y.map) long s) e) e b in
     (c.text, c.trace)
 
 pub map_same : (t : Trace) (os os' : List ℕ) → os ≡ os' → after_set_up (set_up_reply os) os t ≡ after_set_up (set_up_reply os') os' t

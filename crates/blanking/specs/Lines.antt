@@ -1,5 +1,6 @@
 -- What is put out for a line of a trace, and what is carried to the next line. Assumes nothing.
-use Rattle.std.specs.Prelude.{ℕ, ◌+◌, Bool, true, false, List, [], ◌∷◌, ◌++◌, ltb, replicate, Ok, Err, Some, None}
+use Rattle.std.specs.Prelude.{ℕ, ◌+◌, Bool, true, false, List, [], ◌∷◌, ◌++◌, ltb, replicate, Ok, Err, Option}
+use Rattle.std.specs.Prelude.{Some, None, is_some, unwrap_or}
 use Rattle.text.specs.Pick.{pick}
 use Rattle.text.specs.Decimal.{decimal}
 use Rattle.trace.specs.Asks.{asks_of}
@@ -11,6 +12,10 @@ use Rattle.model.specs.SetUp.{set_up_reply}
 use Rattle.model.specs.Names.{SetUp}
 use Rattle.blanking.specs.Entries.{Entry, entry_of, blanked_entry, entry_text}
 use Rattle.blanking.specs.declared.line.Trace.{Trace}
+
+-- the register map that is set up, or, where none is, sixteen zeros
+abbrev pub map_in : Option (List ℕ) → List ℕ
+map_in map = unwrap_or map (replicate 16 0)
 
 -- ---- what a line is
 
@@ -56,21 +61,21 @@ text_of offsets n Kind.nothing = []
 text_of offsets n (Kind.entry e) = entry_text (blanked_entry offsets e)
 text_of offsets n Kind.left_out = left_out_text n
 
--- ---- what is carried on: the register map, whether there is one, the lines so far and those left out
+-- ---- what is carried on: the register map, where there is one, the lines so far and those left out
 
 -- a count that has come to its end stays
 unfoldable pub one_more : ℕ → ℕ
 one_more n = pick (ltb n 18446744073709551615) (n + 1) n
 
 abbrev pub counted : Trace → Trace
-counted t = record { offsets = t.offsets; ready = t.ready; number = one_more t.number; left_out = t.left_out }
+counted t = record { map = t.map; number = one_more t.number; left_out = t.left_out }
 
 abbrev pub one_left_out : Trace → Trace
-one_left_out t = record { offsets = t.offsets; ready = t.ready; number = t.number; left_out = one_more t.left_out }
+one_left_out t = record { map = t.map; number = t.number; left_out = one_more t.left_out }
 
 -- a set-up that is refused leaves the map before it
 abbrev pub after_set_up : SetUp → List ℕ → Trace → Trace
-after_set_up (Ok _) offsets t = record { offsets = offsets; ready = true; number = t.number; left_out = t.left_out }
+after_set_up (Ok _) offsets t = record { map = Some offsets; number = t.number; left_out = t.left_out }
 after_set_up (Err r) offsets t = t
 
 unfoldable pub after_entry : Entry → Trace → Trace
@@ -84,12 +89,12 @@ carried (Kind.entry e) t = after_entry e t
 carried Kind.left_out t = one_left_out t
 
 abbrev pub begun : Trace
-begun = record { offsets = replicate 16 0; ready = false; number = 0; left_out = 0 }
+begun = record { map = None; number = 0; left_out = 0 }
 
 -- ---- the whole of it
 
 abbrev pub blanked_text : Trace → Bool → List ℕ → List ℕ
-blanked_text t long s = text_of t.offsets (one_more t.number) (kind_of t.ready long s)
+blanked_text t long s = text_of (map_in t.map) (one_more t.number) (kind_of (is_some t.map) long s)
 
 abbrev pub trace_after : Trace → Bool → List ℕ → Trace
-trace_after t long s = carried (kind_of t.ready long s) (counted t)
+trace_after t long s = carried (kind_of (is_some t.map) long s) (counted t)

@@ -37,10 +37,8 @@ fn put_sixteen(out: &mut [u8], at: usize, words: [u32; 16]) -> usize
     ensures { Puts (numbers words) out.old at out.new result }
 {
     let mut place = at;
-    let mut i = 0;
-    while i < 16 {
-        place = put_number(out, place, words[i] as u64);
-        i += 1;
+    for word in words {
+        place = put_number(out, place, word as u64);
     }
     place
 }

@@ -15,10 +15,8 @@ fn put_pairs(out: &mut [u8], at: usize, starts: &[u64], ends: &[u64]) -> usize
     ensures { Puts (pairs starts.now ends.now) out.old at out.new result }
 {
     let mut place = at;
-    let mut i = 0;
-    while i < starts.len() {
-        place = put_two(out, place, starts[i], ends[i]);
-        i += 1;
+    for (&start, &end) in starts.iter().zip(ends) {
+        place = put_two(out, place, start, end);
     }
     place
 }

@@ -1,5 +1,5 @@
 // A line of a trace: a call that is put out blanked, one that is left out, or nothing.
-ghost use Rattle.std.specs.Prelude.{◌≡◌, ◌+◌, ◌≤◌, length};
+ghost use Rattle.std.specs.Prelude.{◌≡◌, ◌+◌, ◌≤◌, length, is_some};
 ghost use Rattle.text.specs.Output.{Put};
 ghost use Rattle.model.specs.SetUp.{set_up_reply};
 ghost use Rattle.blanking.specs.Lines.{call_kind, one_more, counted as Lines·counted, after_set_up, begun};
@@ -20,8 +20,7 @@ use trace::names::Name;
 // The register map, once a UART is set up; the lines so far, and those left out.
 #[derive(Clone, Copy)]
 pub struct Trace {
-    pub offsets: [u32; 16],
-    pub ready: bool,
+    pub map: Option<[u32; 16]>,
     pub number: u64,
     pub left_out: u64,
 }
@@ -38,8 +37,7 @@ pub fn begin() -> Trace
     ensures { result ≡ begun }
 {
     Trace {
-        offsets: [0u32; 16],
-        ready: false,
+        map: None,
         number: 0,
         left_out: 0,
     }
@@ -78,8 +76,7 @@ fn set_map(mut trace: Trace, offsets: [u32; 16]) -> Trace
     let reply = set_up_reply(offsets);
     match reply {
         Ok(()) => {
-            trace.offsets = offsets;
-            trace.ready = true;
+            trace.map = Some(offsets);
             trace
         }
         Err(_) => trace,
@@ -99,10 +96,11 @@ fn call(
 ) -> Blanked
     requires bytes_len_bound { length bytes.now ≤ 32768 }
     requires longest_in_bounds { at + longest ≤ length out.old }
-    ensures { Blanks (call_kind trace.ready name all last bytes.now s.now) trace
+    ensures { Blanks (call_kind (is_some trace.map) name all last bytes.now s.now) trace
         out.old at out.new result }
 {
-    let offsets = trace.offsets;
+    // A set-up and figures do not look at the map.
+    let offsets = trace.map.unwrap_or([0u32; 16]);
     let asks = asks_of(name);
     match asks {
         Asks::SetUp => {
@@ -117,7 +115,7 @@ fn call(
             Blanked { trace, at: end }
         }
         Asks::Uart => {
-            if trace.ready {
+            if trace.map.is_some() {
                 let end = put_call(out, at, offsets, name, all, last, bytes, s);
                 Blanked { trace, at: end }
             } else {

@@ -55,11 +55,7 @@ pub struct PlainCore {
 fn date_of(date: PlainDate) -> Date
     ensures { result ≡ date_of date }
 {
-    if date.set {
-        Some(date.at)
-    } else {
-        None
-    }
+    if date.set { Some(date.at) } else { None }
 }
 
 pub fn plain_date(date: Date) -> PlainDate

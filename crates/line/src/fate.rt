@@ -10,11 +10,7 @@ use model::Fate;
 pub fn goes_on(found: Found) -> bool
     ensures { result ≡ goes_on found }
 {
-    match found {
-        Found::NothingDue => false,
-        Found::TimedOut => true,
-        Found::Landed(_) => true,
-    }
+    !matches!(found, Found::NothingDue)
 }
 
 // How many bytes overflowed.
@@ -22,15 +18,8 @@ pub fn overflow_of(found: Found) -> u64
     ensures { result ≡ lost found }
 {
     match found {
-        Found::NothingDue => 0,
-        Found::TimedOut => 0,
-        Found::Landed(fate) => match fate {
-            Fate::Stored => 0,
-            Fate::Overflowed => 1,
-            Fate::Cleared => 0,
-            Fate::ClockOff => 0,
-            Fate::Unheard => 0,
-        },
+        Found::Landed(Fate::Overflowed) => 1,
+        _ => 0,
     }
 }
 
@@ -38,15 +27,5 @@ pub fn overflow_of(found: Found) -> u64
 pub fn is_stored(found: Found) -> bool
     ensures { result ≡ is_stored found }
 {
-    match found {
-        Found::NothingDue => false,
-        Found::TimedOut => false,
-        Found::Landed(fate) => match fate {
-            Fate::Stored => true,
-            Fate::Overflowed => false,
-            Fate::Cleared => false,
-            Fate::ClockOff => false,
-            Fate::Unheard => false,
-        },
-    }
+    matches!(found, Found::Landed(Fate::Stored))
 }

@@ -38,11 +38,7 @@ pub fn raise_if(mut line: Line, test: bool, mask: u32) -> Line
 fn latest(source: Source, old: Source) -> Source
     ensures { result ≡ Line·latest source old }
 {
-    match source {
-        None => old,
-        Some(Unmodelled::Sel0) => Some(Unmodelled::Sel0),
-        Some(Unmodelled::Sel2) => Some(Unmodelled::Sel2),
-    }
+    source.or(old)
 }
 
 // A reception was timed by a source: one that the model has no frequency for is kept until the firmware is told.

@@ -5,7 +5,6 @@ use Rattle.model.specs.Replies.{ReadOf, Take}
 use Rattle.model.specs.Names.{Write, Done, Row}
 use Rattle.model.specs.declared.Report.{Report}
 
-
 -- what the machine around the UART does
 pub data Machine : Type 0 where
   wake reset power_down : Machine

@@ -21,7 +21,6 @@ use Rattle.model.specs.declared.Refusal.TheVariants.{TransmitFull, HostFull, Run
 use Rattle.model.specs.declared.Report.{Report}
 use Rattle.model.specs.Names.{Write, Done}
 
-
 -- ---- what a call gives
 
 pub record Outcome (R H W : Type 0) : Type 0 where

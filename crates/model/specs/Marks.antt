@@ -100,7 +100,8 @@ marks =
     ∷ (noted (at 100 (receive 100 (0x55 ∷ [])) ∷ read 519 (shown status) ∷ read 520 (shown status) ∷ read 520 fifo ∷ read 520 fifo ∷ [])
     ≡ (does (Ok tt), []) ∷ (value 0, []) ∷ (value 1, []) ∷ (reads (byte 0x55), []) ∷ (value 0, UartEmptyRead ∷ []) ∷ [])
     -- P7: the receive timeout
-    ∷ (replies (p7 ++ read 939 (shown int_raw) ∷ read 940 (shown int_raw) ∷ []) ≡ writes (Ok true) ∷ does (Ok tt) ∷ value 2 ∷ value 0x102 ∷ [])
+    ∷ (replies (p7 ++ read 939 (shown int_raw) ∷ read 940 (shown int_raw) ∷ [])
+    ≡ writes (Ok true) ∷ does (Ok tt) ∷ value 2 ∷ value 0x102 ∷ [])
     -- P8: a second byte at the timeout, and one cycle before it
     ∷ (drop 2 (replies (p7 ++ at 100 (receive 940 (0x56 ∷ [])) ∷ read 940 (shown int_raw) ∷ [])) ≡ does (Ok tt) ∷ value 0x102 ∷ [])
     ∷ (drop 2 (replies (p7 ++ at 100 (receive 939 (0x56 ∷ [])) ∷ read 940 (shown int_raw) ∷ read 1358 (shown status)

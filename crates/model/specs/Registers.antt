@@ -18,7 +18,6 @@ use Rattle.model.specs.declared.Feature.TheVariants.{RxFlowControl, InvertedTx, 
 use Rattle.model.specs.declared.Unsupported.{Unsupported}
 use Rattle.model.specs.declared.Unsupported.TheVariants.{UartOverflow, UartEmptyRead, UartClock, UartReceiveClock, UartFeature}
 
-
 -- ---- notices
 
 unfoldable pub note_if : Bool → Unsupported → List Unsupported → List Unsupported

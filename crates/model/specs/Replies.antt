@@ -12,7 +12,6 @@ use Rattle.model.specs.declared.Refusal.TheVariants.{PeriodTooLong, BufferTooSho
 use Rattle.model.specs.declared.Report.{Report}
 use Rattle.model.specs.Names.{SetUp, Read, Write, Done, Taken}
 
-
 -- document 01's numbers. Its own words: doubled place, past the end, clock went back, tray full, basket full, runs full,
 -- slow clock, short buffer
 unfoldable pub number : Refusal → ℕ

@@ -13,7 +13,6 @@ use Rattle.model.specs.declared.Report.{Report}
 use Rattle.model.specs.declared.Unsupported.{Unsupported}
 use Rattle.model.specs.Names.{Write, Row}
 
-
 -- a longer row is cut
 abbrev pub row_limit : ℕ
 row_limit = 1152

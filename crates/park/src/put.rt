@@ -10,11 +10,9 @@ pub(crate) fn put(out: &mut [u8], at: usize, width: usize, n: u64) -> usize
     ensures { Puts width (low_first width n) out.old at out.new result }
 {
     let mut rest = n;
-    let mut i = 0;
-    while i < width {
+    for i in 0..width {
         out[at + i] = (rest % 256) as u8;
         rest = rest / 256;
-        i += 1;
     }
     at + width
 }
@@ -26,10 +24,8 @@ pub(crate) fn put_numbers(out: &mut [u8], at: usize, width: usize, ns: &[u32]) -
         out.old at out.new result }
 {
     let mut place = at;
-    let mut i = 0;
-    while i < ns.len() {
-        place = put(out, place, width, ns[i] as u64);
-        i += 1;
+    for n in ns {
+        place = put(out, place, width, *n as u64);
     }
     place
 }

@@ -47,13 +47,10 @@ pub(crate) fn put_dates(out: &mut [u8], at: usize, flight: Cursor, gone_at: &[u6
     ensures { Puts (8 * flight.count) (field_bytes (map long (elems (slot_of gone_at.now 0) 129 flight)))
         out.old at out.new result }
 {
-    let count = flight.count;
     let mut place = at;
-    let mut i = 0;
-    while i < count {
+    for i in 0..flight.count {
         let slot = flight.nth(129, i);
         place = put(out, place, 8, gone_at[slot]);
-        i += 1;
     }
     place
 }
@@ -71,14 +68,11 @@ pub(crate) fn put_runs(
     ensures { Puts (10 * runs.count) (field_bytes (run_fields (runs_of run_at.now run_len.now runs)))
         out.old at out.new result }
 {
-    let count = runs.count;
     let mut place = at;
-    let mut i = 0;
-    while i < count {
+    for i in 0..runs.count {
         let slot = runs.nth(64, i);
         let dated = put(out, place, 8, run_at[slot]);
         place = put(out, dated, 2, run_len[slot]);
-        i += 1;
     }
     place
 }

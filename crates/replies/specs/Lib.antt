@@ -4,6 +4,7 @@ pub mod NoticeLaws
 pub mod Reports
 pub mod Offsets
 pub mod Refusals
+pub mod Chains
 pub mod Room
 pub mod Calls
 pub mod Modes

@@ -14,6 +14,8 @@ pub struct Notices {
     pub count: usize,
 }
 
+// No notice yet. A function and no `impl Default`, whose contract would be a ghost member beside the same body: no plainer.
+#[tactic(auto, unfolding(crate::specs::Notices::noted, model::specs::Replies::notices))]
 pub fn none() -> Notices
     ensures { result ≡ noted [] }
 {
@@ -25,22 +27,23 @@ pub fn none() -> Notices
     }
 }
 
+// A notice more is taken and given by value: calls chain from `none()` on, and each contract is one equation of values.
 impl Notices {
     // One more behind the others; a ninth, which no call has, would be left out.
+    #[tactic(auto, unfolding(crate::specs::Notices::added, model::specs::Numbers::choose))]
     fn note(mut self, what: Unsupported) -> Notices
         ensures { result ≡ added what self }
     {
         let at = self.count;
         if at < 8 {
-            self.list[at] = Notice { what: what };
+            self.list[at] = Notice { what };
             self.count = at + 1;
-            self
-        } else {
-            self
         }
+        self
     }
 
     // One more where the test passes.
+    #[tactic(auto, unfolding(crate::specs::Notices::added_if, model::specs::Numbers::choose))]
     pub fn note_if(self, test: bool, what: Unsupported) -> Notices
         ensures { result ≡ added_if test what self }
     {
@@ -70,6 +73,7 @@ pub fn overflow_notices() -> Notices
 }
 
 // A source without a frequency gives the notice with its SCLK_SEL.
+#[tactic(auto, unfolding(model::specs::Registers::source_notes))]
 fn source_notices(source: Source, sel0: Unsupported, sel2: Unsupported) -> Notices
     ensures { (notice : ℕ → Unsupported) → sel0 ≡ notice 0 → sel2 ≡ notice 2 → result ≡ noted (source_notes notice source) }
 {

@@ -28,10 +28,8 @@ fn marks() -> [u8; 8192]
     ensures value_2 { result ≡ marks_from 0 8192 }
 {
     let mut lent = [0u8; 8192];
-    let mut i = 0;
-    while i < 8192 {
-        lent[i] = mark(i);
-        i += 1;
+    for (i, slot) in lent.iter_mut().enumerate() {
+        *slot = mark(i);
     }
     lent
 }
@@ -41,12 +39,10 @@ fn same_marks(lent: &[u8], from: usize) -> bool
     requires { from ≤ length lent.now }
     ensures { result ≡ same_bytes (drop from lent.now) (marks_from from (length lent.now - from)) }
 {
-    let mut i = from;
-    while i < lent.len() {
+    for i in from..lent.len() {
         if lent[i] != mark(i) {
             return false;
         }
-        i += 1;
     }
     true
 }

@@ -3,7 +3,6 @@ use Rattle.std.specs.Prelude.{◌≡◌, refl, ℕ, zero, suc, ◌<◌, ◌≤�
 use Rattle.std.proofs.Common.{arith}
 use Rattle.model.specs.Timing.{stop_half_bits, unmodelled}
 
-
 pub stop-one : (code : ℕ) → code < 2 → stop_half_bits code ≡ 2
 unfolding stop_half_bits
 stop-one zero h = refl

@@ -148,7 +148,12 @@ impl Uart {
             cycle,
             offset,
         );
-        self.after(done.core, done.reply, done.report)
+        self.core = done.core;
+        After {
+            uart: self,
+            reply: done.reply,
+            report: done.report,
+        }
     }
 
     // A write at an offset.
@@ -170,7 +175,12 @@ impl Uart {
             offset,
             value,
         );
-        self.after(done.core, done.reply, done.report)
+        self.core = done.core;
+        After {
+            uart: self,
+            reply: done.reply,
+            report: done.report,
+        }
     }
 
     // A row: bytes written to FIFO at one cycle.
@@ -190,7 +200,12 @@ impl Uart {
             cycle,
             bytes,
         );
-        self.after(row.core, row.reply, row.report)
+        self.core = row.core;
+        After {
+            uart: self,
+            reply: row.reply,
+            report: row.report,
+        }
     }
 
     // The armed cycle has come.

@@ -17,7 +17,6 @@ use Rattle.model.proofs.Laws.AccessCases.{write-ind}
 use Rattle.model.proofs.Ends.Passes.{apart}
 use Rattle.model.proofs.Ends.NothingDue.{NothingLeft, settle-passes, settle-order, settle-nothing-left}
 
-
 -- a settling: its cycle, and the state that it begins with
 pub record Settling : Type 0 where
   pub now : ℕ

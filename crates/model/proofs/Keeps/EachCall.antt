@@ -27,7 +27,6 @@ use Rattle.model.proofs.Keeps.Host.{joined-within}
 use Rattle.model.proofs.Keeps.Dated.{not-refused, unless-parts, dated-parts, moved-parts, settle_at-parts}
 use Rattle.model.proofs.Keeps.Access.{read_placed-parts, write_placed-parts, send-parts}
 
-
 -- ---- the host
 
 other_half : (a b : Bool) → (a && b) ≡ false → a ≡ true → b ≡ false

@@ -13,7 +13,6 @@ use Rattle.model.specs.declared.Refusal.{Refusal}
 use Rattle.model.specs.declared.Refusal.TheVariants.{DatePastEnd, DateWentBack, TransmitFull, HostFull, RunsFull, PeriodTooLong}
 use Rattle.model.specs.declared.Refusal.TheVariants.{BufferTooShort}
 
-
 -- the table: when a call or a row meets the condition of a number, in the state before settling
 pub data Condition (u : Uart ℕ ℕ) : Refusal → Ask → Type 0 where
   -- 2: now is 2^59 or more

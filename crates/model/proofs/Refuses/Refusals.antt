@@ -28,7 +28,6 @@ use Rattle.model.specs.declared.Refusal.{Refusal}
 use Rattle.model.specs.declared.Refusal.TheVariants.{DatePastEnd, DateWentBack, TransmitFull, HostFull, RunsFull, PeriodTooLong}
 use Rattle.model.specs.declared.Refusal.TheVariants.{RepeatedOffset, BufferTooShort}
 
-
 -- ---- tests one after another
 
 -- what a row of tests gave: none holds, or one is the first that does

@@ -34,7 +34,6 @@ use Rattle.model.specs.declared.Refusal.{Refusal}
 use Rattle.model.specs.declared.Refusal.TheVariants.{DatePastEnd, DateWentBack}
 use Rattle.model.specs.Names.{Row, Write}
 
-
 -- ---- one write
 
 -- a write of a byte at an offset

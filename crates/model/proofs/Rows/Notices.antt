@@ -26,7 +26,6 @@ use Rattle.model.specs.declared.Unsupported.{Unsupported}
 use Rattle.model.specs.declared.Unsupported.TheVariants.{UartOverflow, UartClock}
 use Rattle.model.specs.declared.Words.{Words}
 
-
 -- ---- the notices of one write
 
 -- those of a UART with such an SCLK_SEL

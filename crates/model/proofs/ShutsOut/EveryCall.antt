@@ -31,7 +31,6 @@ use Rattle.model.specs.Names.{Date, Row, Write, Done}
 use Rattle.model.specs.declared.RegisterMap.{RegisterMap}
 use Rattle.model.specs.declared.Unsupported.{Unsupported}
 
-
 -- INT_RAW, the byte on the line, when it lands, and the register map
 abbrev pub watched_parts : Uart ℕ ℕ → ℕ × Option (OnTheLine ℕ) × ℕ × RegisterMap
 watched_parts u = ((line_of u).int_raw, u.receiving, (line_of u).line_free_at, u.map)

@@ -21,7 +21,6 @@ use Rattle.model.proofs.MeetsManual.Answers.{InTime, settled, carried-answer}
 use Rattle.model.specs.declared.Refusal.{Refusal}
 use Rattle.model.specs.declared.Refusal.TheVariants.{BufferTooShort}
 
-
 -- ---- runs
 
 module _ (date n : ℕ) where

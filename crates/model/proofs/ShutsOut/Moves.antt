@@ -33,7 +33,6 @@ use Rattle.model.specs.declared.Unsupported.{Unsupported}
 use Rattle.model.specs.declared.Unsupported.TheVariants.{UartOverflow, UartClock}
 use Rattle.model.specs.Names.{Write}
 
-
 -- ---- a FIFO write
 
 module _ (now : ℕ) (u : Uart ℕ ℕ) (x : Written) (t : InTime now u) (e : register_of u.map.offsets x.offset ≡ Register.fifo)

@@ -28,7 +28,6 @@ use Rattle.model.specs.Unused.{takes_word}
 use Rattle.model.specs.declared.RegisterMap.{RegisterMap}
 use Rattle.model.specs.declared.Words.{Words}
 
-
 -- ---- nine words, bit for bit
 
 replaced-value : (x : Word) (v : ℕ) (w : Words) (y : Word) → value_of (replaced x v w) y ≡ choose (same_word x y) v (value_of w y)

@@ -20,7 +20,6 @@ use Rattle.model.proofs.Laws.AccessCases.{unless-ind}
 use Rattle.model.proofs.Refuses.Exactly.{call-carried}
 use Rattle.model.specs.declared.Refusal.TheVariants.{BufferTooShort}
 
-
 -- ---- reports
 
 -- an undated call answers its number and its own result alone, refused or done

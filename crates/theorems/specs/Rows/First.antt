@@ -23,7 +23,6 @@ use Rattle.theorems.specs.Rows.Still.{Still}
 use Rattle.theorems.specs.Rows.Next.{joined, last_gone-joined, arm-again}
 use Rattle.model.specs.Names.{Date, Write}
 
-
 -- the last byte in flight goes after a date
 abbrev pub LastAfter : {W : Type 0} → ℕ → List (Sent W) → Type 0
 LastAfter date l = (t : ℕ) → last_gone l ≡ Some t → date < t

@@ -31,7 +31,6 @@ use Rattle.model.specs.Names.{Date, Write}
 use Rattle.model.specs.declared.Refusal.TheVariants.{DatePastEnd, DateWentBack, TransmitFull}
 use Rattle.model.specs.declared.Unsupported.TheVariants.{UartOverflow, UartClock}
 
-
 -- ---- the byte joins
 
 module _ {H W : Type 0} where

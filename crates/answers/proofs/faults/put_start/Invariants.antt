@@ -1,4 +1,4 @@
--- What each loop of `faults::put_start` keeps, and what gets less.
+-- What the loop of `faults::put_start` keeps.
 use mathlib.Core.Path.{◌≡◌}
 use mathlib.Core.List.{map}
 use Prim.Native.Nat.{◌-◌, ◌≤◌}
@@ -11,6 +11,3 @@ abbrev pub invariant-loop-i : goal.invariant-loop-i
 invariant-loop-i l =
     (l.start ≤ l.i) × (l.i - l.start ≤ l.end - l.start) × (l.i - l.start ≤ 40) × (length l.out ≡ length l.initial.out)
     × Puts (map shown (take (l.i - l.start) (drop l.start l.s))) l.initial.out l.at l.out l.place
-
-abbrev pub decreases-loop-i : goal.decreases-loop-i
-decreases-loop-i l = l.end - l.i

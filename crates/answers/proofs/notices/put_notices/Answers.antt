@@ -19,29 +19,20 @@ pub loop-i-init : goal.loop-i-init
 unfolding next_texts
 loop-i-init c = (
   omega arith,
-  omega arith,
-  omega arith,
+  omega (arith, c.min-count.ensures),
+  omega (arith, c.min-count.ensures),
   refl,
   put-nothing c.put_notice-place.new.out
       c.put_notice-place.result,
 )
 
-pub returns-then-i-noted : goal.returns-then-i-noted
-returns-then-i-noted c =
-    let ns = c.args.notices in
-    let w = c.loop-i in
-    let count : w.i ≡ min c.args.noted 8 = omega arith in
-    let all = later-all ns w.i unused (omega arith) (omega arith) ∙ ap (λ (k : ℕ). notices_text (take k ns)) count in
-    puts_of (λ (l : List ℕ). l) (sym all) (and_then c.put_notice-place.ensures w.invariant.4)
-    c.requires
-
 pub loop-i-preserved : goal.loop-i-preserved
 loop-i-preserved c =
     let ns = c.args.notices in
     let w = c.loop-i in (
-      search rules,
-      search rules,
-      search rules,
+      omega arith,
+      omega arith,
+      omega arith,
       search rules,
       puts_of (λ (l : List ℕ). l) (sym (later-on ns w.i unused (omega arith) (omega arith)))
           (and_then w.invariant.4 c.put_next-place.ensures),
@@ -51,7 +42,7 @@ pub returns : goal.returns
 returns c =
     let ns = c.args.notices in
     let w = c.loop-i in
-    let count : w.i ≡ min c.args.noted 8 = omega arith in
+    let count : w.i ≡ min c.args.noted 8 = omega (arith, c.min-count.ensures) in
     let all = later-all ns w.i unused (omega arith) (omega arith) ∙ ap (λ (k : ℕ). notices_text (take k ns)) count in
     puts_of (λ (l : List ℕ). l) (sym all) (and_then c.put_notice-place.ensures w.invariant.4)
     c.requires

@@ -6,7 +6,7 @@ use Rattle.blanking.proofs.line.call.Goals as goal
 pub put_call-end-requires-clause-s_in_bounds : goal.put_call-end-requires-clause-s_in_bounds
 put_call-end-requires-clause-s_in_bounds c =
     let a = c.args in
-    (call-room a.out.now a.at a.trace.offsets a.name a.all a.last a.bytes.now a.s.now
+    (call-room a.out.now a.at _ a.name a.all a.last a.bytes.now a.s.now
     (c.requires.bytes_len_bound, c.requires.longest_in_bounds)).1
 
 pub returns-in-SetUp : goal.returns-in-SetUp
@@ -14,12 +14,12 @@ returns-in-SetUp c =
     let a = c.args in
     let told = sym c.asks_of-asks.ensures ∙ c.in-SetUp.is in
     blanks-set-up a.trace a.name a.all a.last a.bytes.now a.s.now _ _ _ _ told
-    c.put_call-end.ensures (c.set_map.ensures ∙ map_same a.trace _ _ c.sixteen.ensures)
+    (rw c.unwrap_or-offsets.ensures at c.put_call-end.ensures) (c.set_map.ensures ∙ map_same a.trace _ _ c.sixteen.ensures)
 
 pub put_call-end-requires-in-Figures-clause-s_in_bounds : goal.put_call-end-requires-in-Figures-clause-s_in_bounds
 put_call-end-requires-in-Figures-clause-s_in_bounds c =
     let a = c.args in
-    (call-room a.out.now a.at a.trace.offsets a.name a.all a.last a.bytes.now a.s.now
+    (call-room a.out.now a.at _ a.name a.all a.last a.bytes.now a.s.now
     (c.requires.bytes_len_bound, c.requires.longest_in_bounds)).1
 
 pub returns-in-Figures : goal.returns-in-Figures
@@ -27,26 +27,26 @@ returns-in-Figures c =
     let a = c.args in
     let told = sym c.asks_of-asks.ensures ∙ c.in-Figures.is in
     blanks-figures a.trace a.name a.all a.last a.bytes.now a.s.now _ _ _ _ told
-    c.put_call-end-in-Figures.ensures refl
+    (rw c.unwrap_or-offsets.ensures at c.put_call-end-in-Figures.ensures) refl
 
-pub put_call-end-requires-then-trace-clause-s_in_bounds : goal.put_call-end-requires-then-trace-clause-s_in_bounds
-put_call-end-requires-then-trace-clause-s_in_bounds c =
+pub put_call-end-requires-then-is_some-clause-s_in_bounds : goal.put_call-end-requires-then-is_some-clause-s_in_bounds
+put_call-end-requires-then-is_some-clause-s_in_bounds c =
     let a = c.args in
-    (call-room a.out.now a.at a.trace.offsets a.name a.all a.last a.bytes.now a.s.now
+    (call-room a.out.now a.at _ a.name a.all a.last a.bytes.now a.s.now
     (c.requires.bytes_len_bound, c.requires.longest_in_bounds)).1
 
-pub returns-then-trace : goal.returns-then-trace
-returns-then-trace c =
+pub returns-then-is_some : goal.returns-then-is_some
+returns-then-is_some c =
     let a = c.args in
     let told = sym c.asks_of-asks.ensures ∙ c.in-Uart.is in
     blanks-call a.trace a.name a.all a.last a.bytes.now a.s.now _ _ _ _ told
-    c.if-trace.true
-    c.put_call-end-then-trace.ensures refl
+    (sym c.is_some.ensures ∙ c.if-is_some.true)
+    (rw c.unwrap_or-offsets.ensures at c.put_call-end-then-is_some.ensures) refl
 
-pub returns-else-trace : goal.returns-else-trace
-returns-else-trace c =
+pub returns-else-is_some : goal.returns-else-is_some
+returns-else-is_some c =
     let a = c.args in
     let told = sym c.asks_of-asks.ensures ∙ c.in-Uart.is in
     blanks-none a.trace a.name a.all a.last a.bytes.now a.s.now _ _ _ _ told
-    c.if-trace.false
+    (sym c.is_some.ensures ∙ c.if-is_some.false)
     c.leave_out.ensures

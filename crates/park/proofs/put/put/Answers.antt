@@ -2,8 +2,8 @@
 -- was. Assumes nothing.
 use mathlib.Core.Path.{◌≡◌, refl, sym, ap, ap₂, ◌∙◌}
 use mathlib.Core.List.{List}
-use Prim.Native.Nat.{ℕ, suc, ◌+◌, ◌-◌, ◌≤◌, ◌/◌, ◌%◌}
-use lib.ListN.{length, set, length-set}
+use Prim.Native.Nat.{ℕ, suc, ◌+◌, ◌-◌, ◌/◌, ◌%◌}
+use lib.ListN.{set, length-set}
 use Rattle.form.specs.Cells.{low_first}
 use Rattle.form.proofs.Laws.Numbers.{length-low}
 use Rattle.park.specs.Puts.{wrote}
@@ -15,7 +15,7 @@ loop-i-init c =
     let a = c.args in
     let e : a.at + 0 ≡ a.at = omega arith in
     let f : a.width - 0 ≡ a.width = omega arith in
-    (omega arith, refl, ap₂ (λ (p k : ℕ). wrote a.out.now p (low_first k a.n)) e f)
+    (refl, ap₂ (λ (p k : ℕ). wrote a.out.now p (low_first k a.n)) e f)
 
 pub loop-i-preserved : goal.loop-i-preserved
 unfolding wrote low_first
@@ -25,10 +25,9 @@ loop-i-preserved c =
     let t : List ℕ = set w.out (a.at + w.i) (w.rest % 256) in
     let e : a.at + (w.i + 1) ≡ suc (a.at + w.i) = omega arith in
     let f : a.width - w.i ≡ suc (a.width - (w.i + 1)) = omega arith in (
-      omega arith,
-      length-set w.out (a.at + w.i) (w.rest % 256) ∙ w.invariant.1,
+      length-set w.out (a.at + w.i) (w.rest % 256) ∙ w.invariant.0,
       ap (λ (p : ℕ). wrote t p (low_first (a.width - (w.i + 1)) (w.rest / 256))) e
-          ∙ sym (ap (λ (k : ℕ). wrote w.out (a.at + w.i) (low_first k w.rest)) f) ∙ w.invariant.2,
+          ∙ sym (ap (λ (k : ℕ). wrote w.out (a.at + w.i) (low_first k w.rest)) f) ∙ w.invariant.1,
     )
 
 pub returns : goal.returns
@@ -40,6 +39,6 @@ returns c =
     record {
       many = length-low a.width a.n;
       place = refl;
-      long = w.invariant.1;
-      bytes = ap (λ (k : ℕ). wrote w.out (a.at + w.i) (low_first k w.rest)) (sym f) ∙ w.invariant.2;
+      long = w.invariant.0;
+      bytes = ap (λ (k : ℕ). wrote w.out (a.at + w.i) (low_first k w.rest)) (sym f) ∙ w.invariant.1;
     }

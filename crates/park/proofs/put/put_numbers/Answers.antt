@@ -1,41 +1,37 @@
--- `put::put_numbers` meets its contract. The loop's invariant: the first `i` numbers are put. Assumes nothing.
+-- `put::put_numbers` meets its contract. The loop's invariant: the numbers so far are put. Assumes nothing.
 use mathlib.Core.Path.{◌≡◌, refl, sym, ap}
 use mathlib.Core.List.{List, map, flat_map}
-use Prim.Native.Nat.{ℕ, ◌-◌, ◌*◌, ◌≤◌}
+use Prim.Native.Nat.{ℕ, ◌*◌}
 use native.Mathlib.Nat.{mul-zero}
-use lib.ListN.{length, take}
-use lib.Seq.{take_all}
-use Rattle.form.specs.Cells.{field_bytes}
-use Rattle.form.specs.Cells.{of_width}
-use Rattle.park.specs.Puts.{Puts, put-nothing, puts-same}
-use Rattle.park.specs.Fields.{puts-number, one-fits}
 use native.Mathlib.Omega.{arith}
+use lib.ListN.{length}
+use lib.Seq.{take_all}
+use Rattle.form.specs.Cells.{field_bytes, of_width}
+use Rattle.park.specs.Puts.{put-nothing, puts-same}
+use Rattle.park.specs.Fields.{puts-number, one-fits}
 use Rattle.park.proofs.put.put_numbers.Goals as goal
 
-pub loop-i-init : goal.loop-i-init
+pub loop-n-init : goal.loop-n-init
 unfolding field_bytes flat_map
-loop-i-init c = (omega arith, puts-same (sym (mul-zero _)) refl (put-nothing _ _))
-
-pub overflow_cast-ns : goal.overflow_cast-ns
-overflow_cast-ns c = omega (arith, c.shared_slice_known-in-loop-i-1.given c.loop-i.i)
+loop-n-init c = puts-same (sym (mul-zero _)) refl (put-nothing _ _)
 
 pub put-place-requires : goal.put-place-requires
 put-place-requires c =
     let start = c in
     let a = c.args in
-    let w = c.loop-i in
-    omega (arith, w.invariant.1.place, w.invariant.1.long, c.requires, one-fits a.width w.i (length a.ns.now) (omega arith))
+    let w = c.loop-n in
+    omega (arith, w.invariant.place, w.invariant.long, c.requires, one-fits a.width w.n-index (length a.ns.now) (omega arith))
 
-pub loop-i-preserved : goal.loop-i-preserved
-loop-i-preserved c =
+pub loop-n-preserved : goal.loop-n-preserved
+loop-n-preserved c =
     let a = c.args in
-    let w = c.loop-i in
-    (omega arith, puts-number a.width w.i a.ns.now (omega arith) w.invariant.1 c.put-place.ensures)
+    let w = c.loop-n in
+    puts-number a.width w.n-index a.ns.now (omega arith) w.invariant c.put-place.ensures
 
 pub returns : goal.returns
 returns c =
     let a = c.args in
-    let w = c.loop-i in
-    let all : w.i ≡ length a.ns.now = omega arith in
+    let w = c.loop-n in
+    let all : w.n-index ≡ length a.ns.now = omega arith in
     puts-same (ap (λ (k : ℕ). a.width * k) all)
-    (ap (λ (l : List ℕ). field_bytes (map (of_width a.width) l)) (take_all w.i a.ns.now (omega arith))) w.invariant.1
+    (ap (λ (l : List ℕ). field_bytes (map (of_width a.width) l)) (take_all w.n-index a.ns.now (omega arith))) w.invariant

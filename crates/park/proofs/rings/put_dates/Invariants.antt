@@ -1,22 +1,14 @@
--- What each loop of `rings::put_dates` keeps, and what gets less.
-use mathlib.Core.Path.{◌≡◌, ap}
-use mathlib.Core.List.{map, flat_map}
-use Prim.Native.Nat.{ℕ, ◌-◌, ◌*◌, ◌≤◌}
+-- What the loop of `rings::put_dates` keeps.
+use mathlib.Core.List.{map}
+use Prim.Native.Nat.{◌*◌}
 use Rattle.queue.specs.Listed.{listed}
-use Rattle.queue.specs.Cursors.{slot_of, nth_of, elems}
+use Rattle.queue.specs.Cursors.{slot_of, nth_of}
 use Rattle.form.specs.Cells.{field_bytes}
 use Rattle.form.specs.Form.{long}
-use Rattle.park.specs.Puts.{Puts, put-nothing, puts-same}
-use Rattle.park.specs.Fields.{puts-value}
-use Rattle.park.specs.Rings.{puts-date}
-use native.Mathlib.Omega.{arith}
-use borrow.Author.Rules.{rules}
+use Rattle.park.specs.Puts.{Puts}
 use Rattle.park.proofs.rings.put_dates.Given as goal
 
 abbrev pub invariant-loop-i : goal.invariant-loop-i
 invariant-loop-i l =
-    (l.i ≤ l.flight.count) × Puts (8 * l.i) (field_bytes (map long (listed (λ k. slot_of l.gone_at 0 (nth_of 129 k l.flight)) l.i)))
+    Puts (8 * l.i) (field_bytes (map long (listed (λ k. slot_of l.gone_at 0 (nth_of 129 k l.flight)) l.i)))
     l.initial.out l.at l.out l.place
-
-abbrev pub decreases-loop-i : goal.decreases-loop-i
-decreases-loop-i l = l.flight.count - l.i

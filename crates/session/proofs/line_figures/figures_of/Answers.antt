@@ -1,8 +1,5 @@
 -- `line_figures::figures_of` meets its contract: the frames that are kept decide. Assumes nothing.
 use mathlib.Core.Path.{◌∙◌}
-use Prim.Native.Nat.{◌≤◌}
-use native.Mathlib.Omega.{arith}
-use lib.ListN.{length}
 use Rattle.session.specs.Frames.{kept-figures}
 use Rattle.session.proofs.line_figures.figures_of.Goals as goal
 

@@ -1,9 +1,6 @@
 -- `take::marks` meets its contract. The loop's invariant: the marks up to the i-th stand there. Assumes nothing.
 use mathlib.Core.Path.{◌≡◌, refl, ap, sym, ◌∙◌}
-use mathlib.Core.List.{List}
-use Prim.Native.Nat.{ℕ, ◌-◌, ◌≤◌}
 use native.Mathlib.Omega.{arith}
-use lib.ListN.{length, take, length-set}
 use lib.Seq.{take_all}
 use Rattle.session.specs.Requests.{marks_from}
 use Rattle.session.specs.HandOuts.{marked-on}
@@ -12,18 +9,17 @@ use Rattle.session.proofs.take.marks.Goals as goal
 
 pub loop-i-init : goal.loop-i-init
 unfolding marks_from
-loop-i-init c = (omega arith, search rules, refl)
+loop-i-init c = (search rules, refl)
 
 pub loop-i-preserved : goal.loop-i-preserved
 loop-i-preserved c =
     let w = c.loop-i in (
-      omega arith,
       search rules,
-      marked-on w.lent w.i (omega arith) w.invariant.2 c.mark.ensures,
+      marked-on w.slot-items w.i (omega arith) w.invariant.1 c.mark.ensures,
     )
 
 pub returns : goal.returns
 returns c =
     let w = c.loop-i in
     let e : w.i ≡ 8192 = omega arith in
-    record { value = w.invariant.1; value_2 = sym (take_all w.i w.lent (omega arith)) ∙ w.invariant.2 ∙ ap (marks_from 0) e }
+    record { value = w.invariant.0; value_2 = sym (take_all w.i w.slot-items (omega arith)) ∙ w.invariant.1 ∙ ap (marks_from 0) e }

@@ -1,17 +1,8 @@
 -- What each loop of `take::marks` keeps, and what gets less.
-use mathlib.Core.Path.{◌≡◌, refl, ap, sym, ◌∙◌}
-use mathlib.Core.List.{List}
-use Prim.Native.Nat.{ℕ, ◌-◌, ◌≤◌}
-use native.Mathlib.Omega.{arith}
-use lib.ListN.{length, take, length-set}
-use lib.Seq.{take_all}
+use mathlib.Core.Path.{◌≡◌}
+use lib.ListN.{length, take}
 use Rattle.session.specs.Requests.{marks_from}
-use Rattle.session.specs.HandOuts.{marked-on}
-use borrow.Author.Rules.{rules}
 use Rattle.session.proofs.take.marks.Given as goal
 
 abbrev pub invariant-loop-i : goal.invariant-loop-i
-invariant-loop-i l = (l.i ≤ 8192) × (8192 ≡ length l.lent) × (take l.i l.lent ≡ marks_from 0 l.i)
-
-abbrev pub decreases-loop-i : goal.decreases-loop-i
-decreases-loop-i l = 8192 - l.i
+invariant-loop-i l = (8192 ≡ length l.slot-items) × (take l.i l.slot-items ≡ marks_from 0 l.i)

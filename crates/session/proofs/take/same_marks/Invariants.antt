@@ -1,13 +1,7 @@
 -- What each loop of `take::same_marks` keeps, and what gets less.
-use mathlib.Core.Path.{◌≡◌, refl, sym, ◌∙◌}
-use Prim.Native.Nat.{◌-◌, ◌≤◌}
-use native.Mathlib.Omega.{arith}
-use lib.ListN.{length}
-use Rattle.session.specs.HandOuts.{marked, marked-same, marked_other, marked-end}
+use mathlib.Core.Path.{◌≡◌}
+use Rattle.session.specs.HandOuts.{marked}
 use Rattle.session.proofs.take.same_marks.Given as goal
 
 abbrev pub invariant-loop-i : goal.invariant-loop-i
-invariant-loop-i l = (l.i ≤ length l.lent) × (marked l.from l.lent ≡ marked l.i l.lent)
-
-abbrev pub decreases-loop-i : goal.decreases-loop-i
-decreases-loop-i l = length l.lent - l.i
+invariant-loop-i l = marked l.from l.lent ≡ marked l.i l.lent

@@ -19,5 +19,6 @@ returns c =
     count_from_yields_List c.take_while.result _ c.count.ensures.ran
     (YieldsList-from_take_while _ test (YieldsList-at c.take_while.ensures.source (YieldsList-from_slice rest c.iter.ensures.rest))
     c.take_while.ensures.closure c.take_while.ensures.done (λ x b q k. search (rules, tests))) in
-    ap (λ (k : ℕ). a.at + k) (count ∙ length-prefix_len test rest ∙ sym (before-prefix (is_byte a.byte) test (λ b. sym (not-not (eqb b a.byte))) rest))
+    ap (λ (k : ℕ). a.at + k)
+    (count ∙ length-prefix_len test rest ∙ sym (before-prefix (is_byte a.byte) test (λ b. sym (not-not (eqb b a.byte))) rest))
     ∙ ap (λ (l : List ℕ). a.at + before (is_byte a.byte) l) (rest-within a.s.now a.at m c.min.ensures)
