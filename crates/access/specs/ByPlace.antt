@@ -23,11 +23,10 @@ use Rattle.replies.specs.Calls.{write-tests}
 use Rattle.replies.specs.Refusals.{sending, dates_only}
 use Rattle.device.specs.Holds.{Arrays, abs, Valid}
 use Rattle.device.specs.declared.Core.{Core}
-use Rattle.calls.specs.Answers.{dated_call, Accesses, Works, Answers, carried, turned-away, in-time}
+use Rattle.calls.specs.Answers.{dated_call, Accesses, Works, Answers, carried, turned-away, in-time, refused_core}
 use Rattle.access.specs.Sends.{send-checks, send-period}
 use Rattle.access.specs.Writes.{write-period}
-use Rattle.access.specs.WriteStructs.{refused_write}
-use Rattle.access.specs.declared.write.WriteCore.{WriteCore}
+use Rattle.calls.specs.declared.answers.CallCore.{CallCore}
 
 -- the tests, from the last carried-out date and the numbers of bytes left and in flight
 unfoldable pub tests_at : Bool → ℕ → ℕ → ℕ → ℕ → Option Refusal
@@ -104,10 +103,10 @@ module _ (cycle offset v : ℕ) {c : Core} {a : Arrays} (ok : Valid c a) {p : Re
       carried (λ x. x) write_number Err (work_at f cycle b p v) c a write-checks t
       (write-within cycle offset v (abs c a) ok.within) (access-zero cycle b p v f _) k
 
-  pub write-refused : {q : Refusal} {r : WriteCore} → tests_at f cycle c.control.last c.tx.count c.flight.count ≡ some q
-      → r ≡ refused_write c q
+  pub write-refused : {q : Refusal} {r : CallCore Write} → tests_at f cycle c.control.last c.tx.count c.flight.count ≡ some q
+      → r ≡ refused_core c q
       → Answers (λ x. x) write_number (dated_call cycle (Calls.write cycle offset v) (abs c a)) c a r.core a r.reply r.report
   write-refused t same =
-      subst (λ (x : WriteCore). Answers (λ w. w) write_number (dated_call cycle (Calls.write cycle offset v) (abs c a)) c a x.core a
+      subst (λ (x : CallCore Write). Answers (λ w. w) write_number (dated_call cycle (Calls.write cycle offset v) (abs c a)) c a x.core a
       x.reply x.report) (sym same)
       (turned-away (λ x. x) write_number Err (work_at f cycle b p v) c a write-checks t ok)

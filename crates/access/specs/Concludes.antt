@@ -17,30 +17,29 @@ use Rattle.device.specs.Holds.{Arrays, abs, Shape}
 use Rattle.device.specs.Settles.{Settles}
 use Rattle.device.specs.Arms.{Ready}
 use Rattle.device.specs.declared.Core.{Core}
-use Rattle.calls.specs.Answers.{Accesses, Works, after, report_of}
+use Rattle.calls.specs.Answers.{Accesses, Works, after, report_of, answer_core}
+use Rattle.calls.specs.declared.answers.CallCore.{CallCore}
 use Rattle.calls.specs.Concludes as Concluding
-use Rattle.access.specs.WriteStructs.{write_core}
 use Rattle.access.specs.declared.store.PlaceWrite.{PlaceWrite}
-use Rattle.access.specs.declared.write.WriteCore.{WriteCore}
 
 -- the core with levels, interrupt and wake of the definition; reply and notices are the access's
-pub record Concluded (p : PlaceWrite) (a : Arrays) (passes overflows : ℕ) (r : WriteCore) : Type 0 where
+pub record Concluded (p : PlaceWrite) (a : Arrays) (passes overflows : ℕ) (r : CallCore Write) : Type 0 where
   pub shape : Shape r.core a
   pub same : abs r.core a ≡ Arm.arm (Settle.levels (abs p.core a))
   pub replies : r.reply ≡ p.reply
   pub reports : r.report ≡ report_of r.core passes overflows p.notices
 
 -- whatever stands in the arrays that arming does not read
-abbrev pub ConcludesAny : PlaceWrite → List ℕ → List ℕ → ℕ → ℕ → WriteCore → Type 0
+abbrev pub ConcludesAny : PlaceWrite → List ℕ → List ℕ → ℕ → ℕ → CallCore Write → Type 0
 ConcludesAny p gone_at run_at passes overflows r =
     (a : Arrays) → a.gone_at ≡ gone_at → a.run_at ≡ run_at → Shape p.core a → Concluded p a passes overflows r
 
-pub concludes-any : (p : PlaceWrite) {gone_at run_at : List ℕ} {passes overflows : ℕ} {c : Core} {r : WriteCore}
+pub concludes-any : (p : PlaceWrite) {gone_at run_at : List ℕ} {passes overflows : ℕ} {c : Core} {r : CallCore Write}
     → Concluding.ConcludesAny p.core gone_at run_at c
-    → r ≡ write_core c p.reply passes overflows p.notices → ConcludesAny p gone_at run_at passes overflows r
+    → r ≡ answer_core c p.reply passes overflows p.notices → ConcludesAny p gone_at run_at passes overflows r
 concludes-any p {passes = passes} {overflows = overflows} concludes e a eg er k =
     let x = concludes a eg er k in
-    subst (λ (w : WriteCore). Concluded p a passes overflows w) (sym e)
+    subst (λ (w : CallCore Write). Concluded p a passes overflows w) (sym e)
     (record { shape = x.shape; same = x.same; replies = refl; reports = refl })
 
 module _ {t : Settle.Settled ℕ ℕ} {c₁ : Core} {a₁ : Arrays} {n o : ℕ} (s : Settles t c₁ a₁ n o) (work : State.Uart ℕ ℕ → Access Write ℕ ℕ)
@@ -60,7 +59,7 @@ module _ {t : Settle.Settled ℕ ℕ} {c₁ : Core} {a₁ : Arrays} {n o : ℕ} 
     x.shape.run_date_slots,
   )
 
-  pub concluded-works : {r : WriteCore} → Concluded p a₂ n o r
+  pub concluded-works : {r : CallCore Write} → Concluded p a₂ n o r
       → Works (λ w. w) (after_settling t (λ u. concluded (work u))) r.core a₂ r.reply r.report
   unfolding concluded
   concluded-works {r} k =

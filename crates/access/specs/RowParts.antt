@@ -1,6 +1,6 @@
 -- A row over a core and its arrays: what the parts of `write_row` give. Assumes nothing.
 use Rattle.std.specs.Prelude.{◌≡◌, Bool, true, false, ◌&&◌, not, List, ◌∷◌, ℕ, suc, ◌+◌, ◌-◌, ◌*◌, ◌<◌, ◌≤◌, min, ltb, length, drop, take}
-use Rattle.std.specs.Prelude.{Ok, Err}
+use Rattle.std.specs.Prelude.{Ok}
 use Rattle.std.specs.Prelude.{get_or, replicate}
 use Rattle.model.specs.Numbers.{choose, due_by}
 use Rattle.model.specs.State
@@ -13,18 +13,16 @@ use Rattle.model.specs.Limits.{Within}
 use Rattle.model.specs.Row.{times_of, writes, summed, row_limit}
 use Rattle.model.specs.Calls.{Outcome}
 use Rattle.theorems.specs.Rows.Still.{Still}
-use Rattle.model.specs.declared.Refusal.{Refusal}
-use Rattle.model.specs.Replies.{no_report}
 use Rattle.model.specs.Names.{Row, Source}
 use Rattle.queue.specs.Cursors.{slot_of}
 use Rattle.queue.specs.Laws.{elems-length}
 use Rattle.device.specs.Holds.{Arrays, flight_of, abs, Shape, Valid}
 use Rattle.device.specs.declared.Core.{Core}
-use Rattle.calls.specs.Answers.{report_of}
+use Rattle.calls.specs.Answers.{answer_core}
 use Rattle.calls.specs.Queues.{flying_in}
 use Rattle.access.specs.Row.{counts_of, Wrote, row_notices}
 use Rattle.access.specs.declared.row.RowSoFar.{RowSoFar}
-use Rattle.access.specs.declared.row.RowCore.{RowCore}
+use Rattle.calls.specs.declared.answers.CallCore.{CallCore}
 
 -- how many have left
 pub left : (c : Core) (a : Arrays) → length (abs c a).tx ≡ c.tx.count
@@ -147,22 +145,17 @@ over_of c rest = choose (ltb fifo_bytes c.flight.count) (choose (full_of c) 0 re
 abbrev pub row_source : Core → Source
 row_source c = unmodelled_source c.control.words.clk_conf
 
-abbrev pub row_core : Core → RowSoFar → ℕ → ℕ → RowCore
+abbrev pub row_core : Core → RowSoFar → ℕ → ℕ → CallCore Row
 row_core c r sent over =
     let made : ℕ = r.made + sent + over in
     let dropped : ℕ = r.dropped + over in
-    record {
-      core = c;
-      reply = Ok (record {
-        count = made;
-        first = times_of 0 (counts_of (row_source c) (made - dropped) dropped);
-        second = times_of 1 (counts_of (row_source c) (made - dropped) dropped);
-      });
-      report = report_of c (r.passes + (sent + over)) r.overflows (row_notices (row_source c) (made - dropped) dropped);
-    }
-
-abbrev pub refused_row : Core → Refusal → RowCore
-refused_row c q = record { core = c; reply = Err q; report = no_report }
+    answer_core c
+    (Ok (record {
+      count = made;
+      first = times_of 0 (counts_of (row_source c) (made - dropped) dropped);
+      second = times_of 1 (counts_of (row_source c) (made - dropped) dropped);
+    }))
+    (r.passes + (sent + over)) r.overflows (row_notices (row_source c) (made - dropped) dropped)
 
 -- what is done where no test refuses the row
 abbrev pub row_work : ℕ → List ℕ → State.Uart ℕ ℕ → Outcome Row ℕ ℕ

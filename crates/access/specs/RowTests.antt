@@ -23,10 +23,10 @@ use Rattle.queue.specs.Cursors.{slot_of}
 use Rattle.queue.specs.Laws.{elems-length}
 use Rattle.device.specs.Holds.{Arrays, sent_at, abs, Valid}
 use Rattle.device.specs.declared.Core.{Core}
-use Rattle.calls.specs.Answers.{Works, Answers, carried, turned-away}
+use Rattle.calls.specs.Answers.{Works, Answers, carried, turned-away, refused_core}
 use Rattle.access.specs.ByPlace.{tests_at}
-use Rattle.access.specs.RowParts.{full_of, refused_row, row_work, Passed}
-use Rattle.access.specs.declared.row.RowCore.{RowCore}
+use Rattle.access.specs.RowParts.{full_of, row_work, Passed}
+use Rattle.calls.specs.declared.answers.CallCore.{CallCore}
 
 -- what 2 and 3 leave
 dates-passed : (cycle last : ℕ) (rest : Option Refusal) → dates cycle last rest ≡ none → (cycle < date_end) × (last ≤ cycle) × (rest ≡ none)
@@ -65,8 +65,8 @@ module _ (cycle : ℕ) (bytes : List ℕ) {c : Core} {a : Arrays} (ok : Valid c 
   row_carried t k =
       carried (λ x. x) row_number Err (row_work cycle bytes) c a row-checks t (row_within cycle bytes (abs c a) ok.within) refl k
 
-  pub row-refused : {q : Refusal} {r : RowCore}
-      → tests_at (ltb 0 (length bytes)) cycle c.control.last c.tx.count c.flight.count ≡ some q → r ≡ refused_row c q
+  pub row-refused : {q : Refusal} {r : CallCore Row}
+      → tests_at (ltb 0 (length bytes)) cycle c.control.last c.tx.count c.flight.count ≡ some q → r ≡ refused_core c q
       → Answers (λ x. x) row_number (row cycle bytes (abs c a)) c a r.core a r.reply r.report
   row-refused t e = rw e (turned-away (λ x. x) row_number Err (row_work cycle bytes) c a row-checks t ok)
 

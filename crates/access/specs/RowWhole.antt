@@ -27,7 +27,8 @@ use Rattle.access.specs.RowParts.{left, full_of, room_of, over_of, row_core, row
 use Rattle.access.specs.RowParts.{Passed, Begins, SoFar, Room, Before, Filled, Totals}
 use Rattle.access.specs.RowSettles.{cut, cut-next}
 use Rattle.access.specs.declared.row.RowSoFar.{RowSoFar}
-use Rattle.access.specs.declared.row.RowCore.{RowCore}
+use Rattle.calls.specs.declared.answers.CallCore.{CallCore}
+use Rattle.model.specs.Names.{Row}
 
 -- ---- lists
 
@@ -233,7 +234,7 @@ module _ {cycle : ℕ} {bytes : List ℕ} {n : ℕ} {u₀ : State.Uart ℕ ℕ} 
       made-low true e = omega (arith, none-full e, es, k.fits, is)
       made-low false e = omega (arith, made_all e, is)
 
-  pub row-works : {w : RowCore} → w ≡ row_core c' r sent lost → Works (λ x. x) (row_work cycle bytes u₀) w.core a' w.reply w.report
+  pub row-works : {w : CallCore Row} → w ≡ row_core c' r sent lost → Works (λ x. x) (row_work cycle bytes u₀) w.core a' w.reply w.report
   unfolding summed row_notices
   row-works e =
       rw (e, all-writes) (record {

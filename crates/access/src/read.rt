@@ -8,48 +8,16 @@ ghost use Rattle.registers.specs.Places.{register_at};
 ghost use Rattle.device.specs.Holds.{abs, Valid};
 ghost use Rattle.device.specs.Wholes.{arrays};
 ghost use Rattle.calls.specs.Answers.{dated_call, dated_work, Works, Answers};
-ghost use Rattle.access.specs.Structs.{read_core, refused_read};
 
-use calls::settle_at;
+use calls::answers::CallCore;
+use calls::{answers, settle_at};
 use device::Core;
-use model::{Read, Refusal, Report};
+use model::Read;
 use registers::places;
 use registers::places::Place;
-use replies::notices::Notices;
 use replies::refusals::Verdict;
-use replies::report;
 
-#[repr(C)]
-#[derive(Clone, Copy)]
-pub struct ReadCore {
-    pub core: Core,
-    pub reply: Read,
-    pub report: Report,
-}
-
-fn answer(core: Core, reply: Read, passes: u64, overflows: u64, notices: Notices) -> ReadCore
-    ensures { result ≡ read_core core reply passes overflows notices }
-{
-    let control = core.control;
-    let wake = control.wake;
-    let report = report::report(control.level, wake, overflows, passes, notices);
-    ReadCore {
-        core,
-        reply,
-        report,
-    }
-}
-
-fn refuse(core: Core, refusal: Refusal) -> ReadCore
-    ensures { result ≡ refused_read core refusal }
-{
-    let report = report::no_report();
-    ReadCore {
-        core,
-        reply: Err(refusal),
-        report,
-    }
-}
+pub type ReadCore = CallCore<Read>;
 
 fn carry_out<'a>(
     core: Core,
@@ -77,7 +45,7 @@ fn carry_out<'a>(
     let after = got.core;
     let reply = got.reply;
     let notices = got.notices;
-    answer(after, reply, t.passes, t.overflows, notices)
+    answers::answer(after, reply, t.passes, t.overflows, notices)
 }
 
 pub fn read<'a>(
@@ -105,7 +73,7 @@ pub fn read<'a>(
     let control = core.control;
     let tests = replies::refusals::date_refusal(cycle, control.last);
     match tests {
-        Err(refusal) => refuse(core, refusal),
+        Err(refusal) => answers::refuse(core, refusal),
         Ok(()) => carry_out(
             core, gone_at, flight, tx, host, run_at, run_len, rx, cycle, place,
         ),

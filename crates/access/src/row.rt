@@ -11,15 +11,15 @@ ghost use Rattle.device.specs.Holds.{abs, Valid};
 ghost use Rattle.calls.specs.Answers.{Works, Answers};
 ghost use Rattle.device.specs.Wholes.{arrays};
 ghost use Rattle.access.specs.RowParts.{due_of, goes_on, one_more, none_yet, SumsLow, Begins, AllSettled, Room, FillsAny};
-ghost use Rattle.access.specs.RowParts.{room_of, over_of, row_core, refused_row, row_work, Totals, Passed};
+ghost use Rattle.access.specs.RowParts.{room_of, over_of, row_core, row_work, Totals, Passed};
 
-use calls::settle_at;
+use calls::answers::CallCore;
+use calls::{answers, settle_at};
 use device::Core;
-use model::{Date, Made, Refusal, Report, Row, Source, Unsupported};
+use model::{Date, Made, Row, Source, Unsupported};
 use registers::words;
 use replies::notices::Notices;
 use replies::refusals::Verdict;
-use replies::report;
 
 // The most bytes of a row that are written.
 const ROW_LIMIT: usize = 1152;
@@ -29,13 +29,7 @@ const FLIGHT_LIMIT: usize = 129;
 
 const SENT_LIMIT: usize = 1152;
 
-#[repr(C)]
-#[derive(Clone, Copy)]
-pub struct RowCore {
-    pub core: Core,
-    pub reply: Row,
-    pub report: Report,
-}
+pub type RowCore = CallCore<Row>;
 
 // What the writes so far come to, and whether the next one settles.
 #[derive(Clone, Copy)]
@@ -267,35 +261,17 @@ fn answer(core: Core, at: RowSoFar, sent: usize, over: usize) -> RowCore
 {
     let control = core.control;
     let words = control.words;
-    let wake = control.wake;
     let source = timing::source::unmodelled_source(words.clk_conf);
     let made = at.made + sent + over;
     let dropped = at.dropped + over;
     let notices = notices_of(source, made - dropped, dropped);
-    let first = first_times(source, made - dropped, dropped);
-    let second = second_times(source, made - dropped, dropped);
+    let row = Made {
+        count: made,
+        first: first_times(source, made - dropped, dropped),
+        second: second_times(source, made - dropped, dropped),
+    };
     let passes = at.passes + (sent + over) as u64;
-    let report = report::report(control.level, wake, at.overflows, passes, notices);
-    RowCore {
-        core,
-        reply: Ok(Made {
-            count: made,
-            first,
-            second,
-        }),
-        report,
-    }
-}
-
-fn refuse(core: Core, refusal: Refusal) -> RowCore
-    ensures { result ≡ refused_row core refusal }
-{
-    let report = report::no_report();
-    RowCore {
-        core,
-        reply: Err(refusal),
-        report,
-    }
+    answers::answer(core, Ok(row), passes, at.overflows, notices)
 }
 
 // The writes that settle, then those that do not, then those that are dropped.
@@ -352,7 +328,7 @@ pub fn write_row<'a, 'b>(
     let some = 0 < bytes.len();
     let tests = crate::send::tests_at(some, cycle, control.last, core.tx.count, core.flight.count);
     match tests {
-        Err(refusal) => refuse(core, refusal),
+        Err(refusal) => answers::refuse(core, refusal),
         Ok(()) => carry_out(
             core, gone_at, flight, tx, host, run_at, run_len, rx, cycle, bytes,
         ),

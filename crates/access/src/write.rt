@@ -10,51 +10,19 @@ ghost use Rattle.device.specs.Holds.{abs, Valid};
 ghost use Rattle.device.specs.Arms.{Ready};
 ghost use Rattle.device.specs.Wholes.{arrays};
 ghost use Rattle.calls.specs.Answers.{dated_call, Works, Answers};
-ghost use Rattle.access.specs.WriteStructs.{write_core, refused_write};
 ghost use Rattle.access.specs.ByPlace.{work_at};
 ghost use Rattle.access.specs.Concludes.{ConcludesAny};
 
 use crate::store::PlaceWrite;
-use calls::settle_at;
+use calls::answers::CallCore;
+use calls::{answers, settle_at};
 use device::Core;
-use model::{Refusal, Report, Write};
+use model::Write;
 use registers::places;
 use registers::places::Place;
-use replies::notices::Notices;
 use replies::refusals::Verdict;
-use replies::report;
 
-#[repr(C)]
-#[derive(Clone, Copy)]
-pub struct WriteCore {
-    pub core: Core,
-    pub reply: Write,
-    pub report: Report,
-}
-
-fn answer(core: Core, reply: Write, passes: u64, overflows: u64, notices: Notices) -> WriteCore
-    ensures { result ≡ write_core core reply passes overflows notices }
-{
-    let control = core.control;
-    let wake = control.wake;
-    let report = report::report(control.level, wake, overflows, passes, notices);
-    WriteCore {
-        core,
-        reply,
-        report,
-    }
-}
-
-fn refuse(core: Core, refusal: Refusal) -> WriteCore
-    ensures { result ≡ refused_write core refusal }
-{
-    let report = report::no_report();
-    WriteCore {
-        core,
-        reply: Err(refusal),
-        report,
-    }
-}
+pub type WriteCore = CallCore<Write>;
 
 fn low_byte(value: u32) -> u8
     ensures { result ≡ value % 256 }
@@ -76,7 +44,7 @@ fn conclude<'a>(
     let reply = put.reply;
     let notices = put.notices;
     let core = calls::conclude::conclude(put.core, gone_at, run_at);
-    answer(core, reply, passes, overflows, notices)
+    answers::answer(core, reply, passes, overflows, notices)
 }
 
 // FIFO sends a byte, and any other place takes the word.
@@ -140,7 +108,7 @@ pub fn write<'a>(
     let control = core.control;
     let tests = crate::send::tests_at(fifo, cycle, control.last, core.tx.count, core.flight.count);
     match tests {
-        Err(refusal) => refuse(core, refusal),
+        Err(refusal) => answers::refuse(core, refusal),
         Ok(()) => carry_out(
             core,
             gone_at,

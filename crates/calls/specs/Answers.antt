@@ -1,6 +1,6 @@
 -- The contract of a call over parts: complete reply, report and next state are the definition's, within the limits again; and on
 -- a refusal the core and its slots are those that came in. Assumes nothing.
-use Rattle.std.specs.Prelude.{◌≡◌, refl, Ok, Err}
+use Rattle.std.specs.Prelude.{◌≡◌, refl, Result, Ok, Err}
 use Rattle.std.proofs.Math.Path.{sym, ap, ap₂, subst}
 use Rattle.std.proofs.Common.{◌∙◌, arith, leb-false}
 use Rattle.std.proofs.Math.Option.{Option, none, some}
@@ -30,7 +30,7 @@ use Rattle.device.specs.Holds.{Arrays, abs, Shape, Valid}
 use Rattle.device.specs.Settles.{Settles}
 use Rattle.device.specs.Arms.{Arms}
 use Rattle.device.specs.declared.Core.{Core}
-use Rattle.calls.specs.declared.answers.DoneCore.{DoneCore}
+use Rattle.calls.specs.declared.answers.CallCore.{CallCore}
 
 -- `view` gives the reply of the function from the definition's, and `number` document 01's number of it
 module _ {X R : Type 0} (view : X → R) (number : X → ℕ) (o : Outcome X ℕ ℕ) (c : Core) (a : Arrays) (c' : Core) (a' : Arrays) where
@@ -165,8 +165,13 @@ in-time cycle last rest e =
 
 -- ---- the structs
 
-abbrev pub done_core : Core → ℕ → ℕ → DoneCore
-done_core c passes overflows = record { core = c; reply = Ok tt; report = report_of c passes overflows (noted []) }
+-- carried out: level and wake of the report are the core's
+abbrev pub answer_core : {R : Type 0} → Core → R → ℕ → ℕ → Notices → CallCore R
+answer_core c reply passes overflows m = record { core = c; reply = reply; report = report_of c passes overflows m }
 
-abbrev pub refused_core : Core → Refusal → DoneCore
+abbrev pub done_core : Core → ℕ → ℕ → CallCore Done
+done_core c passes overflows = answer_core c (Ok tt) passes overflows (noted [])
+
+-- a refusal has the fixed report
+abbrev pub refused_core : {T : Type 0} → Core → Refusal → CallCore (Result T Refusal)
 refused_core c q = record { core = c; reply = Err q; report = no_report }

@@ -22,7 +22,7 @@ use Rattle.device.specs.Arms.{ArmsAny}
 use Rattle.device.specs.declared.Core.{Core}
 use Rattle.calls.specs.Answers.{dated_call, dated_work, DoneWith, Works, report_of, carried, turned-away, unsettled-works, done-armed}
 use Rattle.calls.specs.Answers.{done_core, refused_core}
-use Rattle.calls.specs.declared.answers.DoneCore.{DoneCore}
+use Rattle.calls.specs.declared.answers.CallCore.{CallCore}
 
 module _ (cycle : ℕ) (plan : State.Uart ℕ ℕ → Plan Done ℕ ℕ) {tests : Option Refusal} {c : Core} {a : Arrays} (ok : Valid c a)
     (e : dated_call cycle plan (abs c a) ≡ unless tests Err (Calls.carried (some cycle) (plan (abs c a))) (abs c a)) where
@@ -31,14 +31,14 @@ module _ (cycle : ℕ) (plan : State.Uart ℕ ℕ → Plan Done ℕ ℕ) {tests 
       → Works (λ x. x) (dated_work cycle plan (abs c a)) c' a' reply report → DoneWith (dated_call cycle plan) c a c' a' reply report
   done-carried t w z k = carried (λ x. x) done_number Err _ c a e t w z k
 
-  pub done_refused : {q : Refusal} {r : DoneCore} → tests ≡ some q → r ≡ refused_core c q
+  pub done_refused : {q : Refusal} {r : CallCore Done} → tests ≡ some q → r ≡ refused_core c q
       → DoneWith (dated_call cycle plan) c a r.core a r.reply r.report
   done_refused t same =
-      subst (λ (x : DoneCore). DoneWith (dated_call cycle plan) c a x.core a x.reply x.report) (sym same)
+      subst (λ (x : CallCore Done). DoneWith (dated_call cycle plan) c a x.core a x.reply x.report) (sym same)
       (turned-away (λ x. x) done_number Err _ c a e t ok)
 
   -- without settling
-  pub done-unsettled : (change : State.Uart ℕ ℕ → State.Uart ℕ ℕ) {c' : Core} {r : DoneCore} → plan (abs c a) ≡ doing none [] change
+  pub done-unsettled : (change : State.Uart ℕ ℕ → State.Uart ℕ ℕ) {c' : Core} {r : CallCore Done} → plan (abs c a) ≡ doing none [] change
       → tests ≡ none → Within (dated_call cycle plan (abs c a)).state → Shape c' a → abs c' a ≡ change (dated cycle (abs c a))
       → r ≡ done_core c' 0 0 → DoneWith (dated_call cycle plan) c a r.core a r.reply r.report
   unfolding Calls.carried after_settling quiet done_number
@@ -48,15 +48,15 @@ module _ (cycle : ℕ) (plan : State.Uart ℕ ℕ → Plan Done ℕ ℕ) {tests 
       let works : Works (λ x. x) (dated_work cycle plan (abs c a)) c' a (Ok tt) (report_of c' 0 0 (noted [])) =
       subst (λ (x : Plan Done ℕ ℕ). Works (λ w. w) (Calls.carried (some cycle) x (abs c a)) c' a (Ok tt) (report_of c' 0 0 (noted [])))
       (sym p) (unsettled-works (λ x. x) change k same) in
-      subst (λ (x : DoneCore). DoneWith (dated_call cycle plan) c a x.core a x.reply x.report) (sym answer)
+      subst (λ (x : CallCore Done). DoneWith (dated_call cycle plan) c a x.core a x.reply x.report) (sym answer)
       (done-carried t w zero works)
 
 -- settled and armed
-pub armed-done : {t : Settle.Settled ℕ ℕ} {c₁ : Core} {a₁ : Arrays} {n o : ℕ} {c₂ : Core} {r : DoneCore} → Settles t c₁ a₁ n o
+pub armed-done : {t : Settle.Settled ℕ ℕ} {c₁ : Core} {a₁ : Arrays} {n o : ℕ} {c₂ : Core} {r : CallCore Done} → Settles t c₁ a₁ n o
     → ArmsAny c₁ a₁.gone_at a₁.run_at c₂
     → r ≡ done_core c₂ n o → Works (λ x. x) (after_settling t (λ s. quiet (Ok tt) (arm s))) r.core a₁ r.reply r.report
 armed-done {t} {a₁ = a₁} s arms same =
-    subst (λ (x : DoneCore). Works (λ w. w) (after_settling t (λ s. quiet (Ok tt) (arm s))) x.core a₁ x.reply x.report) (sym same)
+    subst (λ (x : CallCore Done). Works (λ w. w) (after_settling t (λ s. quiet (Ok tt) (arm s))) x.core a₁ x.reply x.report) (sym same)
     (done-armed s (arms a₁ refl refl s.ok.shape))
 
 -- ---- the number of a call that is carried out is 0

@@ -15,7 +15,8 @@ use Rattle.device.specs.Arms.{Ready}
 use Rattle.device.specs.declared.Core.{Core}
 use Rattle.calls.specs.Answers.{dated_work, Works, after, done_core}
 use Rattle.calls.specs.Changes.{with_control_of, cleared_core, cleared-abs, cleared-shape, put-down-ok, ready}
-use Rattle.calls.specs.declared.answers.DoneCore.{DoneCore}
+use Rattle.model.specs.Names.{Done}
+use Rattle.calls.specs.declared.answers.CallCore.{CallCore}
 use Rattle.calls.specs.Concludes.{ConcludesAny}
 
 -- what arming asks, of the cleared core
@@ -30,7 +31,7 @@ module _ (cycle : ℕ) {c : Core} {a : Arrays} (ok : Valid c a) {from : Core}
   pub from-ok : Valid from a
   from-ok = subst (λ (x : Core). Valid x a) (sym up) (put-down-ok cycle c a ok None)
 
-  pub restarted : {c₁ : Core} {a₁ : Arrays} {n o : ℕ} {c₂ c₃ : Core} {r : DoneCore} → Settles (settle_at cycle (abs from a)) c₁ a₁ n o
+  pub restarted : {c₁ : Core} {a₁ : Arrays} {n o : ℕ} {c₂ c₃ : Core} {r : CallCore Done} → Settles (settle_at cycle (abs from a)) c₁ a₁ n o
       → c₂ ≡ cleared_core c₁
       → ConcludesAny c₂ a₁.gone_at a₁.run_at c₃ → r ≡ done_core c₃ n o
       → Works (λ x. x) (dated_work cycle (machine cycle Machine.reset) (abs c a)) r.core a₁ r.reply r.report
@@ -39,7 +40,7 @@ module _ (cycle : ℕ) {c : Core} {a : Arrays} (ok : Valid c a) {from : Core}
       let settled = subst (λ (x : Core). Settles (settle_at cycle (abs x a)) c₁ a₁ n o) up s in
       let k =
       subst (λ (x : Core). ConcludesAny x a₁.gone_at a₁.run_at c₃) ec concludes a₁ refl refl (cleared-shape c₁ a₁ s.ok.shape) in
-      subst (λ (x : DoneCore). Works (λ w. w) (dated_work cycle (machine cycle Machine.reset) (abs c a)) x.core a₁ x.reply x.report)
+      subst (λ (x : CallCore Done). Works (λ w. w) (dated_work cycle (machine cycle Machine.reset) (abs c a)) x.core a₁ x.reply x.report)
       (sym same)
       (after (λ x. x) settled _
       (record {

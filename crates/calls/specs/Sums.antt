@@ -15,7 +15,8 @@ use Rattle.model.proofs.Keeps.Dated.{moved-parts}
 use Rattle.calls.specs.Answers.{dated_work, Works, done_core}
 use Rattle.calls.specs.Changes.{clocked_core, clocked-ok}
 use Rattle.calls.specs.Done.{armed-done}
-use Rattle.calls.specs.declared.answers.DoneCore.{DoneCore}
+use Rattle.model.specs.Names.{Done}
+use Rattle.calls.specs.declared.answers.CallCore.{CallCore}
 use Rattle.model.specs.Events.{passes_in, overflows_in}
 use Rattle.model.proofs.Laws.Events.{passes_append, overflows-append, overflows-low}
 use Rattle.model.proofs.Ends.NothingDue.{settle-passes}
@@ -94,7 +95,7 @@ module _ (now period : ℕ) (low : period ≤ period_limit) {c₁ : Core} {a₁ 
       let two = few now (abs from a₁) from-ok.within second in
       (omega (arith, one.0, two.0), omega (arith, one.1, two.1))
 
-  pub reclocks : {c : Core} {a : Arrays} {n₁ o₁ : ℕ} {c₂ : Core} {a₂ : Arrays} {n₂ o₂ : ℕ} {c₃ : Core} {r : DoneCore} → Valid c a
+  pub reclocks : {c : Core} {a : Arrays} {n₁ o₁ : ℕ} {c₂ : Core} {a₂ : Arrays} {n₂ o₂ : ℕ} {c₃ : Core} {r : CallCore Done} → Valid c a
       → Settles (settle_at now (abs c a)) c₁ a₁ n₁ o₁ → Settles (settle now (abs from a₁)) c₂ a₂ n₂ o₂
       → ArmsAny c₂ a₂.gone_at a₂.run_at c₃
       → r ≡ done_core c₃ (n₁ + n₂) (o₁ + o₂)

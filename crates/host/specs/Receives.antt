@@ -28,7 +28,8 @@ use Rattle.device.specs.Holds.{Arrays, run_in, runs_of, abs, Valid}
 use Rattle.device.specs.Settles.{Settles}
 use Rattle.device.specs.declared.Core.{Core}
 use Rattle.calls.specs.Answers.{dated_call, dated_work, Works, after, in-time, done_core}
-use Rattle.calls.specs.declared.answers.DoneCore.{DoneCore}
+use Rattle.model.specs.Names.{Done}
+use Rattle.calls.specs.declared.answers.CallCore.{CallCore}
 use Rattle.device.specs.Joins.{RoomFor, last_some}
 use Rattle.host.specs.Hands.{waiting_arrays, Takes, HandsAny}
 
@@ -113,7 +114,7 @@ takes cycle date bs {c} {a} room {c₁} {a₁} s e =
 
 -- settled, and handed over
 pub received : (cycle at : ℕ) (bs : List ℕ) {c : Core} {a : Arrays} → Valid c a
-    → {c₁ : Core} {a₁ : Arrays} {n o d : ℕ} {c₂ : Core} {hosts' dates' counts' : List ℕ} {r : DoneCore}
+    → {c₁ : Core} {a₁ : Arrays} {n o d : ℕ} {c₂ : Core} {hosts' dates' counts' : List ℕ} {r : CallCore Done}
     → Settles (settle_at cycle (abs c a)) c₁ a₁ n o → d ≡ host_date cycle at
     → HandsAny d bs c₁ a₁.gone_at a₁.host a₁.run_at a₁.run_len c₂ hosts' dates' counts' → r ≡ done_core c₂ n o
     → Works (λ x. x) (dated_work cycle (Calls.receive cycle at bs) (abs c a)) r.core (waiting_arrays a₁ hosts' dates' counts') r.reply
@@ -121,7 +122,7 @@ pub received : (cycle at : ℕ) (bs : List ℕ) {c : Core} {a : Arrays} → Vali
 unfolding carried Calls.receive quiet
 received cycle at bs {c} {a} _ {c₁} {a₁} {c₂ = c₂} {hosts'} {dates'} {counts'} s e hands same =
     let k = hands a₁ refl refl refl refl s.ok.shape in
-    subst (λ (x : DoneCore). Works (λ w. w) (dated_work cycle (Calls.receive cycle at bs) (abs c a)) x.core
+    subst (λ (x : CallCore Done). Works (λ w. w) (dated_work cycle (Calls.receive cycle at bs) (abs c a)) x.core
     (waiting_arrays a₁ hosts' dates' counts') x.reply x.report) (sym same)
     (after (λ x. x) s _
     (record { shape = k.shape; replies = refl; notes = refl; state = k.same ∙ ap (λ (x : ℕ). hand_over x bs (abs c₁ a₁)) e }))

@@ -17,8 +17,8 @@ use Rattle.queue.specs.Laws.{empty-held}
 use Rattle.queue.specs.declared.Cursor.{Cursor}
 use Rattle.device.specs.Holds.{Arrays, abs, Shape, Valid}
 use Rattle.device.specs.declared.Core.{Core}
-use Rattle.calls.specs.Answers.{Answers, Works, report_of, carried, turned-away}
-use Rattle.host.specs.declared.answers.TakeCore.{TakeCore}
+use Rattle.calls.specs.Answers.{Answers, Works, answer_core, refused_core, carried, turned-away}
+use Rattle.calls.specs.declared.answers.CallCore.{CallCore}
 
 -- the number of a reply
 abbrev pub take_number : Take ℕ ℕ → ℕ
@@ -52,14 +52,11 @@ emptied-shape c a flight f k = let tx = empty-held 1152 (omega arith) in search
 
 -- ---- the structs
 
-abbrev pub taken_core : Core → ℕ → ℕ → ℕ → TakeCore
-taken_core c n passes overflows = record { core = c; reply = Ok n; report = report_of c passes overflows (noted []) }
+abbrev pub taken_core : Core → ℕ → ℕ → ℕ → CallCore Taken
+taken_core c n passes overflows = answer_core c (Ok n) passes overflows (noted [])
 
-abbrev pub undated_core : Core → ℕ → TakeCore
+abbrev pub undated_core : Core → ℕ → CallCore Taken
 undated_core c n = record { core = c; reply = Ok n; report = no_report }
-
-abbrev pub refused_take : Core → Refusal → TakeCore
-refused_take c q = record { core = c; reply = Err q; report = no_report }
 
 -- ---- refused, or carried out
 
@@ -78,13 +75,13 @@ module _ {call : Outcome (Take ℕ ℕ) ℕ ℕ} {tests : Option Refusal} (lent 
       )
 
   -- a test refuses, and the buffer keeps every byte
-  pub take-refused : {q : Refusal} {r : TakeCore} → tests ≡ some q → Valid c a → r ≡ refused_take c q
+  pub take-refused : {q : Refusal} {r : CallCore Taken} → tests ≡ some q → Valid c a → r ≡ refused_core c q
       → Answers (λ t. t.taken) take_number call c a r.core a r.reply r.report × (lent ≡ contents call.reply)
   unfolding unless refusing not_taken contents
   take-refused {q} t ok same =
       let done : call ≡ refusing (not_taken lent q) (abs c a) =
       e ∙ ap (λ (x : Option Refusal). unless x (not_taken lent) work (abs c a)) t in (
-        subst (λ (x : TakeCore). Answers (λ t. t.taken) take_number call c a x.core a x.reply x.report) (sym same)
+        subst (λ (x : CallCore Taken). Answers (λ t. t.taken) take_number call c a x.core a x.reply x.report) (sym same)
             (turned-away (λ t. t.taken) take_number (not_taken lent) work c a e t ok),
         sym (ap (λ (x : Outcome (Take ℕ ℕ) ℕ ℕ). contents x.reply) done),
       )

@@ -16,7 +16,8 @@ use Rattle.device.specs.Settles.{Settles}
 use Rattle.device.specs.declared.Core.{Core}
 use Rattle.calls.specs.Answers.{dated_work, Works, report_of, after}
 use Rattle.host.specs.Takes.{TakeWorks, take_number, taken_core, emptied-shape}
-use Rattle.host.specs.declared.answers.TakeCore.{TakeCore}
+use Rattle.calls.specs.declared.answers.CallCore.{CallCore}
+use Rattle.model.specs.Names.{Taken}
 
 -- a core with another cursor for the bytes that left
 abbrev pub with_tx_of : Cursor → Core → Core
@@ -60,13 +61,13 @@ took-tx lent {t} {c} {a} {n} {o} {k} {out} s e whole =
 
 -- the same of what the function gives back
 pub tx-taken : (cycle : ℕ) (lent : List ℕ) {c₀ : Core} {a₀ : Arrays} → Valid c₀ a₀
-    → {c : Core} {a : Arrays} {n o k : ℕ} {out : List ℕ} {none : Cursor} {r : TakeCore}
+    → {c : Core} {a : Arrays} {n o k : ℕ} {out : List ℕ} {none : Cursor} {r : CallCore Taken}
     → Settles (settle_at cycle (abs c₀ a₀)) c a n o → k ≡ c.tx.count → out ≡ tx_of a.tx c.tx ++ drop c.tx.count lent
     → none ≡ empty → r ≡ taken_core (with_tx_of none c) k n o
     → TakeWorks (dated_work cycle (take_tx cycle lent) (abs c₀ a₀)) r.core a r.reply r.report out
 unfolding carried take_tx
 tx-taken cycle lent {c₀} {a₀} _ {c} {a} {n} {o} {k} {out} s e whole en same =
-    subst (λ (x : TakeCore). TakeWorks (dated_work cycle (take_tx cycle lent) (abs c₀ a₀)) x.core a x.reply x.report out)
+    subst (λ (x : CallCore Taken). TakeWorks (dated_work cycle (take_tx cycle lent) (abs c₀ a₀)) x.core a x.reply x.report out)
     (sym (same ∙ ap (λ (v : Cursor). taken_core (with_tx_of v c) k n o) en)) (took-tx lent s e whole)
 
 -- the number of a take that is carried out is 0

@@ -1,40 +1,29 @@
 // What take_tx and take_written give back beside the lent buffer.
 ghost use Rattle.std.specs.Prelude.{◌≡◌};
-ghost use Rattle.host.specs.Takes.{taken_core, undated_core, refused_take};
+ghost use Rattle.calls.specs.Answers.{refused_core};
+ghost use Rattle.host.specs.Takes.{taken_core, undated_core};
 
+use calls::answers;
+use calls::answers::CallCore;
 use device::Core;
-use model::{Refusal, Report, Taken};
-use replies::report;
+use model::{Refusal, Taken};
+use replies::{notices, report};
 
-#[repr(C)]
-#[derive(Clone, Copy)]
-pub struct TakeCore {
-    pub core: Core,
-    pub reply: Taken,
-    pub report: Report,
-}
+pub type TakeCore = CallCore<Taken>;
 
 // So many bytes stand at the front of the lent buffer, after a settling.
 pub fn done(core: Core, count: usize, passes: u64, overflows: u64) -> TakeCore
     ensures { result ≡ taken_core core count passes overflows }
 {
-    let control = core.control;
-    let wake = control.wake;
-    let none = replies::notices::none();
-    let report = report::report(control.level, wake, overflows, passes, none);
-    TakeCore {
-        core,
-        reply: Ok(count),
-        report,
-    }
+    answers::answer(core, Ok(count), passes, overflows, notices::none())
 }
 
-// The same of an undated call.
+// The same of an undated call, which has no report of its own.
 pub fn undated(core: Core, count: usize) -> TakeCore
     ensures { result ≡ undated_core core count }
 {
     let none = report::no_report();
-    TakeCore {
+    CallCore {
         core,
         reply: Ok(count),
         report: none,
@@ -42,12 +31,7 @@ pub fn undated(core: Core, count: usize) -> TakeCore
 }
 
 pub fn refuse(core: Core, refusal: Refusal) -> TakeCore
-    ensures { result ≡ refused_take core refusal }
+    ensures { result ≡ refused_core core refusal }
 {
-    let report = report::no_report();
-    TakeCore {
-        core,
-        reply: Err(refusal),
-        report,
-    }
+    answers::refuse(core, refusal)
 }

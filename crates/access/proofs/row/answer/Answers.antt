@@ -10,9 +10,9 @@ overflow_add-passes-2 c =
 pub returns : goal.returns
 returns c =
     rw (
-      c.report-report.ensures,
-      c.second_times-second.ensures,
-      c.first_times-first.ensures,
+      c.answer.ensures,
+      c.second_times.ensures,
+      c.first_times.ensures,
       c.notices_of-notices.ensures,
       c.unmodelled_source-source.ensures,
     )

@@ -1,5 +1,0 @@
--- `read::answer` meets its contract. Assumes nothing.
-use Rattle.access.proofs.read.answer.Goals as goal
-
-pub returns : goal.returns
-returns c = rw c.report-report.ensures

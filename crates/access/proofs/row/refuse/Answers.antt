@@ -1,5 +1,0 @@
--- `row::refuse` meets its contract. Assumes nothing.
-use Rattle.access.proofs.row.refuse.Goals as goal
-
-pub returns : goal.returns
-returns c = rw c.no_report-report.ensures

@@ -1,5 +1,0 @@
--- `answers::refuse` meets its contract. Assumes nothing.
-use Rattle.calls.proofs.answers.refuse.Goals as goal
-
-pub returns : goal.returns
-returns c = rw c.no_report-report.ensures
