@@ -1,6 +1,5 @@
 -- What is put out for a line of a trace, and what is carried to the next line. Assumes nothing.
-use Rattle.std.specs.Prelude.{ℕ, ◌+◌, Bool, true, false, List, [], ◌∷◌, ◌++◌, ltb, replicate, Ok, Err, Option}
-use Rattle.std.specs.Prelude.{Some, None, is_some, unwrap_or}
+use Rattle.std.specs.Prelude.{ℕ, ◌+◌, Bool, List, [], ◌∷◌, ◌++◌, ltb, replicate, Ok, Err, Option, Some, None, is_some, unwrap_or}
 use Rattle.text.specs.Pick.{pick}
 use Rattle.text.specs.Decimal.{decimal}
 use Rattle.trace.specs.Asks.{asks_of}
