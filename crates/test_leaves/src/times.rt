@@ -3,7 +3,7 @@ ghost use Rattle.std.specs.Prelude.{◌≤◌};
 ghost use Rattle.model.specs.Tests.{period_limit};
 
 use crate::show;
-use model::{Source, Words};
+use model::{Source, Unmodelled, Words};
 use std::io;
 
 // Document 01's bench settings.
