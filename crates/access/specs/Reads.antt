@@ -13,7 +13,8 @@ use Rattle.model.specs.Registers.{Access, source_notes, status_word, fsm_status,
 use Rattle.model.specs.Registers.{read_at}
 use Rattle.model.proofs.Ends.Passes.{apart}
 use Rattle.model.proofs.Laws.Choose.{choose-true, choose-false, choose-ind}
-use Rattle.model.specs.Names.{Read, Source}
+use Rattle.model.specs.Names.{Read}
+use Rattle.model.specs.declared.Source.{Source}
 use Rattle.model.specs.declared.Unsupported.{Unsupported}
 use Rattle.model.specs.declared.Unsupported.TheVariants.{UartEmptyRead, UartReceiveClock}
 use Rattle.queue.specs.Cursors
@@ -82,11 +83,11 @@ word-accesses r same ns c a k {reply} e =
 -- ---- a mistimed reception is told of once
 
 abbrev pub forgotten_core : Core → Core
-forgotten_core c = with_control_of (with_line (with_mistimed None c.control.line) c.control) c
+forgotten_core c = with_control_of (with_line (with_mistimed Source.None c.control.line) c.control) c
 
 -- what the firmware is told of, and the core once it has been
 abbrev pub told_of : Bool → Core → Source
-told_of looks c = choose looks c.control.line.rx_mistimed None
+told_of looks c = choose looks c.control.line.rx_mistimed Source.None
 
 abbrev pub seen_of : Bool → Core → Core
 seen_of looks c = choose looks (forgotten_core c) c

@@ -28,8 +28,8 @@ use Rattle.model.specs.declared.Made.{Made}
 use Rattle.model.specs.declared.Notice.{Notice}
 use Rattle.model.specs.declared.Refusal.{Refusal}
 use Rattle.model.specs.declared.Report.{Report}
-use Rattle.model.specs.Names.{Source, Write}
-use Rattle.model.specs.declared.Unmodelled.{Unmodelled}
+use Rattle.model.specs.Names.{Write}
+use Rattle.model.specs.declared.Source.{Source}
 use Rattle.model.specs.declared.Unsupported.{Unsupported}
 use Rattle.model.specs.declared.Unsupported.TheVariants.{UartOverflow, UartClock}
 use Rattle.replies.specs.Notices.{noted, added, added_if}
@@ -40,9 +40,9 @@ use Rattle.replies.specs.declared.notices.Notices.{Notices}
 
 unfoldable pub clock_counts : Source → ℕ → List Count
 clock_counts s zero = []
-clock_counts None (suc k) = []
-clock_counts (Some Unmodelled.Sel0) (suc k) = record { what = UartClock 0; times = suc k } ∷ []
-clock_counts (Some Unmodelled.Sel2) (suc k) = record { what = UartClock 2; times = suc k } ∷ []
+clock_counts Source.None (suc k) = []
+clock_counts Source.Sel0 (suc k) = record { what = UartClock 0; times = suc k } ∷ []
+clock_counts Source.Sel2 (suc k) = record { what = UartClock 2; times = suc k } ∷ []
 
 unfoldable pub overflow_counts : ℕ → List Count
 overflow_counts zero = []
@@ -54,23 +54,23 @@ counts_of s sent dropped = clock_counts s sent ++ overflow_counts dropped
 
 pub counts-sent : (s : Source) (k : ℕ) → counted_all (counts_of s k 0) (source_notes UartClock s) ≡ counts_of s (suc k) 0
 unfolding counted_all counted counts_of clock_counts overflow_counts source_notes choose notice_numbers
-counts-sent None zero = refl
-counts-sent None (suc k) = refl
-counts-sent (Some Unmodelled.Sel0) zero = refl
-counts-sent (Some Unmodelled.Sel0) (suc k) = refl
-counts-sent (Some Unmodelled.Sel2) zero = refl
-counts-sent (Some Unmodelled.Sel2) (suc k) = refl
+counts-sent Source.None zero = refl
+counts-sent Source.None (suc k) = refl
+counts-sent Source.Sel0 zero = refl
+counts-sent Source.Sel0 (suc k) = refl
+counts-sent Source.Sel2 zero = refl
+counts-sent Source.Sel2 (suc k) = refl
 
 pub counts-dropped : (s : Source) (k d : ℕ) → counted_all (counts_of s k d) (UartOverflow ∷ []) ≡ counts_of s k (suc d)
 unfolding counted_all counted counts_of clock_counts overflow_counts choose notice_numbers
 counts-dropped s zero zero = refl
 counts-dropped s zero (suc d) = refl
-counts-dropped None (suc k) zero = refl
-counts-dropped None (suc k) (suc d) = refl
-counts-dropped (Some Unmodelled.Sel0) (suc k) zero = refl
-counts-dropped (Some Unmodelled.Sel0) (suc k) (suc d) = refl
-counts-dropped (Some Unmodelled.Sel2) (suc k) zero = refl
-counts-dropped (Some Unmodelled.Sel2) (suc k) (suc d) = refl
+counts-dropped Source.None (suc k) zero = refl
+counts-dropped Source.None (suc k) (suc d) = refl
+counts-dropped Source.Sel0 (suc k) zero = refl
+counts-dropped Source.Sel0 (suc k) (suc d) = refl
+counts-dropped Source.Sel2 (suc k) zero = refl
+counts-dropped Source.Sel2 (suc k) (suc d) = refl
 
 pub counted_all-append : (cs : List Count) (ms ns : List Unsupported) → counted_all cs (ms ++ ns) ≡ counted_all (counted_all cs ms) ns
 unfolding counted_all
@@ -208,23 +208,23 @@ row_notices s sent dropped = noted (map (λ c. c.what) (counts_of s sent dropped
 
 -- the source that is told of
 abbrev pub told_of : Source → ℕ → Source
-told_of s sent = choose (ltb 0 sent) s None
+told_of s sent = choose (ltb 0 sent) s Source.None
 
 told-notes : (s : Source) (sent : ℕ) → source_notes UartClock (told_of s sent) ≡ map (λ c. c.what) (clock_counts s sent)
 unfolding source_notes clock_counts choose
 told-notes s zero = refl
-told-notes s (suc k) = ap (λ (b : Bool). source_notes UartClock (choose b s None)) (lt-ltb 0 (suc k) (omega arith)) ∙ by-source s
+told-notes s (suc k) = ap (λ (b : Bool). source_notes UartClock (choose b s Source.None)) (lt-ltb 0 (suc k) (omega arith)) ∙ by-source s
   where
     by-source : (s : Source) → source_notes UartClock s ≡ map (λ c. c.what) (clock_counts s (suc k))
-    by-source None = refl
-    by-source (Some Unmodelled.Sel0) = refl
-    by-source (Some Unmodelled.Sel2) = refl
+    by-source Source.None = refl
+    by-source Source.Sel0 = refl
+    by-source Source.Sel2 = refl
 
 few-notes : (s : Source) → length (source_notes UartClock s) ≤ 1
 unfolding source_notes
-few-notes None = omega arith
-few-notes (Some Unmodelled.Sel0) = omega arith
-few-notes (Some Unmodelled.Sel2) = omega arith
+few-notes Source.None = omega arith
+few-notes Source.Sel0 = omega arith
+few-notes Source.Sel2 = omega arith
 
 pub row-notices : (s : Source) (sent dropped : ℕ)
     → added_if (ltb 0 dropped) UartOverflow (noted (source_notes UartClock (told_of s sent))) ≡ row_notices s sent dropped
@@ -240,27 +240,27 @@ row-notices s sent (suc d) =
 
 -- ---- and how often each came
 
-pub times_none : (s : Source) (sent dropped : ℕ) → told_of s sent ≡ None
+pub times_none : (s : Source) (sent dropped : ℕ) → told_of s sent ≡ Source.None
     → (dropped ≡ times_of 0 (counts_of s sent dropped)) × (0 ≡ times_of 1 (counts_of s sent dropped))
 unfolding times_of counts_of clock_counts overflow_counts choose
 times_none s zero zero e = (refl, refl)
 times_none s zero (suc d) e = (refl, refl)
-times_none None (suc k) zero e = (refl, refl)
-times_none None (suc k) (suc d) e = (refl, refl)
-times_none (Some Unmodelled.Sel0) (suc k) d e =
-    apart (let f : (Some Unmodelled.Sel0) ≡ None = sym (choose-true (Some Unmodelled.Sel0) None (lt-ltb 0 (suc k) (omega arith))) ∙ e in cc)
-times_none (Some Unmodelled.Sel2) (suc k) d e =
-    apart (let f : (Some Unmodelled.Sel2) ≡ None = sym (choose-true (Some Unmodelled.Sel2) None (lt-ltb 0 (suc k) (omega arith))) ∙ e in cc)
+times_none Source.None (suc k) zero e = (refl, refl)
+times_none Source.None (suc k) (suc d) e = (refl, refl)
+times_none Source.Sel0 (suc k) d e =
+    apart (let f : Source.Sel0 ≡ Source.None = sym (choose-true Source.Sel0 Source.None (lt-ltb 0 (suc k) (omega arith))) ∙ e in cc)
+times_none Source.Sel2 (suc k) d e =
+    apart (let f : Source.Sel2 ≡ Source.None = sym (choose-true Source.Sel2 Source.None (lt-ltb 0 (suc k) (omega arith))) ∙ e in cc)
 
-pub times-some : (s t : Source) (sent dropped : ℕ) → told_of s sent ≡ t → ¬ (t ≡ None)
+pub times-some : (s t : Source) (sent dropped : ℕ) → told_of s sent ≡ t → ¬ (t ≡ Source.None)
     → (sent ≡ times_of 0 (counts_of s sent dropped)) × (dropped ≡ times_of 1 (counts_of s sent dropped))
 unfolding times_of counts_of clock_counts overflow_counts choose
 times-some s t zero d e n = absurd (n (sym e))
-times-some None t (suc k) d e n = absurd (n (sym e ∙ both))
+times-some Source.None t (suc k) d e n = absurd (n (sym e ∙ both))
   where
-    both : told_of None (suc k) ≡ None
-    both = choose-true None None (lt-ltb 0 (suc k) (omega arith))
-times-some (Some Unmodelled.Sel0) t (suc k) zero e n = (refl, refl)
-times-some (Some Unmodelled.Sel0) t (suc k) (suc d) e n = (refl, refl)
-times-some (Some Unmodelled.Sel2) t (suc k) zero e n = (refl, refl)
-times-some (Some Unmodelled.Sel2) t (suc k) (suc d) e n = (refl, refl)
+    both : told_of Source.None (suc k) ≡ Source.None
+    both = choose-true Source.None Source.None (lt-ltb 0 (suc k) (omega arith))
+times-some Source.Sel0 t (suc k) zero e n = (refl, refl)
+times-some Source.Sel0 t (suc k) (suc d) e n = (refl, refl)
+times-some Source.Sel2 t (suc k) zero e n = (refl, refl)
+times-some Source.Sel2 t (suc k) (suc d) e n = (refl, refl)

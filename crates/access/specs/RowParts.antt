@@ -13,7 +13,8 @@ use Rattle.model.specs.Limits.{Within}
 use Rattle.model.specs.Row.{times_of, writes, summed, row_limit}
 use Rattle.model.specs.Calls.{Outcome}
 use Rattle.theorems.specs.Rows.Still.{Still}
-use Rattle.model.specs.Names.{Row, Source}
+use Rattle.model.specs.Names.{Row}
+use Rattle.model.specs.declared.Source.{Source}
 use Rattle.queue.specs.Cursors.{slot_of}
 use Rattle.queue.specs.Laws.{elems-length}
 use Rattle.device.specs.Holds.{Arrays, flight_of, abs, Shape, Valid}

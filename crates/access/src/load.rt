@@ -4,7 +4,7 @@ ghost use Rattle.model.specs.Setters.{with_mistimed};
 ghost use Rattle.model.specs.Numbers.{choose};
 ghost use Rattle.model.specs.Replies.{as_read};
 ghost use Rattle.model.specs.Registers.{read_at};
-ghost use Rattle.model.specs.Names.{Source};
+ghost use Rattle.model.specs.declared.Source.{Source};
 ghost use Rattle.registers.specs.Places.{register_at};
 ghost use Rattle.queue.specs.Cursors.{Held};
 ghost use Rattle.device.specs.Holds.{Arrays, abs, Shape};
@@ -44,7 +44,7 @@ fn forget_mistimed(mut core: Core, looks: bool) -> Core
 {
     if looks {
         let mut control = core.control;
-        let line = with_mistimed(control.line, None);
+        let line = with_mistimed(control.line, Source::None);
         control.line = line;
         core.control = control;
         core
@@ -55,9 +55,9 @@ fn forget_mistimed(mut core: Core, looks: bool) -> Core
 
 // What the firmware is told of: a mistimed reception where it looks at the receiver.
 fn mistimed_at(source: Source, looks: bool) -> Source
-    ensures { result ≡ choose looks source None }
+    ensures { result ≡ choose looks source Source.None }
 {
-    if looks { source } else { None }
+    if looks { source } else { Source::None }
 }
 
 // The word at a place other than FIFO.

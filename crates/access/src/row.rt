@@ -4,7 +4,7 @@ ghost use Rattle.std.specs.Prelude.{◌≡◌, List, ℕ, ◌+◌, ◌≤◌, lt
 ghost use Rattle.model.specs.Numbers.{choose};
 ghost use Rattle.model.specs.Tests.{transmit_full};
 ghost use Rattle.model.specs.Row.{times_of, row_number, row as Row·row};
-ghost use Rattle.model.specs.Names.{Source};
+ghost use Rattle.model.specs.declared.Source.{Source};
 ghost use Rattle.queue.specs.Cursors.{Held};
 ghost use Rattle.access.specs.Row.{counts_of, row_notices};
 ghost use Rattle.device.specs.Holds.{abs, Valid};
@@ -44,9 +44,9 @@ struct RowSoFar {
 
 // The clock's source is told of where a byte was sent.
 fn told(source: Source, sent: usize) -> Source
-    ensures { result ≡ choose (ltb 0 sent) source None }
+    ensures { result ≡ choose (ltb 0 sent) source Source.None }
 {
-    if 0 < sent { source } else { None }
+    if 0 < sent { source } else { Source::None }
 }
 
 // The notices of a row: a clock's where a byte was sent, and UartOverflow where one was dropped.
@@ -63,8 +63,9 @@ fn first_times(source: Source, sent: usize, dropped: usize) -> u64
 {
     let told = told(source, sent);
     match told {
-        None => dropped as u64,
-        Some(_) => sent as u64,
+        Source::None => dropped as u64,
+        Source::Sel0 => sent as u64,
+        Source::Sel2 => sent as u64,
     }
 }
 
@@ -74,8 +75,9 @@ fn second_times(source: Source, sent: usize, dropped: usize) -> u64
 {
     let told = told(source, sent);
     match told {
-        None => 0,
-        Some(_) => dropped as u64,
+        Source::None => 0,
+        Source::Sel0 => dropped as u64,
+        Source::Sel2 => dropped as u64,
     }
 }
 

@@ -21,7 +21,7 @@ fn clear_line(line: Line) -> Line
 {
     Line {
         int_raw: 0,
-        rx_mistimed: None,
+        rx_mistimed: Source::None,
         idle_since: None,
         line_free_at: line.line_free_at,
     }

@@ -59,7 +59,7 @@ pub fn new_control(words: Words) -> Control
         words: words,
         line: Line {
             int_raw: marks::TXFIFO_EMPTY,
-            rx_mistimed: None,
+            rx_mistimed: Source::None,
             idle_since: None,
             line_free_at: 0,
         },

@@ -2,8 +2,8 @@
 use Rattle.std.specs.Prelude.{◌≡◌, refl, Some, None}
 use Rattle.std.proofs.Common.{ap, ◌∙◌}
 use Rattle.model.specs.Numbers.{choose}
-use Rattle.model.specs.Names.{Date, Source}
-use Rattle.model.specs.declared.Unmodelled.{Unmodelled}
+use Rattle.model.specs.Names.{Date}
+use Rattle.model.specs.declared.Source.{Source}
 use Rattle.line.specs.Names.{Receiving}
 use Rattle.device.specs.declared.Core.{Core}
 use Rattle.ffi.specs.declared.OnTheLine.{OnTheLine}
@@ -16,9 +16,9 @@ date-back (Some n) = refl
 
 source-back : (s : Source) → source_of (plain_source s) ≡ s
 unfolding source_of choose
-source-back None = refl
-source-back (Some Unmodelled.Sel0) = refl
-source-back (Some Unmodelled.Sel2) = refl
+source-back Source.None = refl
+source-back Source.Sel0 = refl
+source-back Source.Sel2 = refl
 
 receiving-back : (r : Receiving) → receiving_of (on_the_line r).on (on_the_line r).timed_on (on_the_line r).heard ≡ r
 unfolding receiving_of on_the_line choose

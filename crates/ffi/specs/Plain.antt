@@ -1,8 +1,8 @@
 -- What plain numbers stand for, and a core in plain numbers. Assumes nothing.
 use Rattle.std.specs.Prelude.{Bool, true, false, ℕ, eqb, Some, None}
 use Rattle.model.specs.Numbers.{choose}
-use Rattle.model.specs.Names.{Date, Source}
-use Rattle.model.specs.declared.Unmodelled.{Unmodelled}
+use Rattle.model.specs.Names.{Date}
+use Rattle.model.specs.declared.Source.{Source}
 use Rattle.model.specs.declared.Line.{Line}
 use Rattle.model.specs.declared.Control.{Control}
 use Rattle.line.specs.Names.{Receiving}
@@ -18,7 +18,7 @@ date_of d = choose d.set (Some d.at) None
 
 -- one more than an SCLK_SEL; 0, and any number that is no source's, for none
 unfoldable pub source_of : ℕ → Source
-source_of n = choose (eqb n 1) (Some Unmodelled.Sel0) (choose (eqb n 3) (Some Unmodelled.Sel2) None)
+source_of n = choose (eqb n 1) Source.Sel0 (choose (eqb n 3) Source.Sel2 Source.None)
 
 unfoldable pub receiving_of : Bool → ℕ → Bool → Receiving
 receiving_of on source heard =
@@ -64,9 +64,9 @@ plain_date None = record { set = false; at = 0 }
 plain_date (Some n) = record { set = true; at = n }
 
 abbrev pub plain_source : Source → ℕ
-plain_source None = 0
-plain_source (Some Unmodelled.Sel0) = 1
-plain_source (Some Unmodelled.Sel2) = 3
+plain_source Source.None = 0
+plain_source Source.Sel0 = 1
+plain_source Source.Sel2 = 3
 
 unfoldable pub on_the_line : Receiving → OnTheLine
 on_the_line None = record { on = false; timed_on = 0; heard = false }

@@ -12,7 +12,7 @@ ghost use Rattle.ffi.specs.Plain.{receiving_of, line_of, control_of, core_of, pl
 
 use device::Core;
 use line::Receiving;
-use model::{Control, Date, Frame, Line, RegisterMap, Source, Unmodelled, Words};
+use model::{Control, Date, Frame, Line, RegisterMap, Source, Words};
 use queue::Cursor;
 
 // A date, or none: `at` is 0 while `set` is false. C has no Option, so a flag stands beside it.
@@ -62,7 +62,7 @@ pub fn plain_date(date: Date) -> PlainDate
     ensures { result ≡ plain_date date }
 {
     match date {
-        None => PlainDate { set: false, at: 0 },
+        Source::None => PlainDate { set: false, at: 0 },
         Some(at) => PlainDate { set: true, at },
     }
 }
@@ -71,10 +71,10 @@ fn source_of(code: u32) -> Source
     ensures { result ≡ source_of code }
 {
     if code == 1 {
-        return Some(Unmodelled::Sel0);
+        return Source::Sel0;
     }
     if code == 3 {
-        return Some(Unmodelled::Sel2);
+        return Source::Sel2;
     }
     None
 }
@@ -83,9 +83,9 @@ fn plain_source(source: Source) -> u32
     ensures { result ≡ plain_source source }
 {
     match source {
-        None => 0,
-        Some(Unmodelled::Sel0) => 1,
-        Some(Unmodelled::Sel2) => 3,
+        Source::None => 0,
+        Source::Sel0 => 1,
+        Source::Sel2 => 3,
     }
 }
 

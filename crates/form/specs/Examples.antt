@@ -1,4 +1,5 @@
 -- Forms and bytes that are none, computed. Assumes nothing.
+use Rattle.model.specs.declared.Source.{Source}
 use Rattle.std.specs.Prelude.{◌≡◌, refl, ℕ, ◌*◌, ◌<◌, true, false, Some, None}
 use Rattle.std.proofs.Common.{arith}
 use Rattle.std.proofs.Math.Option.{some}
@@ -108,7 +109,7 @@ lunch = record {
   };
   control = record {
     words = lunch_words;
-    line = record { int_raw = 2; rx_mistimed = None; idle_since = None; line_free_at = 520 * 32 };
+    line = record { int_raw = 2; rx_mistimed = Source.None; idle_since = None; line_free_at = 520 * 32 };
     period = 8;
     last = 110;
     wake = Some 520;
@@ -120,7 +121,7 @@ lunch = record {
   tx = [];
   host = 0x66 ∷ [];
   host_runs = record { date = 100 * 32; count = 1 } ∷ [];
-  receiving = some (record { byte = 0x55; frame = record { timed_on = None; heard = true } });
+  receiving = some (record { byte = 0x55; frame = record { timed_on = Source.None; heard = true } });
   rx = [];
 }
 

@@ -8,8 +8,8 @@ use Rattle.model.specs.State.{Run, OnTheLine, Uart, line_of, line_bytes}
 use Rattle.model.specs.Limits.{flight_dates}
 use Rattle.model.specs.Calls.{written}
 use Rattle.form.specs.Cells.{Cell, Field, numbers}
-use Rattle.model.specs.Names.{Date, Source}
-use Rattle.model.specs.declared.Unmodelled.{Unmodelled}
+use Rattle.model.specs.Names.{Date}
+use Rattle.model.specs.declared.Source.{Source}
 use Rattle.model.specs.declared.Words.{Words}
 use Rattle.model.specs.declared.RegisterMap.{RegisterMap}
 
@@ -40,9 +40,9 @@ date_mark (Some d) = 1
 
 -- 0 for none, else one more than the SCLK_SEL
 abbrev pub source_number : Source → ℕ
-source_number None = 0
-source_number (Some Unmodelled.Sel0) = 1
-source_number (Some Unmodelled.Sel2) = 3
+source_number Source.None = 0
+source_number Source.Sel0 = 1
+source_number Source.Sel2 = 3
 
 -- the byte on the line: 0 for none, 1 where its start was not heard, 2 where it was
 abbrev pub frame_mark : {H : Type 0} → Option (OnTheLine H) → ℕ

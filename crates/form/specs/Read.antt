@@ -4,8 +4,8 @@ use Rattle.std.specs.Prelude.{ℕ, zero, suc, ◌+◌, ◌-◌, ◌*◌, ◌/◌
 use Rattle.std.proofs.Math.Option.{Option, none, some}
 use Rattle.model.specs.Numbers.{choose}
 use Rattle.model.specs.State.{Sent, Run, OnTheLine, Uart}
-use Rattle.model.specs.Names.{Date, Source}
-use Rattle.model.specs.declared.Unmodelled.{Unmodelled}
+use Rattle.model.specs.Names.{Date}
+use Rattle.model.specs.declared.Source.{Source}
 use Rattle.model.specs.declared.Words.{Words}
 use Rattle.model.specs.declared.RegisterMap.{RegisterMap}
 use Rattle.model.specs.declared.Control.{Control}
@@ -76,7 +76,7 @@ abbrev pub date_in : ℕ → ℕ → Date
 date_in mark d = choose (eqb mark 0) None (Some d)
 
 abbrev pub source_in : ℕ → Source
-source_in n = choose (eqb n 1) (Some Unmodelled.Sel0) (choose (eqb n 3) (Some Unmodelled.Sel2) None)
+source_in n = choose (eqb n 1) Source.Sel0 (choose (eqb n 3) Source.Sel2 Source.None)
 
 -- the widths of the dates and marks that are always there
 abbrev pub fixed_widths : List ℕ

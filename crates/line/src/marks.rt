@@ -5,7 +5,7 @@ ghost use Rattle.model.specs.Numbers.{choose};
 ghost use Rattle.model.specs.Setters.{with_int_raw, with_idle_since};
 ghost use Rattle.model.specs.Line.{latest as Line·latest, note_source};
 
-use model::{Date, Line, Source, Unmodelled};
+use model::{Date, Line, Source};
 
 // INT_RAW bit 0: more bytes received than RXFIFO_FULL_THRHD.
 pub const RXFIFO_FULL: u32 = 1 << 0;
@@ -38,7 +38,11 @@ pub fn raise_if(mut line: Line, test: bool, mask: u32) -> Line
 fn latest(source: Source, old: Source) -> Source
     ensures { result ≡ Line·latest source old }
 {
-    source.or(old)
+    match source {
+        Source::None => old,
+        Source::Sel0 => Source::Sel0,
+        Source::Sel2 => Source::Sel2,
+    }
 }
 
 // A reception was timed by a source: one that the model has no frequency for is kept until the firmware is told.

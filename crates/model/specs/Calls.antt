@@ -1,4 +1,5 @@
 -- Every call: its tests, its settlings, its work, its whole reply and the next state. Assumes nothing.
+use Rattle.model.specs.declared.Source.{Source}
 use Rattle.std.specs.Prelude.{ℕ, ◌+◌, ◌%◌, Bool, List, [], ◌∷◌, ◌++◌, map, leb, ltb, length, drop, Some, None, Ok, Err}
 use Rattle.std.proofs.Math.Option.{Option, none, some}
 use Rattle.dates.specs.Dates.{subcycles, later}
@@ -100,7 +101,7 @@ host_date now at = subcycles (later at now)
 
 -- INT_RAW 0, the idle line closed, a mistimed reception forgotten; when the line is free stays
 unfoldable pub cleared_line : Line → Line
-cleared_line l = with_int_raw 0 (with_idle_since None (with_mistimed None l))
+cleared_line l = with_int_raw 0 (with_idle_since None (with_mistimed Source.None l))
 
 -- a period of 0 counts as 1
 abbrev pub period_of : ℕ → ℕ

@@ -4,7 +4,8 @@ use Rattle.std.specs.Int.Bits.{bit_or}
 use Rattle.dates.specs.Dates.{after}
 use Rattle.model.specs.Numbers.{choose}
 use Rattle.model.specs.Setters.{with_int_raw, with_mistimed, with_idle_since, with_line_free_at}
-use Rattle.model.specs.Names.{Date, Source}
+use Rattle.model.specs.Names.{Date}
+use Rattle.model.specs.declared.Source.{Source}
 use Rattle.model.specs.declared.Line.{Line}
 use Rattle.model.specs.declared.Frame.{Frame}
 use Rattle.model.specs.declared.Settings.{Settings}
@@ -37,8 +38,9 @@ raise_if test n l = with_int_raw (choose test (bit_or l.int_raw (2 ^ n)) l.int_r
 
 -- the later source of a mistimed reception overwrites the one before
 abbrev pub latest : Source → Source → Source
-latest None old = old
-latest (Some new) old = Some new
+latest Source.None old = old
+latest Source.Sel0 old = Source.Sel0
+latest Source.Sel2 old = Source.Sel2
 
 unfoldable pub note_source : Source → Line → Line
 note_source s l = with_mistimed (latest s l.rx_mistimed) l

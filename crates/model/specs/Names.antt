@@ -1,15 +1,11 @@
--- The names of the types that are an Option or a Result: a date that may be missing, the source that timed something, what calls answer.
+-- The names of the types that are an Option or a Result: a date that may be missing, what calls answer.
 -- Assumes nothing.
 use Rattle.std.specs.Prelude.{ℕ, Bool, Option, Result}
-use Rattle.model.specs.declared.Unmodelled.{Unmodelled}
 use Rattle.model.specs.declared.Refusal.{Refusal}
 use Rattle.model.specs.declared.Made.{Made}
 
 abbrev pub Date : Type 0
 Date = Option ℕ
-
-abbrev pub Source : Type 0
-Source = Option Unmodelled
 
 abbrev pub SetUp : Type 0
 SetUp = Result Unit Refusal

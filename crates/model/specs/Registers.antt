@@ -11,8 +11,8 @@ use Rattle.model.specs.Settle.{in_fifo, int_status, levels}
 use Rattle.model.specs.Arm.{arm, last_gone}
 use Rattle.model.specs.Replies.{ReadOf, word, byte, no_value}
 use Rattle.model.specs.Map.{Word, Shown, Register, fifo, int_clr, unknown, shown, stored, same_word, same_register, value_of, replaced}
-use Rattle.model.specs.Names.{Date, Source, Write}
-use Rattle.model.specs.declared.Unmodelled.{Unmodelled}
+use Rattle.model.specs.Names.{Date, Write}
+use Rattle.model.specs.declared.Source.{Source}
 use Rattle.model.specs.declared.Feature.TheVariants.{Loopback, InvertedRx, Autobaud, NoStopBit, FifoSize, Rs485, TxFlowControl}
 use Rattle.model.specs.declared.Feature.TheVariants.{RxFlowControl, InvertedTx, Irda, TxBreak}
 use Rattle.model.specs.declared.Unsupported.{Unsupported}
@@ -26,9 +26,9 @@ note_if false n ns = ns
 
 -- a source without a frequency gives a notice with its SCLK_SEL
 unfoldable pub source_notes : (ℕ → Unsupported) → Source → List Unsupported
-source_notes notice None = []
-source_notes notice (Some Unmodelled.Sel0) = notice 0 ∷ []
-source_notes notice (Some Unmodelled.Sel2) = notice 2 ∷ []
+source_notes notice Source.None = []
+source_notes notice Source.Sel0 = notice 0 ∷ []
+source_notes notice Source.Sel2 = notice 2 ∷ []
 
 -- what an access gives beside the report of its settling
 pub record Access (R H W : Type 0) : Type 0 where
@@ -80,7 +80,7 @@ module _ {H W : Type 0} where
   -- a look at the receiver tells of a mistimed reception, once
   unfoldable pub read_looking : Bool → Register → Uart H W → Access (ReadOf H) H W
   read_looking true r u =
-      read_register (source_notes UartReceiveClock (line_of u).rx_mistimed) r (with_line_of (with_mistimed None (line_of u)) u)
+      read_register (source_notes UartReceiveClock (line_of u).rx_mistimed) r (with_line_of (with_mistimed Source.None (line_of u)) u)
   read_looking false r u = read_register [] r u
 
   unfoldable pub read_at : Register → Uart H W → Access (ReadOf H) H W

@@ -1,4 +1,5 @@
 -- Set-up: a new UART from sixteen offsets and sixteen reset words. Assumes nothing.
+use Rattle.model.specs.declared.Source.{Source}
 use Rattle.std.specs.Prelude.{ℕ, ◌^◌, false, List, [], get_or, None, Ok, Err}
 use Rattle.std.proofs.Math.Option.{Option, none, some}
 use Rattle.model.specs.Numbers.{choose, without}
@@ -35,7 +36,7 @@ map_of offsets ws =
 
 -- INT_RAW has TXFIFO_EMPTY set always
 abbrev pub new_line : Line
-new_line = record { int_raw = 2 ^ TXFIFO-EMPTY; rx_mistimed = None; idle_since = None; line_free_at = 0 }
+new_line = record { int_raw = 2 ^ TXFIFO-EMPTY; rx_mistimed = Source.None; idle_since = None; line_free_at = 0 }
 
 -- the APB clock's period at power-on, in cycles
 abbrev pub power_on : ℕ

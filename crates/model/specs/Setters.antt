@@ -2,7 +2,8 @@
 use Rattle.std.specs.Prelude.{ℕ, Bool, List}
 use Rattle.std.proofs.Math.Option.{Option}
 use Rattle.model.specs.State.{Sent, Run, OnTheLine, Uart}
-use Rattle.model.specs.Names.{Date, Source}
+use Rattle.model.specs.Names.{Date}
+use Rattle.model.specs.declared.Source.{Source}
 use Rattle.model.specs.declared.Words.{Words}
 use Rattle.model.specs.declared.RegisterMap.{RegisterMap}
 use Rattle.model.specs.declared.Line.{Line}

@@ -1,8 +1,7 @@
 -- Line timing: how long a frame, a bit and the receive timeout last, in subcycles. Assumes nothing.
 use Rattle.std.specs.Prelude.{ℕ, zero, suc, ◌+◌, ◌*◌, eqb, Some, None}
 use Rattle.model.specs.Numbers.{choose, field, bit}
-use Rattle.model.specs.Names.{Source}
-use Rattle.model.specs.declared.Unmodelled.{Unmodelled}
+use Rattle.model.specs.declared.Source.{Source}
 use Rattle.model.specs.declared.Words.{Words}
 use Rattle.model.specs.declared.Settings.{Settings}
 
@@ -31,10 +30,10 @@ source_period clk_conf period = choose (eqb (source_selection clk_conf) 1) perio
 
 -- sources 0 and 2 have no frequency here and give a notice
 unfoldable pub unmodelled : ℕ → Source
-unmodelled zero = Some Unmodelled.Sel0
-unmodelled (suc zero) = None
-unmodelled (suc (suc zero)) = Some Unmodelled.Sel2
-unmodelled (suc (suc (suc n))) = None
+unmodelled zero = Source.Sel0
+unmodelled (suc zero) = Source.None
+unmodelled (suc (suc zero)) = Source.Sel2
+unmodelled (suc (suc (suc n))) = Source.None
 
 unfoldable pub unmodelled_source : ℕ → Source
 unmodelled_source clk_conf = unmodelled (source_selection clk_conf)

@@ -6,15 +6,14 @@
 // A date, if there is one.
 pub type Date = Option<u64>;
 
-// An SCLK_SEL that the model has no frequency for: 0 or 2.
+// The SCLK_SEL that timed something though the model has no frequency for it: none, 0 or 2. No Option of an enum: by that, whose two cases
+// are two values, a byte in bulk takes 277 instructions, and the bar is 238.
 #[derive(Clone, Copy)]
-pub enum Unmodelled {
+pub enum Source {
+    None,
     Sel0,
     Sel2,
 }
-
-// The one that timed something, if one did.
-pub type Source = Option<Unmodelled>;
 
 // The nine stored words: uart.rs's CONFIG. CLKDIV and CLK_CONF set the baud rate; IDLE_CONF, RS485_CONF and AT_CMD_CHAR have no effect of
 // their own.

@@ -5,7 +5,7 @@ ghost use Rattle.form.specs.Form.{mark_of, date_mark, source_number, frame_mark,
 ghost use Rattle.device.specs.Holds.{on_the_line};
 
 use line::Receiving;
-use model::{Date, Source, Unmodelled};
+use model::{Date, Source};
 
 pub(crate) fn mark(yes: bool) -> u64
     ensures { result ≡ mark_of yes }
@@ -17,7 +17,7 @@ pub(crate) fn date_mark(date: Date) -> u64
     ensures { result ≡ date_mark date }
 {
     match date {
-        None => 0,
+        Source::None => 0,
         Some(_) => 1,
     }
 }
@@ -38,8 +38,8 @@ pub(crate) fn source_number(source: Source) -> u64
 {
     match source {
         None => 0,
-        Some(Unmodelled::Sel0) => 1,
-        Some(Unmodelled::Sel2) => 3,
+        Source::Sel0 => 1,
+        Source::Sel2 => 3,
     }
 }
 

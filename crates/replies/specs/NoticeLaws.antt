@@ -8,8 +8,7 @@ use Rattle.model.proofs.Laws.Choose.{choose-true}
 use Rattle.model.specs.Replies.{notices, notice_places, unused}
 use Rattle.model.specs.Registers.{note_if, source_notes}
 use Rattle.model.specs.declared.Notice.{Notice}
-use Rattle.model.specs.Names.{Source}
-use Rattle.model.specs.declared.Unmodelled.{Unmodelled}
+use Rattle.model.specs.declared.Source.{Source}
 use Rattle.model.specs.declared.Unsupported.{Unsupported}
 use Rattle.model.specs.declared.Unsupported.TheVariants.{UartEmptyRead, UartReceiveClock}
 use Rattle.replies.specs.Notices.{noted, added, added_if}
@@ -86,9 +85,9 @@ filled-noted (m ∷ ms) ns h =
 
 source-short : (notice : ℕ → Unsupported) (s : Source) → length (source_notes notice s) < notice_places
 unfolding source_notes
-source-short notice None = omega arith
-source-short notice (Some Unmodelled.Sel0) = omega arith
-source-short notice (Some Unmodelled.Sel2) = omega arith
+source-short notice Source.None = omega arith
+source-short notice Source.Sel0 = omega arith
+source-short notice Source.Sel2 = omega arith
 
 -- a read of an empty FIFO: what is told of a mistimed reception, then the empty read
 pub empty-read-noted : (s : Source) → added UartEmptyRead (noted (source_notes UartReceiveClock s))

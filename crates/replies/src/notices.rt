@@ -5,7 +5,7 @@ ghost use Rattle.std.specs.Prelude.{◌≡◌, ℕ, [], ◌∷◌};
 ghost use Rattle.model.specs.Registers.{source_notes};
 ghost use Rattle.replies.specs.Notices.{added, added_if, noted};
 
-use model::{Notice, Source, Unmodelled, Unsupported};
+use model::{Notice, Source, Unsupported};
 
 // The first `count` of these are notes of the call.
 #[derive(Clone, Copy)]
@@ -78,11 +78,9 @@ fn source_notices(source: Source, sel0: Unsupported, sel2: Unsupported) -> Notic
     ensures { (notice : ℕ → Unsupported) → sel0 ≡ notice 0 → sel2 ≡ notice 2 → result ≡ noted (source_notes notice source) }
 {
     match source {
-        None => none(),
-        Some(from) => match from {
-            Unmodelled::Sel0 => one(sel0),
-            Unmodelled::Sel2 => one(sel2),
-        },
+        Source::None => none(),
+        Source::Sel0 => one(sel0),
+        Source::Sel2 => one(sel2),
     }
 }
 

@@ -3,7 +3,7 @@ ghost use Rattle.std.specs.Prelude.{◌≤◌};
 ghost use Rattle.model.specs.Tests.{period_limit};
 
 use crate::show;
-use model::{Source, Unmodelled, Words};
+use model::{Source, Words};
 use std::io;
 
 // Document 01's bench settings.
@@ -39,9 +39,9 @@ fn half_bits(rt: &HostRuntime, conf0: u32) -> io::Result<()> {
 
 fn source_name(rt: &HostRuntime, s: Source) -> io::Result<()> {
     match s {
-        None => show::text(rt, b" -"),
-        Some(Unmodelled::Sel0) => show::text(rt, b" 0"),
-        Some(Unmodelled::Sel2) => show::text(rt, b" 2"),
+        Source::None => show::text(rt, b" -"),
+        Source::Sel0 => show::text(rt, b" 0"),
+        Source::Sel2 => show::text(rt, b" 2"),
     }
 }
 

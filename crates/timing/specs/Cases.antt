@@ -1,4 +1,5 @@
 -- The cases of stop codes and of source selections, as the code tells them apart. Assumes nothing.
+use Rattle.model.specs.declared.Source.{Source}
 use Rattle.std.specs.Prelude.{◌≡◌, refl, ℕ, zero, suc, ◌<◌, ◌≤◌, None}
 use Rattle.std.proofs.Common.{arith}
 use Rattle.model.specs.Timing.{stop_half_bits, unmodelled}
@@ -16,7 +17,7 @@ stop-two (suc zero) h = absurd (omega arith)
 stop-two (suc (suc zero)) h = absurd (omega arith)
 stop-two (suc (suc (suc n))) h = refl
 
-pub modelled : (sel : ℕ) → 3 ≤ sel → unmodelled sel ≡ None
+pub modelled : (sel : ℕ) → 3 ≤ sel → unmodelled sel ≡ Source.None
 unfolding unmodelled
 modelled zero h = absurd (omega arith)
 modelled (suc zero) h = absurd (omega arith)

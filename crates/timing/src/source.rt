@@ -4,7 +4,7 @@ ghost use Rattle.std.specs.Prelude.{◌≡◌};
 ghost use Rattle.model.specs.Timing.{source_period, unmodelled_source};
 
 use crate::clock::Clock;
-use model::{Source, Unmodelled};
+use model::Source;
 
 // Source 1 is APB; every other uses the crystal.
 pub fn source_period(clk_conf: u32, period: u64) -> u64
@@ -23,9 +23,9 @@ pub fn unmodelled_source(clk_conf: u32) -> Source
 {
     let sel = registers::fields::sclk_sel(clk_conf);
     match sel {
-        0 => Some(Unmodelled::Sel0),
-        1 => None,
-        2 => Some(Unmodelled::Sel2),
-        _ => None,
+        0 => Source::Sel0,
+        1 => Source::None,
+        2 => Source::Sel2,
+        _ => Source::None,
     }
 }

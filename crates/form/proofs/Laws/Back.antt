@@ -26,8 +26,8 @@ use Rattle.form.proofs.Laws.Numbers.{Holds, value-back, numbers-back, widths, va
 use Rattle.form.proofs.Laws.Numbers.{one-width-back}
 use Rattle.form.proofs.Laws.Parts.{laid_bytes, parts-read, parts-lie, numbers-bytes, host-bytes, written-bytes, laid-bytes}
 use Rattle.form.proofs.Laws.Lengths.{dates-long, runs-long, form-largest}
-use Rattle.model.specs.Names.{Date, Source}
-use Rattle.model.specs.declared.Unmodelled.{Unmodelled}
+use Rattle.model.specs.Names.{Date}
+use Rattle.model.specs.declared.Source.{Source}
 use Rattle.model.specs.declared.Words.{Words}
 use Rattle.model.specs.declared.RegisterMap.{RegisterMap}
 
@@ -75,9 +75,9 @@ date-back (Some d) = refl
 
 source-back : (s : Source) → source_in (source_number s) ≡ s
 unfolding choose
-source-back None = refl
-source-back (Some Unmodelled.Sel0) = refl
-source-back (Some Unmodelled.Sel2) = refl
+source-back Source.None = refl
+source-back Source.Sel0 = refl
+source-back Source.Sel2 = refl
 
 mark-back : (b : Bool) → eqb (mark_of b) 1 ≡ b
 mark-back true = refl
@@ -92,9 +92,9 @@ date-mark-fits None = omega arith
 date-mark-fits (Some d) = omega arith
 
 source_fits : (s : Source) → source_number s < 256
-source_fits None = omega arith
-source_fits (Some Unmodelled.Sel0) = omega arith
-source_fits (Some Unmodelled.Sel2) = omega arith
+source_fits Source.None = omega arith
+source_fits Source.Sel0 = omega arith
+source_fits Source.Sel2 = omega arith
 
 instant-fits : (n : ℕ) (d : Date) → n < 256 ^ 8 → NoLater n d → instant_of d < 256 ^ 8
 unfolding instant_of

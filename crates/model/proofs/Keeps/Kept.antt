@@ -1,5 +1,6 @@
 -- What settling leaves alone: the map and the control but for the line and the level; no byte written is lost, and from the
 -- bytes in flight, the host bytes and their runs it takes only from the front. Assumes nothing.
+use Rattle.model.specs.declared.Source.{Source}
 use Rattle.std.specs.Prelude.{◌≡◌, refl, ℕ, ◌+◌, ◌≤◌, false, List, [], ◌∷◌, ◌++◌, length, drop, None}
 use Rattle.std.proofs.Common.{sym, ap, ◌∙◌, arith, le_refl, append_assoc, length-append}
 use Rattle.std.proofs.lemmas.List.{length-map}
@@ -61,7 +62,7 @@ module _ {H W : Type 0} {u v : Uart H W} (k : Kept u v) where
 -- the control without the line and the level
 abbrev unmoved : Control → Control
 unmoved c =
-    with_level false (with_line (record { int_raw = 0; rx_mistimed = None; idle_since = None; line_free_at = 0 }) c)
+    with_level false (with_line (record { int_raw = 0; rx_mistimed = Source.None; idle_since = None; line_free_at = 0 }) c)
 
 abbrev Still : {H W : Type 0} → Uart H W → Uart H W → Type 0
 Still u v =

@@ -1,4 +1,5 @@
 -- What the passes of a settling leave alone, and what the whole settling does. Assumes nothing.
+use Rattle.model.specs.declared.Source.{Source}
 use Rattle.std.specs.Prelude.{◌≡◌, refl, ℕ, false, [], None}
 use Rattle.std.proofs.Math.Path.{ap}
 use Rattle.std.proofs.Common.{◌∙◌}
@@ -13,7 +14,7 @@ use Rattle.model.specs.declared.Line.{Line}
 use Rattle.model.specs.declared.Settings.{Settings}
 
 abbrev pub no_line : Line
-no_line = record { int_raw = 0; rx_mistimed = None; idle_since = None; line_free_at = 0 }
+no_line = record { int_raw = 0; rx_mistimed = Source.None; idle_since = None; line_free_at = 0 }
 
 module _ {H W : Type 0} where
   -- the state without what a pass or the levels may change

@@ -25,8 +25,7 @@ use Rattle.model.proofs.Refuses.Conditions.{carried_out}
 use Rattle.model.proofs.Rows.Notices.{made-few}
 use Rattle.model.proofs.Laws.Choose.{choose-ind}
 use Rattle.model.proofs.Laws.AccessCases.{write-ind, write_register-ind}
-use Rattle.model.specs.Names.{Source}
-use Rattle.model.specs.declared.Unmodelled.{Unmodelled}
+use Rattle.model.specs.declared.Source.{Source}
 use Rattle.model.specs.declared.Unsupported.{Unsupported}
 use Rattle.model.specs.declared.Report.{Report}
 
@@ -53,9 +52,9 @@ note-le false n ns le = omega arith
 
 source-le : (notice : ℕ → Unsupported) (s : Source) → length (source_notes notice s) ≤ 1
 unfolding source_notes
-source-le notice None = omega arith
-source-le notice (Some Unmodelled.Sel0) = omega arith
-source-le notice (Some Unmodelled.Sel2) = omega arith
+source-le notice Source.None = omega arith
+source-le notice Source.Sel0 = omega arith
+source-le notice Source.Sel2 = omega arith
 
 conf0-le : (v : ℕ) → length (conf0_notes v) ≤ 8
 unfolding conf0_notes

@@ -20,8 +20,8 @@ use Rattle.model.proofs.Laws.AccessCases.{unless-ind}
 use Rattle.model.proofs.Keeps.Rest.{settle_to-words}
 use Rattle.model.specs.declared.Notice.{Notice}
 use Rattle.model.specs.declared.Refusal.{Refusal}
-use Rattle.model.specs.Names.{Row, Source, Write}
-use Rattle.model.specs.declared.Unmodelled.{Unmodelled}
+use Rattle.model.specs.Names.{Row, Write}
+use Rattle.model.specs.declared.Source.{Source}
 use Rattle.model.specs.declared.Unsupported.{Unsupported}
 use Rattle.model.specs.declared.Unsupported.TheVariants.{UartOverflow, UartClock}
 use Rattle.model.specs.declared.Words.{Words}
@@ -34,15 +34,15 @@ data Told (sel : ℕ) : Unsupported → Type 0 where
   clock : Told sel (UartClock sel)
 
 sel_of : Source → ℕ
-sel_of None = 0
-sel_of (Some Unmodelled.Sel0) = 0
-sel_of (Some Unmodelled.Sel2) = 2
+sel_of Source.None = 0
+sel_of Source.Sel0 = 0
+sel_of Source.Sel2 = 2
 
 source_told : (s : Source) → All (Told (sel_of s)) (source_notes UartClock s)
 unfolding source_notes sel_of
-source_told None = nil
-source_told (Some Unmodelled.Sel0) = cons Told.clock nil
-source_told (Some Unmodelled.Sel2) = cons Told.clock nil
+source_told Source.None = nil
+source_told Source.Sel0 = cons Told.clock nil
+source_told Source.Sel2 = cons Told.clock nil
 
 -- the notices of a report are those that it was made of
 notes-front : (ns : List Unsupported) (r : List Notice)

@@ -1,5 +1,6 @@
 -- Corners of document 01 that the other laws do not say of `step`: what a reset drops and what it keeps, which calls arm nothing, what
 -- CONF0 with TXFIFO_RST leaves in flight, and a due timeout beside a byte on the line. Assumes nothing.
+use Rattle.model.specs.declared.Source.{Source}
 use Rattle.std.specs.Prelude.{◌≡◌, Bool, true, false, ◌&&◌, ◌||◌, List, [], take, None}
 use Rattle.std.proofs.Math.Path.{ap, ap₂}
 use Rattle.std.proofs.Common.{◌∙◌, arith, le-ltb}
@@ -55,7 +56,7 @@ module _ (now : ℕ) (u : Uart ℕ ℕ) (done : number_of (step (Call.at now (Da
   -- bytes in flight and received go, the idle line closes, a mistimed reception is forgotten, the words are those of reset, and
   -- power-down has ended
   pub reset-drops : let v : Uart ℕ ℕ = (step (Call.at now (Dated.machine Machine.reset)) u).state in
-      (v.in_flight ≡ []) × (v.rx ≡ []) × ((line_of v).idle_since ≡ None) × ((line_of v).rx_mistimed ≡ None)
+      (v.in_flight ≡ []) × (v.rx ≡ []) × ((line_of v).idle_since ≡ None) × ((line_of v).rx_mistimed ≡ Source.None)
       × (v.control.words ≡ u.map.reset) × (v.control.powered_down_at ≡ None)
   unfolding arm levels drive assert_levels raise_if cleared cleared_line dated
   reset-drops = (

@@ -1,5 +1,6 @@
 -- How to prove of every call that it leads from one state to a next: from what a settling does, what raising levels does, and
 -- what holds of changes elsewhere. Assumes nothing.
+use Rattle.model.specs.declared.Source.{Source}
 use Rattle.std.specs.Prelude.{◌≡◌, Bool, take, Some, None, Ok, Err}
 use Rattle.std.proofs.Math.Path.{refl}
 use Rattle.std.proofs.Common.{ap, arith}
@@ -74,7 +75,7 @@ module _ (now : ℕ) (R : Uart ℕ ℕ → Uart ℕ ℕ → Type 0) (k : Walk (s
 
   walk-looking : (b : Bool) (p : Register) (u : Uart ℕ ℕ) → R u (read_looking b p u).state
   unfolding read_looking
-  walk-looking true p u = k.on u _ _ (k.alike u (with_line_of (with_mistimed None (line_of u)) u) refl) (walk-register _ p _)
+  walk-looking true p u = k.on u _ _ (k.alike u (with_line_of (with_mistimed Source.None (line_of u)) u) refl) (walk-register _ p _)
   walk-looking false p u = walk-register [] p u
 
   walk-read : (p : Register) (u : Uart ℕ ℕ) → R u (read_at p u).state

@@ -26,7 +26,7 @@ use Rattle.theorems.proofs.TwoRuns.Numbering.{host_in, written_in, other_place, 
 use Rattle.theorems.specs.TwoRuns.Numbered.{NotFifo, Shape, AskedShape}
 use Rattle.model.specs.declared.Refusal.{Refusal}
 use Rattle.model.specs.declared.Report.{Report}
-use Rattle.model.specs.Names.{Source}
+use Rattle.model.specs.declared.Source.{Source}
 use Rattle.model.specs.declared.Unsupported.{Unsupported}
 use Rattle.model.specs.declared.Unsupported.TheVariants.{UartReceiveClock}
 

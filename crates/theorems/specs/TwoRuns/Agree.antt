@@ -7,7 +7,8 @@ use Rattle.model.specs.Call.{Dated, Call, Request, host_of, Asked, Ask, Reply, r
 use Rattle.theorems.specs.TwoRuns.Alike.{fifo_bytes_of, host_byte, write_byte}
 use Rattle.model.specs.declared.Refusal.{Refusal}
 use Rattle.model.specs.declared.Report.{Report}
-use Rattle.model.specs.Names.{Row, Source, Taken}
+use Rattle.model.specs.Names.{Row, Taken}
+use Rattle.model.specs.declared.Source.{Source}
 use Rattle.model.specs.declared.Unsupported.TheVariants.{UartEmptyRead, UartReceiveClock}
 
 module _ (fifo : ℕ) (cs ds : List Ask) where

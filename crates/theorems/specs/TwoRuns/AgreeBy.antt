@@ -8,7 +8,8 @@ use Rattle.theorems.specs.TwoRuns.Alike.{host_byte, write_byte}
 use Rattle.theorems.specs.TwoRuns.Agree.{Agree}
 use Rattle.model.specs.declared.Refusal.{Refusal}
 use Rattle.model.specs.declared.Report.{Report}
-use Rattle.model.specs.Names.{Source, Taken}
+use Rattle.model.specs.Names.{Taken}
+use Rattle.model.specs.declared.Source.{Source}
 use Rattle.model.specs.declared.Unsupported.TheVariants.{UartEmptyRead, UartReceiveClock}
 
 -- what a number stands for: f and g look up a host byte and a written one of the first list, f' and g' of the second

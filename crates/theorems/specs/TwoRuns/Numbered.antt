@@ -8,7 +8,8 @@ use Rattle.model.specs.Call.{Dated, Call, Request, Asked, Ask, Reply, reads, wri
 use Rattle.theorems.specs.TwoRuns.Alike.{host_given, fifo_given}
 use Rattle.model.specs.declared.Refusal.{Refusal}
 use Rattle.model.specs.declared.Report.{Report}
-use Rattle.model.specs.Names.{Row, Source}
+use Rattle.model.specs.Names.{Row}
+use Rattle.model.specs.declared.Source.{Source}
 use Rattle.model.specs.declared.Unsupported.TheVariants.{UartEmptyRead, UartReceiveClock}
 
 -- ---- the bytes in an answer

@@ -1,5 +1,6 @@
 -- Bytes land, start and wait whatever the timeouts do: of the line's marks a landing and a start need none but the date when the
 -- line is free. Each pass takes a timeout, or does what it does with the other marks wiped. Assumes nothing.
+use Rattle.model.specs.declared.Source.{Source}
 use Rattle.std.specs.Prelude.{◌≡◌, ℕ, ltb, length, Some, None}
 use Rattle.std.proofs.Math.Path.{refl, sym, ap}
 use Rattle.std.proofs.Common.{subst, ◌∙◌}
@@ -22,7 +23,7 @@ use Rattle.model.specs.declared.Fate.{Fate}
 
 -- no bit is up, no source is noted and no idle line is open
 abbrev pub wiped : ℕ → Line
-wiped free = record { int_raw = 0; rx_mistimed = None; idle_since = None; line_free_at = free }
+wiped free = record { int_raw = 0; rx_mistimed = Source.None; idle_since = None; line_free_at = free }
 
 abbrev pub bare : {H W : Type 0} → Uart H W → Uart H W
 bare u = with_line_of (wiped (line_of u).line_free_at) u

@@ -1,5 +1,6 @@
 -- In the exception a look in between can tell: a state within the limits whose timeout one settling raises at its date, and none
 -- raises at that date after a settling as the byte on the line lands. Assumes nothing.
+use Rattle.model.specs.declared.Source.{Source}
 use Rattle.std.specs.Prelude.{◌≡◌, refl, ℕ, ◌+◌, ◌*◌, ◌^◌, false, [], ◌∷◌, Some, None}
 use Rattle.std.proofs.Common.{sym, ap, ◌∙◌, arith}
 use Rattle.std.proofs.lemmas.Bool.{false≢true}
@@ -46,7 +47,7 @@ looked = record {
       };
   control = record {
     words = words;
-    line = record { int_raw = 2; rx_mistimed = None; idle_since = Some 0; line_free_at = 896 };
+    line = record { int_raw = 2; rx_mistimed = Source.None; idle_since = Some 0; line_free_at = 896 };
     period = 8;
     last = 0;
     wake = None;
@@ -58,7 +59,7 @@ looked = record {
   tx = [];
   host = 3 ∷ [];
   host_runs = record { date = 0; count = 1 } ∷ [];
-  receiving = some (record { byte = 2; frame = record { timed_on = None; heard = false } });
+  receiving = some (record { byte = 2; frame = record { timed_on = Source.None; heard = false } });
   rx = 1 ∷ [];
 }
 

@@ -7,5 +7,8 @@ use Rattle.access.proofs.row.first_times.Goals as goal
 pub returns-in-None : goal.returns-in-None
 returns-in-None c = (times_none _ _ _ (sym c.told-told.ensures ∙ c.in-None.is)).0
 
-pub returns-in-Some : goal.returns-in-Some
-returns-in-Some c = (times-some _ _ _ _ (sym c.told-told.ensures ∙ c.in-Some.is) (λ e. apart (cc))).0
+pub returns-in-Sel0 : goal.returns-in-Sel0
+returns-in-Sel0 c = (times-some _ _ _ _ (sym c.told-told.ensures ∙ c.in-Sel0.is) (λ e. apart (cc))).0
+
+pub returns-in-Sel2 : goal.returns-in-Sel2
+returns-in-Sel2 c = (times-some _ _ _ _ (sym c.told-told.ensures ∙ c.in-Sel2.is) (λ e. apart (cc))).0
