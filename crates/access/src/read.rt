@@ -15,7 +15,6 @@ use device::Core;
 use model::Read;
 use registers::places;
 use registers::places::Place;
-use replies::refusals::Verdict;
 
 pub type ReadCore = CallCore<Read>;
 

@@ -16,10 +16,9 @@ ghost use Rattle.access.specs.RowParts.{room_of, over_of, row_core, row_work, To
 use calls::answers::CallCore;
 use calls::{answers, settle_at};
 use device::Core;
-use model::{Date, Made, Row, Source, Unsupported};
+use model::{Made, Row, Source, Unsupported};
 use registers::words;
 use replies::notices::Notices;
-use replies::refusals::Verdict;
 
 // The most bytes of a row that are written.
 const ROW_LIMIT: usize = 1152;

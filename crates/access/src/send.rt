@@ -10,7 +10,7 @@ ghost use Rattle.access.specs.Sends.{gone_after, gone_at_of, SendsAny};
 
 use crate::store::PlaceWrite;
 use device::Core;
-use model::{Date, Write};
+use model::Date;
 use queue::Cursor;
 use registers::words;
 use replies::refusals::Verdict;

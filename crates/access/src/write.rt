@@ -20,7 +20,6 @@ use device::Core;
 use model::Write;
 use registers::places;
 use registers::places::Place;
-use replies::refusals::Verdict;
 
 pub type WriteCore = CallCore<Write>;
 

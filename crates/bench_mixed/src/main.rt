@@ -14,7 +14,7 @@ ghost use Rattle.uart.specs.Whole.{Good};
 use crate::notes::Notes;
 use crate::steps::{STEPS, Step, cycle_at, step_at};
 use device::Core;
-use model::{Read, SetUp, Taken};
+use model::{Read, Taken};
 use std::io;
 use uart::Uart;
 

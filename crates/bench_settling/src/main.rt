@@ -6,7 +6,6 @@ mod show;
 ghost use Rattle.std.specs.Prelude.{◌≡◌, length};
 ghost use Rattle.uart.specs.Whole.{Good};
 
-use model::SetUp;
 use std::io;
 use uart::Uart;
 

@@ -11,7 +11,6 @@ ghost use Rattle.calls.specs.Answers.{dated_call, dated_work, Works, DoneWith};
 use crate::answers::DoneCore;
 use crate::{answers, settle_at};
 use device::{Core, settle};
-use replies::refusals::Verdict;
 use timing::clock::Clock;
 
 // The core with another period of the APB clock, in cycles; 0 counts as 1.

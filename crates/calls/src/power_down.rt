@@ -12,7 +12,6 @@ use crate::answers::DoneCore;
 use crate::{answers, settle_at};
 use device::Core;
 use model::{Control, Date};
-use replies::refusals::Verdict;
 
 fn control_down_at(control: Control, powered_down_at: Date) -> Control
     ensures { result ≡ with_powered_down_at powered_down_at control }

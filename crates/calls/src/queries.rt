@@ -7,7 +7,6 @@ ghost use Rattle.calls.specs.Answers.{undated_call};
 ghost use Rattle.calls.specs.Undated.{left_reply, pending_reply};
 
 use device::Core;
-use line::Receiving;
 
 #[repr(C)]
 #[derive(Clone, Copy)]

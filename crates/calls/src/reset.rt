@@ -11,9 +11,8 @@ ghost use Rattle.calls.specs.Answers.{dated_call, dated_work, Works, DoneWith};
 use crate::answers::DoneCore;
 use crate::{answers, power_down, settle_at};
 use device::Core;
-use model::{Date, Line, Source};
+use model::{Line, Source};
 use queue::Cursor;
-use replies::refusals::Verdict;
 
 // When the line is free stays.
 fn clear_line(line: Line) -> Line

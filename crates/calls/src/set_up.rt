@@ -5,8 +5,8 @@ ghost use Rattle.model.specs.SetUp.{words_among, fifo_counts, map_of, new_contro
 ghost use Rattle.calls.specs.NewCore.{new_core, new_parts};
 
 use device::Core;
-use line::{Receiving, marks};
-use model::{Control, Date, Line, RegisterMap, SetUp, Source, Words};
+use line::marks;
+use model::{Control, Line, RegisterMap, SetUp, Source, Words};
 use queue::Cursor;
 use timing::clock::Clock;
 

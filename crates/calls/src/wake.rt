@@ -11,7 +11,6 @@ ghost use Rattle.calls.specs.Answers.{dated_call, dated_work, Works, DoneWith};
 use crate::answers::DoneCore;
 use crate::{answers, settle_at};
 use device::Core;
-use replies::refusals::Verdict;
 
 // The core with its Deadline cleared where its date has come.
 fn called(core: Core, cycle: u64) -> Core

@@ -10,7 +10,6 @@ ghost use Rattle.calls.specs.Answers.{dated_call, DoneWith};
 use crate::answers;
 use crate::answers::DoneCore;
 use device::Core;
-use replies::refusals::Verdict;
 
 fn with_watched(mut core: Core, cycle: u64, on: bool) -> Core
     ensures { result ≡ watched_core cycle on core }

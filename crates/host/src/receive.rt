@@ -11,7 +11,7 @@ ghost use Rattle.host.specs.Receives.{Room};
 use calls::answers::DoneCore;
 use calls::{answers, settle_at};
 use device::Core;
-use replies::refusals::{Verdict, Waiting};
+use replies::refusals::Waiting;
 
 // The bytes' date: no earlier than now. In subcycles.
 fn host_date(cycle: u64, at: u64) -> u64

@@ -12,7 +12,6 @@ use crate::answers::TakeCore;
 use calls::settle_at;
 use device::Core;
 use queue::Cursor;
-use replies::refusals::Verdict;
 
 fn carry_out<'a, 'b>(
     core: Core,

@@ -13,7 +13,6 @@ use crate::answers;
 use crate::answers::TakeCore;
 use device::Core;
 use queue::Cursor;
-use replies::refusals::Verdict;
 
 // The buffer's rest, from the count of left bytes on, is lent to the second copy.
 fn fill<'a>(core: Core, flight: &'a [u8; 129], tx: &'a [u8; 1152], out: &'a mut [u8]) -> usize

@@ -7,7 +7,7 @@ ghost use Rattle.model.specs.Numbers.{choose};
 ghost use Rattle.model.specs.Setters.{with_idle_since};
 
 use crate::marks;
-use model::{Date, Fate, Frame, Line, Settings};
+use model::{Fate, Frame, Line, Settings};
 use registers::words::FIFO_BYTES;
 
 // A frame that starts now: who timed it, and whether it is heard.

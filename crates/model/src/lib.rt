@@ -166,7 +166,7 @@ pub struct Report {
     pub noted: usize,
 }
 
-// What each call answers: its own result, or why it is refused.
+// What a call answers is its own result, or why it is refused. Set-up has none of its own.
 pub type SetUp = Result<(), Refusal>;
 
 // The value at a place, or none where no word is read.

@@ -24,7 +24,7 @@ pub fn read(words: Words, place: Place) -> Read
     }
 }
 
-// Whether a place is held. A list of its own: by a reference into the words it would need words to ask of.
+// Whether a place is held. A list of its own: a function that lends the word at a place would need the words, and here are none.
 fn holds(place: Place) -> bool
     ensures { result ≡ Storage·holds (held_at place) }
 {

@@ -27,7 +27,7 @@ pub fn none() -> Notices
     }
 }
 
-// A notice more is taken and given by value: calls chain from `none()` on, and each contract is one equation of values.
+// The notices are taken and given back by value: calls chain from `none()` on, and each contract is one equation of values.
 impl Notices {
     // One more behind the others; a ninth, which no call has, would be left out.
     #[tactic(auto, unfolding(crate::specs::Notices::added, model::specs::Numbers::choose))]

@@ -7,7 +7,6 @@ ghost use Rattle.session.specs.Sessions.{stands_for, Wide, Gives};
 
 use crate::{Session, in_use};
 use answers::results::put_set_up;
-use model::SetUp;
 use trace::low::sixteen;
 use uart::Uart;
 

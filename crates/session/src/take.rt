@@ -11,7 +11,6 @@ ghost use Rattle.session.specs.HandOuts.{taken_line, written_line};
 use crate::{Session, in_use};
 use answers::refusals::put_refusal;
 use answers::results::{put_taken, put_written};
-use model::Taken;
 use text::parts::within;
 use uart::{AfterTake, Uart};
 

@@ -13,7 +13,7 @@ pub fn room(len: usize, at: usize) -> usize
     len.saturating_sub(at)
 }
 
-// Past the end there is room for no bytes.
+// Past the end `s` is empty, and nothing is copied.
 fn copy(out: &mut [u8], at: usize, s: &[u8])
     requires { length s.now ≤ length out.old - at }
     ensures { out.new ≡ stored out.old at s.now }
