@@ -1,5 +1,5 @@
 // How a program is used.
-// The same stands in replay: of what only reads arguments and writes, a function of a library could promise nothing, and each has to promise.
+// The same stands in replay: of what only reads arguments and writes a function of a library could promise nothing, and each has to.
 use std::env::{Env, FillError};
 use text::names::same;
 
