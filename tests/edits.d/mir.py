@@ -13,7 +13,7 @@ from collections import Counter
 from functools import cache
 from glob import glob
 
-SEED, TRIES, STEPS, ALL_STEPS = 20, 20_000, 20_000, 12_000_000
+SEED, TRIES, STEPS, ALL_STEPS = 20, 20_000, 20_000, 100_000_000
 UNRUN, USES = 400, 4  # tries that are not run before a function is given up, and the types at which it is tried
 KIT = ('core', 'std_io', 'std')  # the libraries of the kit whose functions are run
 
@@ -581,6 +581,9 @@ class Machine:
         if term[0] == 'rv_opd':
             return self.operand(frame, term[1])
         if term[0] == 'addr_of':
+            local, kind = term[1][1], fn.locals[term[1][1]]
+            if frame[local] is None and kind[0] == 'ty_array' and type(kind[2]) is int:  # its elements are stored one by one
+                frame[local] = Array([None] * kind[2], self.size(kind[1])[0])
             return (*self.address(frame, term[1]), 0)
         if term[0] == 'op2':
             a, b = self.operand(frame, term[2]), self.operand(frame, term[3])
