@@ -62,7 +62,7 @@ pub fn plain_date(date: Date) -> PlainDate
     ensures { result ≡ plain_date date }
 {
     match date {
-        Source::None => PlainDate { set: false, at: 0 },
+        None => PlainDate { set: false, at: 0 },
         Some(at) => PlainDate { set: true, at },
     }
 }
@@ -76,7 +76,7 @@ fn source_of(code: u32) -> Source
     if code == 3 {
         return Source::Sel2;
     }
-    None
+    Source::None
 }
 
 fn plain_source(source: Source) -> u32

@@ -17,7 +17,7 @@ pub(crate) fn date_mark(date: Date) -> u64
     ensures { result ≡ date_mark date }
 {
     match date {
-        Source::None => 0,
+        None => 0,
         Some(_) => 1,
     }
 }
@@ -37,7 +37,7 @@ pub(crate) fn source_number(source: Source) -> u64
     ensures { result ≡ source_number source }
 {
     match source {
-        None => 0,
+        Source::None => 0,
         Source::Sel0 => 1,
         Source::Sel2 => 3,
     }
