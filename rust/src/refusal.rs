@@ -32,11 +32,19 @@ impl Refusal {
         self as u8
     }
 
-    /// `Ok` of 0, done.
+    /// `Ok` of 0, done. Nearly every call answers that, so that one comparison tells it.
     #[inline]
     pub(crate) fn of(number: u32) -> Result<(), Refusal> {
-        Err(match number {
-            0 => return Ok(()),
+        if number == 0 {
+            Ok(())
+        } else {
+            Err(Refusal::numbered(number))
+        }
+    }
+
+    #[cold]
+    fn numbered(number: u32) -> Refusal {
+        match number {
             1 => Refusal::RepeatedOffset,
             2 => Refusal::DatePastEnd,
             3 => Refusal::DateWentBack,
@@ -47,7 +55,7 @@ impl Refusal {
             8 => Refusal::BufferTooShort,
             9 => Refusal::UnfitList,
             _ => unreachable!("the calls answer 0 to 9"),
-        })
+        }
     }
 }
 
