@@ -6,12 +6,15 @@ ghost use Rattle.queue.specs.Append.{stored_from};
 
 use crate::Cursor;
 
-// `n` bytes of `src`, those from `from` on, to `dst` from `at` on.
+// `n` bytes of `src`, those from `from` on, to `dst` from `at` on. Not by `copy_from_slice`: who links the exported calls would need
+// memmove for it.
 fn copy_run(dst: &mut [u8], at: usize, src: &[u8], from: usize, n: usize)
     requires { (at + n ≤ length dst.old) × (from + n ≤ length src.now) }
     ensures { dst.new ≡ paste dst.old at (drop from src.now) n }
 {
-    dst[at..at + n].copy_from_slice(&src[from..from + n]);
+    for i in 0..n {
+        dst[at + i] = src[from + i];
+    }
 }
 
 // `bytes` at the back, in order.

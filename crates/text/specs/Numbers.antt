@@ -126,6 +126,13 @@ shifted-low base limit value pos h = (le-div_iff_mul-le pos).0 h
 pub shifted-high : (base limit value d : ℕ) → 0 < base → limit / base < value → limit < value * base + d
 shifted-high base limit value d pos h = let m : limit < value * base = (div-lt_iff_lt-mul pos).0 h in omega arith
 
+-- a word of less than two bytes does not begin with `0x`
+pub prefix-short : (s : List ℕ) → length s < 2 → begins0x s ≡ false
+unfolding begins0x
+prefix-short [] h = refl
+prefix-short (a ∷ []) h = refl
+prefix-short (a ∷ b ∷ s) h = absurd (omega arith)
+
 -- a word begins with `0x` where the two bytes are its first two
 pub prefix-front : (s : List ℕ) → begins0x s ≡ pointwise eqb (take 2 s) (48 ∷ 120 ∷ [])
 unfolding begins0x

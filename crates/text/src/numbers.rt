@@ -39,6 +39,10 @@ pub fn read_number(s: &[u8], limit: u64) -> Option<u64>
     ensures value { result ≡ number_of limit s.now }
     ensures low { IfSome result (λ n. n ≤ limit) }
 {
+    // No `0x` stands in front of so short a word, and most numbers of some lines are that short.
+    if s.len() < 2 {
+        return read_digits(s, 10, limit);
+    }
     match s.strip_prefix(b"0x") {
         Some(digits) => read_digits(digits, 16, limit),
         None => read_digits(s, 10, limit),

@@ -13,13 +13,14 @@ pub fn room(len: usize, at: usize) -> usize
     len.saturating_sub(at)
 }
 
-// Past the end `s` is empty, and nothing is copied.
+// Byte by byte: most of what is put is short, and `copy_from_slice` calls the C library's copy for each.
 fn copy(out: &mut [u8], at: usize, s: &[u8])
     requires { length s.now ≤ length out.old - at }
     ensures { out.new ≡ stored out.old at s.now }
 {
-    let from = at.min(out.len());
-    out[from..from + s.len()].copy_from_slice(s);
+    for (i, b) in s.iter().enumerate() {
+        out[at + i] = *b;
+    }
 }
 
 // Puts the bytes of `s` and gives the place after them.

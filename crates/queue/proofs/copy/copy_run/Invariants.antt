@@ -1,0 +1,8 @@
+-- What the loop of `copy::copy_run` keeps: the bytes so far are copied.
+use mathlib.Core.Path.{◌≡◌}
+use lib.ListN.{drop}
+use lib.Seq.{paste}
+use Rattle.queue.proofs.copy.copy_run.Given as goal
+
+abbrev pub invariant-loop-i : goal.invariant-loop-i
+invariant-loop-i l = l.dst ≡ paste l.initial.dst l.at (drop l.from l.src) l.i
